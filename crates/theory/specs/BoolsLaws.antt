@@ -1,0 +1,93 @@
+-- Laws of the connectives: how a test is shown (`-in`) and used (`-out`).
+use mathlib.Core.Path.{_≡_, refl, sym, _∙_}
+use mathlib.Core.Logic.{_⊎_, inl, inr}
+use mathlib.Core.Bool.{Bool, true, false, not, So, true≢false, false≢true}
+use Prim.Native.Nat.{ℕ, _≤_, _<_, zero-le}
+use native.Mathlib.Nat.{le-refl}
+use Rattle.theory.specs.Bools.{_&_, _or_, imp, bit}
+
+pub decide : (b : Bool) → So b ⊎ (b ≡ false)
+decide true = inl refl
+decide false = inr refl
+
+-- a test that holds and fails
+pub clash {ℓ} : {A : Type ℓ} {b : Bool} → So b → b ≡ false → A
+clash t f = absurd (true≢false (sym t ∙ f))
+
+-- two tests that imply each other are equal
+pub So-ext : {a b : Bool} → (So a → So b) → (So b → So a) → a ≡ b
+So-ext {a = true} {b = true} f g = refl
+So-ext {a = true} {b = false} f g = sym (f refl)
+So-ext {a = false} {b = true} f g = g refl
+So-ext {a = false} {b = false} f g = refl
+
+-- a test that cannot hold fails
+pub So-not : {b : Bool} → (So b → ⊥) → b ≡ false
+So-not {b = true} f = absurd (f refl)
+So-not {b = false} f = refl
+
+pub not-in : {b : Bool} → b ≡ false → So (not b)
+not-in {b = true} e = absurd (true≢false e)
+not-in {b = false} e = refl
+
+pub not-out : {b : Bool} → So (not b) → b ≡ false
+not-out {b = true} e = absurd (false≢true e)
+not-out {b = false} e = refl
+
+pub and-in : {a b : Bool} → So a → So b → So (a & b)
+unfolding _&_
+and-in {a = true} {b} p q = q
+and-in {a = false} {b} p q = p
+
+pub and-out : {a b : Bool} → So (a & b) → So a × So b
+unfolding _&_
+and-out {a = true} {b} p = (refl, p)
+and-out {a = false} {b} p = absurd (false≢true p)
+
+pub and-fails : (a b : Bool) → b ≡ false → a & b ≡ false
+unfolding _&_
+and-fails true b e = e
+and-fails false b e = refl
+
+pub imp-in : {a b : Bool} → (So a → So b) → So (imp a b)
+unfolding imp
+imp-in {a = true} {b} f = f refl
+imp-in {a = false} {b} f = refl
+
+pub imp-out : {a b : Bool} → So (imp a b) → So a → So b
+unfolding imp
+imp-out {a = true} {b} h p = h
+imp-out {a = false} {b} h p = absurd (false≢true p)
+
+pub imp-fails : (a b : Bool) → imp a b ≡ false → So a × (b ≡ false)
+unfolding imp
+imp-fails true b e = (refl, e)
+imp-fails false b e = absurd (true≢false e)
+
+pub or-left : {a : Bool} (b : Bool) → So a → So (a or b)
+unfolding _or_
+or-left {a = true} b p = refl
+or-left {a = false} b p = absurd (false≢true p)
+
+pub or-right : (a : Bool) {b : Bool} → So b → So (a or b)
+unfolding _or_
+or-right true {b} p = refl
+or-right false {b} p = p
+
+pub or-out : {a b : Bool} → So (a or b) → So a ⊎ So b
+unfolding _or_
+or-out {a = true} {b} p = inl refl
+or-out {a = false} {b} p = inr p
+
+pub bit-mono : (a b : Bool) → (So a → So b) → bit a ≤ bit b
+unfolding bit
+bit-mono true true f = le-refl 1
+bit-mono true false f = absurd (false≢true (f refl))
+bit-mono false true f = zero-le
+bit-mono false false f = zero-le
+
+pub bit-less : (a b : Bool) → a ≡ false → So b → bit a < bit b
+unfolding bit
+bit-less true b e f = absurd (true≢false e)
+bit-less false true e f = le-refl 1
+bit-less false false e f = absurd (false≢true f)

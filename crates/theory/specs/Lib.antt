@@ -1,0 +1,13 @@
+pub mod Bools
+pub mod BoolsLaws
+pub mod Range
+pub mod RangeLaws
+pub mod CountLaws
+pub mod ListLaws
+pub mod Passes
+pub mod Game
+pub mod Simulation
+pub mod Order
+pub mod Plan
+pub mod Reduction
+pub mod Examples

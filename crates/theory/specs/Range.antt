@@ -1,0 +1,40 @@
+-- Bounded "each", "some", "the first", "how many" and "the c-th", and the list of a function's values.
+use mathlib.Core.Bool.{Bool, true, false, cond}
+use mathlib.Core.List.{List, [], _∷_}
+use Prim.Native.Nat.{ℕ, zero, suc, _+_, _-_}
+use lib.Dec.{ltb}
+use Rattle.theory.specs.Bools.{_&_, _or_, bit}
+
+-- each number below n passes
+unfoldable pub allBelow : ℕ → (ℕ → Bool) → Bool
+allBelow zero p = true
+allBelow (suc n) p = allBelow n p & p n
+
+-- some number below n passes
+unfoldable pub anyBelow : ℕ → (ℕ → Bool) → Bool
+anyBelow zero p = false
+anyBelow (suc n) p = anyBelow n p or p n
+
+-- the first of k, k + 1, .. that passes, with f numbers to look at. The `let` stops the search at the first.
+unfoldable pub firstOf : (ℕ → Bool) → ℕ → ℕ → ℕ
+firstOf p zero k = k
+firstOf p (suc f) k = let r = firstOf p f (suc k) in cond (p k) k r
+
+-- the first number from a on, below e, that passes; e where there is none
+unfoldable pub first : (ℕ → Bool) → ℕ → ℕ → ℕ
+first p a e = firstOf p (e - a) a
+
+-- how many numbers below n pass
+unfoldable pub count : ℕ → (ℕ → Bool) → ℕ
+count zero p = zero
+count (suc n) p = count n p + bit (p n)
+
+-- the c-th number below n that passes, counted from 0
+unfoldable pub nth : ℕ → (ℕ → Bool) → ℕ → ℕ
+nth zero p c = zero
+nth (suc n) p c = let r = nth n p c in cond (ltb c (count n p)) r n
+
+-- the list f 0, .., f (n - 1)
+unfoldable pub tabulate : {A : Type 0} → ℕ → (ℕ → A) → List A
+tabulate zero f = []
+tabulate (suc n) f = f zero ∷ tabulate n (λ i. f (suc i))

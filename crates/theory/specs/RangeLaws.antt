@@ -1,0 +1,135 @@
+-- Laws of bounded "each", "some" and "the first".
+use mathlib.Core.Path.{_≡_, refl, sym, subst}
+use mathlib.Core.Logic.{_⊎_, inl, inr}
+use mathlib.Core.Bool.{Bool, true, false, So, cond, false≢true}
+use Prim.Native.Nat.{ℕ, zero, suc, _+_, _-_, _≤_, _<_}
+use native.Mathlib.Nat.{le-of-suc-le-suc, not-suc-le-zero}
+use native.Mathlib.Decide.{decLt}
+use native.Mathlib.Numerals.{add-one}
+use native.Mathlib.Omega.{arith}
+use Rattle.theory.specs.Bools.{_&_, _or_}
+use Rattle.theory.specs.BoolsLaws.{decide, clash, and-in, and-out, or-left, or-right, or-out}
+use Rattle.theory.specs.Range.{allBelow, anyBelow, firstOf, first}
+
+-- ---- below a bound
+
+at-most : (i n : ℕ) → i ≤ n → ¬ (i < n) → i ≡ n
+at-most i n k m = omega arith
+
+-- what holds below n, and of n, holds below suc n
+pub below-suc {ℓ} : (P : ℕ → Type ℓ) {n : ℕ} → ((i : ℕ) → i < n → P i) → P n → (i : ℕ) → i < suc n → P i
+below-suc P {n} f x i h = go (le-of-suc-le-suc h)
+  where
+    go : i ≤ n → P i
+    go k = elim (decLt i n) [ yes l ↦ f i l | no m ↦ subst P (sym (at-most i n k m)) x ]
+
+-- ---- each
+
+pub all-in : (n : ℕ) (p : ℕ → Bool) → ((i : ℕ) → i < n → So (p i)) → So (allBelow n p)
+unfolding allBelow
+all-in zero p f = refl
+all-in (suc n) p f = and-in (all-in n p (λ i h. f i (omega arith))) (f n (omega arith))
+
+all-at : (n : ℕ) (p : ℕ → Bool) → So (allBelow n p) → (i : ℕ) → i < n → So (p i)
+unfolding allBelow
+all-at zero p a i h = absurd (not-suc-le-zero h)
+all-at (suc n) p a i h = below-suc (λ (j : ℕ). So (p j)) (λ j l. all-at n p (and-out a .0) j l) (and-out a .1) i h
+
+-- a record, so that a use of `all-out` finds n and p by itself
+pub record Each (n : ℕ) (p : ℕ → Bool) : Type 0 where
+  pub at : (i : ℕ) → i < n → So (p i)
+
+pub all-out : {n : ℕ} {p : ℕ → Bool} → So (allBelow n p) → Each n p
+all-out {n} {p} a = record { at = all-at n p a }
+
+-- what is not true of each is false of one
+pub all-fails : (n : ℕ) (p : ℕ → Bool) → allBelow n p ≡ false → (i : ℕ) × (i < n) × (p i ≡ false)
+unfolding allBelow _&_
+all-fails zero p e = absurd (false≢true (sym e))
+all-fails (suc n) p e = go (decide (allBelow n p)) (all-fails n p)
+  where
+    go : So (allBelow n p) ⊎ (allBelow n p ≡ false) → (allBelow n p ≡ false → (i : ℕ) × (i < n) × (p i ≡ false))
+        → (i : ℕ) × (i < suc n) × (p i ≡ false)
+    go (inl a) ih = (n, omega arith, subst (λ (b : Bool). b & p n ≡ false) a e)
+    go (inr a) ih = let x = ih a in (x .0, omega arith, x .2)
+
+-- ---- some
+
+pub any-in : (n : ℕ) (p : ℕ → Bool) (i : ℕ) → i < n → So (p i) → So (anyBelow n p)
+unfolding anyBelow
+any-in zero p i h t = absurd (not-suc-le-zero h)
+any-in (suc n) p i h t =
+    below-suc (λ (j : ℕ). So (p j) → So (anyBelow n p or p n)) (λ j l u. or-left (p n) (any-in n p j l u)) (or-right (anyBelow n p)) i h t
+
+pub any-out : {n : ℕ} {p : ℕ → Bool} → So (anyBelow n p) → (i : ℕ) × (i < n) × So (p i)
+unfolding anyBelow
+any-out {n = zero} {p} a = absurd (false≢true a)
+any-out {n = suc n} {p} a =
+    elim (or-out a) [ inl b ↦ (let r = any-out {n = n} {p = p} b in (r .0, omega arith, r .2)) | inr c ↦ (n, omega arith, c) ]
+
+pub any-fails : (n : ℕ) (p : ℕ → Bool) → anyBelow n p ≡ false → (i : ℕ) → i < n → p i ≡ false
+any-fails n p e i h = elim (decide (p i)) [ inl t ↦ clash (any-in n p i h t) e | inr f ↦ f ]
+
+-- ---- the first: one step of a search, its end, and what it finds
+
+module _ (p : ℕ → Bool) where
+  pub first-step : (k e : ℕ) → k < e → p k ≡ false → first p k e ≡ first p (k + 1) e
+  unfolding first firstOf
+  first-step k e l h =
+      let q : e - k ≡ suc (e - (k + 1)) = omega arith in
+      rw (q, h, add-one k)
+
+  pub first-hit : (k e : ℕ) → k < e → So (p k) → first p k e ≡ k
+  unfolding first firstOf
+  first-hit k e l h =
+      let q : e - k ≡ suc (e - (k + 1)) = omega arith in
+      rw (q, h)
+
+  pub first-end : (k e : ℕ) → e ≤ k → first p k e ≡ k
+  unfolding first firstOf
+  first-end k e l =
+      let q : e - k ≡ 0 = omega arith in
+      rw q
+
+  -- what a search with f numbers to look at finds
+  record Found (f k r : ℕ) : Type 0 where
+    from : k ≤ r
+    within : r ≤ k + f
+    before : (j : ℕ) → k ≤ j → j < r → p j ≡ false
+    passes : r < k + f → So (p r)
+
+  found : (f k : ℕ) → Found f k (firstOf p f k)
+  unfolding firstOf
+  found zero k = record { from = omega arith; within = omega arith; before = λ j a b. absurd (omega arith); passes = λ h. absurd (omega arith) }
+  found (suc f) k = go (p k) refl (found f (suc k))
+    where
+      go : (b : Bool) {r : ℕ} → p k ≡ b → Found f (suc k) r → Found (suc f) k (cond b k r)
+      go true e ih = record { from = omega arith; within = omega arith; before = λ j a b. absurd (omega arith); passes = λ h. e }
+      go false {r} e ih = record {
+        from = omega (arith, ih .from);
+        within = omega (arith, ih .within);
+        before = λ j a b. elim (decLt k j) [ yes l ↦ ih .before j l b | no m ↦ rw (at-most′ j k a m) e ];
+        passes = λ h. ih .passes (omega arith);
+      }
+        where
+          at-most′ : (j k : ℕ) → k ≤ j → ¬ (k < j) → j ≡ k
+          at-most′ j k a m = omega arith
+
+  pub first-ge : (a e : ℕ) → a ≤ first p a e
+  unfolding first
+  first-ge a e = found (e - a) a .from
+
+  pub first-le : (a e : ℕ) → a ≤ e → first p a e ≤ e
+  unfolding first
+  first-le a e h = omega (arith, found (e - a) a .within)
+
+  pub first-before : (a e j : ℕ) → a ≤ j → j < first p a e → p j ≡ false
+  unfolding first
+  first-before a e j = found (e - a) a .before j
+
+  pub first-passes : (a e : ℕ) → a ≤ e → first p a e < e → So (p (first p a e))
+  unfolding first
+  first-passes a e h l = found (e - a) a .passes (omega arith)
+
+  pub first-least : (a e i : ℕ) → a ≤ i → So (p i) → first p a e ≤ i
+  first-least a e i h t = elim (decLt i (first p a e)) [ yes l ↦ clash t (first-before a e i h l) | no m ↦ omega arith ]
