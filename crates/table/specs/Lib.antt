@@ -1,0 +1,4 @@
+pub mod Table
+pub mod Verdict
+pub mod Reading
+pub mod WellFormed

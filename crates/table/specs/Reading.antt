@@ -1,0 +1,54 @@
+-- The reader's table of refusals, 1 to 8.
+use mathlib.Core.Bool.{Bool, not}
+use mathlib.Core.List.{List, [], _∷_}
+use Prim.Native.Nat.{ℕ, _+_, _*_}
+use lib.Dec.{eqb, ltb, leb}
+use lib.ListN.{length, getD}
+use Rattle.theory.specs.Bools.{_&_, _or_}
+use Rattle.theory.specs.Range.{anyBelow, first}
+use Rattle.table.specs.Table.{vertexCount, tableEdges, sourceAt, targetAt, tableLength, isEdge}
+use Rattle.table.specs.Verdict.{Row, Answer, judge}
+
+-- edge j equals an earlier one
+unfoldable pub repeatsEarlier : List ℕ → ℕ → Bool
+repeatsEarlier g j = anyBelow j (isEdge g (sourceAt g j) (targetAt g j))
+
+-- vertex v has no edge out
+unfoldable pub lacksEdge : List ℕ → ℕ → Bool
+lacksEdge g v = not (anyBelow (tableEdges g) (λ j. eqb (sourceAt g j) v))
+
+-- 5: an owner above 1, its first word
+unfoldable pub firstOwner : List ℕ → ℕ
+firstOwner g = first (λ k. ltb 1 (getD g k 0)) (2 + vertexCount g) (2 + 2 * vertexCount g)
+
+-- 6: an edge end not below n, its first word
+unfoldable pub firstEnd : List ℕ → ℕ
+firstEnd g = first (λ k. leb (vertexCount g) (getD g k 0)) (2 + 2 * vertexCount g) (tableLength (vertexCount g) (tableEdges g))
+
+-- 7: the first edge equal to an earlier one
+unfoldable pub firstRepeat : List ℕ → ℕ
+firstRepeat g = first (repeatsEarlier g) 0 (tableEdges g)
+
+-- 8: the lowest vertex without an edge out
+unfoldable pub firstLacking : List ℕ → ℕ
+firstLacking g = first (lacksEdge g) 0 (vertexCount g)
+
+abbrev pub row : ℕ → Bool → ℕ → Row
+row k condition place = record { number = k; condition = condition; place = place }
+
+-- document 01's table, row by row: number, condition, place
+unfoldable pub gameRows : List ℕ → List Row
+gameRows g =
+    row 1 (ltb (length g) 2) (length g)
+    ∷ row 2 (eqb (vertexCount g) 0 or ltb 256 (vertexCount g)) 0
+    ∷ row 3 (ltb 4096 (tableEdges g)) 1
+    ∷ row 4 (not (eqb (length g) (tableLength (vertexCount g) (tableEdges g)))) (length g)
+    ∷ row 5 (ltb (firstOwner g) (2 + 2 * vertexCount g)) (firstOwner g)
+    ∷ row 6 (ltb (firstEnd g) (tableLength (vertexCount g) (tableEdges g))) (firstEnd g)
+    ∷ row 7 (ltb (firstRepeat g) (tableEdges g)) (2 + 2 * vertexCount g + firstRepeat g)
+    ∷ row 8 (ltb (firstLacking g) (vertexCount g)) (firstLacking g)
+    ∷ []
+
+-- the reader's answer: accepted with n and m
+unfoldable pub readAnswer : List ℕ → Answer
+readAnswer g = judge (gameRows g) (vertexCount g ∷ tableEdges g ∷ [])

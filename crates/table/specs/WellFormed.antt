@@ -1,0 +1,19 @@
+-- What a table that the reader accepts is like. Every layer above starts from this.
+use mathlib.Core.Path.{_≡_}
+use mathlib.Core.List.{List}
+use Prim.Native.Nat.{ℕ, _≤_, _<_}
+use lib.ListN.{length}
+use Rattle.table.specs.Table.{vertexCount, tableEdges, ownerAt, sourceAt, targetAt, tableLength}
+
+pub record WellFormed (g : List ℕ) : Type 0 where
+  pub some : 0 < vertexCount g
+  pub vertices : vertexCount g ≤ 256
+  pub edges : tableEdges g ≤ 4096
+  pub size : length g ≡ tableLength (vertexCount g) (tableEdges g)
+  pub owners : (v : ℕ) → v < vertexCount g → ownerAt g v ≤ 1
+  pub sources : (j : ℕ) → j < tableEdges g → sourceAt g j < vertexCount g
+  pub targets : (j : ℕ) → j < tableEdges g → targetAt g j < vertexCount g
+  -- no edge is listed twice
+  pub distinct : (i j : ℕ) → i < j → j < tableEdges g → sourceAt g i ≡ sourceAt g j → targetAt g i ≡ targetAt g j → ⊥
+  -- every vertex has an edge out
+  pub total : (v : ℕ) → v < vertexCount g → (j : ℕ) × (j < tableEdges g) × (sourceAt g j ≡ v)

@@ -1,0 +1,1 @@
+pub fn nothing(x: u32) -> u32 { x }
