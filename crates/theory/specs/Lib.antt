@@ -5,9 +5,13 @@ pub mod RangeLaws
 pub mod CountLaws
 pub mod ListLaws
 pub mod Passes
+pub mod PassesLaws
 pub mod Game
+pub mod GameLaws
 pub mod Simulation
+pub mod SimulationLaws
 pub mod Order
+pub mod OrderLaws
 pub mod Plan
 pub mod Reduction
 pub mod Examples

@@ -1,0 +1,125 @@
+-- The order is document 004's: marked exactly when some direct simulation holds the pair. It is itself one, reflexive and transitive.
+use mathlib.Core.Path.{_≡_, refl, sym}
+use mathlib.Core.Bool.{Bool, true, false, So}
+use Prim.Native.Nat.{ℕ, suc, _+_, _*_, _≤_, _<_}
+use borrow.Author.Tests.{eqb-true, eq-eqb}
+use Rattle.theory.specs.BoolsLaws.{So-ext, and-in, and-out, imp-in, imp-out}
+use Rattle.theory.specs.RangeLaws.{all-in, all-out, any-in, any-out}
+use Rattle.theory.specs.Passes.{Rel, relOf}
+use Rattle.theory.specs.PassesLaws.{largest, largest-start, largest-fixed, largest-contains, passes-le}
+use Rattle.theory.specs.Game.{Player, even, odd, other, Game, own, Next, Succ}
+use Rattle.theory.specs.Simulation.{Moves, Passes, Simulation, DirectSimulation, Below}
+use Rattle.theory.specs.SimulationLaws.{moves-mono, below-dual, below-refl, below-trans}
+use Rattle.theory.specs.Order.{allNext, anyNext, moves, equalPriority, test, marksBetween, below, orderMarks, order, orderPasses}
+
+-- ---- the computed test is the test
+
+module _ (g : Game) (v : ℕ) (p : ℕ → Bool) where
+  pub allNext-in : ((x : ℕ) → Succ g v x → So (p x)) → So (allNext g v p)
+  unfolding allNext
+  allNext-in f = all-in (g .n) _ (λ x h. imp-in (λ e. f x (record { inside = h; along = e })))
+
+  pub allNext-out : So (allNext g v p) → (x : ℕ) → Succ g v x → So (p x)
+  unfolding allNext
+  allNext-out t x s = imp-out (all-out t .at x (s .inside)) (s .along)
+
+  pub anyNext-in : (x : ℕ) → Succ g v x → So (p x) → So (anyNext g v p)
+  unfolding anyNext
+  anyNext-in x s t = any-in (g .n) _ x (s .inside) (and-in (s .along) t)
+
+  pub anyNext-out : So (anyNext g v p) → (x : ℕ) × Succ g v x × So (p x)
+  unfolding anyNext
+  anyNext-out t = let r = any-out t in let s = and-out (r .2) in (r .0, record { inside = r .1; along = s .0 }, s .1)
+
+-- a relation of Bools as one of types
+abbrev pub Holds : Rel → ℕ → ℕ → Type 0
+Holds H v w = So (H v w)
+
+pub moves-in : (ov ow : Bool) (g h : Game) (H : Rel) (v w : ℕ) → Moves ov ow (Succ g v) (Succ h w) (Holds H) → So (moves ov ow g h H v w)
+unfolding moves Moves
+moves-in true true g h H v w m = allNext-in g v _ (λ v′ s. let r = m v′ s in anyNext-in h w _ (r .0) (r .1) (r .2))
+moves-in true false g h H v w m = allNext-in g v _ (λ v′ s. allNext-in h w _ (λ w′ t. m v′ w′ s t))
+moves-in false true g h H v w m = anyNext-in g v _ (m .0) (m .2) (anyNext-in h w _ (m .1) (m .3) (m .4))
+moves-in false false g h H v w m = allNext-in h w _ (λ w′ t. let r = m w′ t in anyNext-in g v _ (r .0) (r .1) (r .2))
+
+pub moves-out : (ov ow : Bool) (g h : Game) (H : Rel) (v w : ℕ) → So (moves ov ow g h H v w) → Moves ov ow (Succ g v) (Succ h w) (Holds H)
+unfolding moves Moves
+moves-out true true g h H v w t = λ v′ s. anyNext-out h w _ (allNext-out g v _ t v′ s)
+moves-out true false g h H v w t = λ v′ w′ s u. allNext-out h w _ (allNext-out g v _ t v′ s) w′ u
+moves-out false true g h H v w t = let r = anyNext-out g v _ t in let q = anyNext-out h w _ (r .2) in (r .0, q .0, r .1, q .1, q .2)
+moves-out false false g h H v w t = λ w′ u. anyNext-out g v _ (allNext-out h w _ t w′ u)
+
+module _ (a : Player) (g h : Game) where
+  -- a Bool-valued relation passes at (v, w), computed and in types
+  pub passes-in : (H : Rel) (v w : ℕ) → Passes a g h (Holds H) v w → So (equalPriority g h v w) × So (test a g h H v w)
+  unfolding equalPriority test
+  passes-in H v w p = (eq-eqb _ _ (p .equal), moves-in _ _ g h H v w (p .moves))
+
+  pub passes-out : (H : Rel) (v w : ℕ) → So (equalPriority g h v w) → So (test a g h H v w) → Passes a g h (Holds H) v w
+  unfolding equalPriority test
+  passes-out H v w e t = record { equal = eqb-true _ _ e; moves = moves-out _ _ g h H v w t }
+
+  -- ---- the order between two games, for a player
+
+  below-is : below a g h ≡ largest (g .n) (h .n) (test a g h) (equalPriority g h)
+  unfolding below marksBetween largest
+  below-is = refl
+
+  -- the marks are a simulation
+  pub below-simulation : Simulation a g h (Holds (below a g h))
+  unfolding below marksBetween largest
+  below-simulation v w hv hw t =
+      passes-out (below a g h) v w
+      (largest-start (g .n) (h .n) (test a g h) (equalPriority g h) v w hv hw t)
+      (largest-fixed (g .n) (h .n) (test a g h) (equalPriority g h) v w hv hw t)
+
+  -- they hold every simulation
+  pub below-largest : (H : ℕ → ℕ → Type 0) → Simulation a g h H → (v w : ℕ) → v < g .n → w < h .n → H v w → So (below a g h v w)
+  unfolding below marksBetween largest equalPriority test
+  below-largest H sim =
+      largest-contains (g .n) (h .n) (test a g h) (equalPriority g h) H
+      (λ v w hv hw r. eq-eqb _ _ (sim v w hv hw r .equal))
+      (λ m c v w hv hw r.
+      moves-in _ _ g h m v w
+      (moves-mono (own g a v) (own h a w) (Succ g v) (Succ h w) H (Holds m) (λ x y s t q. c x y (s .inside) (t .inside) q) (sim v w hv hw r .moves)))
+
+-- so: marked exactly when some simulation holds the pair
+pub below-in : {a : Player} {g h : Game} {v w : ℕ} → v < g .n → w < h .n → Below a g h v w → So (below a g h v w)
+below-in {a} {g} {h} {v} {w} hv hw b = below-largest a g h (b .relation) (b .simulation) v w hv hw (b .holds)
+
+pub below-out : {a : Player} {g h : Game} {v w : ℕ} → So (below a g h v w) → Below a g h v w
+below-out {a} {g} {h} t = record { relation = Holds (below a g h); simulation = below-simulation a g h; holds = t }
+
+-- ---- the order of one game
+
+pub order-is : (g : Game) → order g ≡ below even g g
+unfolding order orderMarks below
+order-is g = refl
+
+module _ (g : Game) where
+  pub order-in : {v w : ℕ} → v < g .n → w < g .n → Below even g g v w → So (order g v w)
+  unfolding order orderMarks below
+  order-in hv hw b = below-in hv hw b
+
+  pub order-out : {v w : ℕ} → So (order g v w) → Below even g g v w
+  unfolding order orderMarks below
+  order-out t = below-out t
+
+  pub order-simulation : DirectSimulation g g (Holds (order g))
+  unfolding order orderMarks below
+  order-simulation = below-simulation even g g
+
+  pub order-largest : (H : ℕ → ℕ → Type 0) → DirectSimulation g g H → (v w : ℕ) → v < g .n → w < g .n → H v w → So (order g v w)
+  unfolding order orderMarks below
+  order-largest = below-largest even g g
+
+  pub order-refl : (v : ℕ) → v < g .n → So (order g v v)
+  order-refl v h = order-in h h (below-refl even g v)
+
+  pub order-trans : (v u w : ℕ) → v < g .n → u < g .n → w < g .n → So (order g v u) → So (order g u w) → So (order g v w)
+  order-trans v u w hv hu hw p q = order-in hv hw (below-trans even hu (order-out p) (order-out q))
+
+  -- at most n × n - n + 1 passes
+  pub orderPasses-le : orderPasses g + g .n ≤ suc (g .n * g .n)
+  unfolding orderPasses order orderMarks marksBetween
+  orderPasses-le = passes-le (g .n) (test even g g) (equalPriority g g) (unfold largest in order-refl)
