@@ -13,5 +13,8 @@ pub mod SimulationLaws
 pub mod Order
 pub mod OrderLaws
 pub mod Plan
+pub mod PlanLaws
+pub mod Transfer
+pub mod TransferLaws
 pub mod Reduction
 pub mod Examples

@@ -1,7 +1,7 @@
--- Bounded "each", "some", "the first", "how many" and "the c-th", and the list of a function's values.
+-- Bounded "each", "some", "the first", "how many" and "the c-th"; the list of a function's values, and of a relation's pairs.
 use mathlib.Core.Bool.{Bool, true, false, cond}
-use mathlib.Core.List.{List, [], _∷_}
-use Prim.Native.Nat.{ℕ, zero, suc, _+_, _-_}
+use mathlib.Core.List.{List, [], _∷_, _++_}
+use Prim.Native.Nat.{ℕ, zero, suc, _+_, _-_, _*_, _/_, _%_}
 use lib.Dec.{ltb}
 use Rattle.theory.specs.Bools.{_&_, _or_, bit}
 
@@ -38,3 +38,12 @@ nth (suc n) p c = let r = nth n p c in cond (ltb c (count n p)) r n
 unfoldable pub tabulate : {A : Type 0} → ℕ → (ℕ → A) → List A
 tabulate zero f = []
 tabulate (suc n) f = f zero ∷ tabulate n (λ i. f (suc i))
+
+-- the pairs of a relation among the first k of (0, 0), (0, 1), .., (n - 1, n - 1)
+unfoldable pub pairsBelow : ℕ → (ℕ → ℕ → Bool) → ℕ → List (ℕ × ℕ)
+pairsBelow n r zero = []
+pairsBelow n r (suc k) = pairsBelow n r k ++ cond (r (k / n) (k % n)) ((k / n, k % n) ∷ []) []
+
+-- all its pairs of numbers below n, ascending
+unfoldable pub pairsOf : ℕ → (ℕ → ℕ → Bool) → List (ℕ × ℕ)
+pairsOf n r = pairsBelow n r (n * n)

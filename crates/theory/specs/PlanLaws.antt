@@ -1,0 +1,95 @@
+-- Laws of lists of links.
+use mathlib.Core.Path.{_≡_, refl, sym, ap, _∙_, subst₂}
+use mathlib.Core.Logic.{_⊎_, inl, inr}
+use mathlib.Core.Bool.{Bool, true, false, cond, So, false≢true}
+use mathlib.Core.List.{List, [], _∷_, _++_}
+use Prim.Native.Nat.{ℕ, zero, suc, _+_, _*_, _/_, _%_, _<_}
+use native.Mathlib.Nat.{not-suc-le-zero}
+use native.Mathlib.Omega.{arith}
+use lib.Dec.{eqb}
+use lib.Arith.{digits-lt, digits-div, digits-mod}
+use borrow.Author.Tests.{eqb-true, eq-eqb}
+use Rattle.theory.specs.Bools.{_&_, _or_}
+use Rattle.theory.specs.BoolsLaws.{and-in, and-out, or-left, or-right, or-out}
+use Rattle.theory.specs.Range.{pairsBelow, pairsOf}
+use Rattle.theory.specs.RangeLaws.{below-suc}
+use Rattle.theory.specs.CountLaws.{row-lt, col-lt}
+use Rattle.theory.specs.Plan.{linked}
+
+-- ---- a link of two lists is one of either
+
+pub linked-left : (ks ls : List (ℕ × ℕ)) (i j : ℕ) → So (linked ks i j) → So (linked (ks ++ ls) i j)
+unfolding linked
+linked-left [] ls i j t = absurd (false≢true t)
+linked-left (k ∷ ks) ls i j t =
+    elim (or-out t) [ inl a ↦ or-left (linked (ks ++ ls) i j) a | inr b ↦ or-right (eqb (k .0) i & eqb (k .1) j) (linked-left ks ls i j b) ]
+
+pub linked-right : (ks ls : List (ℕ × ℕ)) (i j : ℕ) → So (linked ls i j) → So (linked (ks ++ ls) i j)
+unfolding linked
+linked-right [] ls i j t = t
+linked-right (k ∷ ks) ls i j t = or-right (eqb (k .0) i & eqb (k .1) j) (linked-right ks ls i j t)
+
+pub linked-append : (ks ls : List (ℕ × ℕ)) (i j : ℕ) → So (linked (ks ++ ls) i j) → So (linked ks i j) ⊎ So (linked ls i j)
+unfolding linked
+linked-append [] ls i j t = inr t
+linked-append (k ∷ ks) ls i j t = elim (or-out t) [ inl a ↦ inl (or-left (linked ks i j) a) | inr b ↦ go (linked-append ks ls i j b) ]
+  where
+    go : So (linked ks i j) ⊎ So (linked ls i j) → So (linked (k ∷ ks) i j) ⊎ So (linked ls i j)
+    go (inl a) = inl (or-right (eqb (k .0) i & eqb (k .1) j) a)
+    go (inr b) = inr b
+
+pub linked-one : (i j : ℕ) → So (linked ((i, j) ∷ []) i j)
+unfolding linked
+linked-one i j = or-left (linked [] i j) (and-in (eq-eqb i i refl) (eq-eqb j j refl))
+
+pub linked-one-out : (k l i j : ℕ) → So (linked ((k, l) ∷ []) i j) → (k ≡ i) × (l ≡ j)
+unfolding linked
+linked-one-out k l i j t =
+    elim (or-out t) [ inl a ↦ (let p = and-out a in (eqb-true k i (p .0), eqb-true l j (p .1))) | inr b ↦ absurd (false≢true b) ]
+
+-- ---- the list of a relation's pairs
+
+module _ (n : ℕ) (r : ℕ → ℕ → Bool) where
+  pairsBelow-in : (k i : ℕ) → i < k → So (r (i / n) (i % n)) → So (linked (pairsBelow n r k) (i / n) (i % n))
+  unfolding pairsBelow
+  pairsBelow-in zero i h t = absurd (not-suc-le-zero h)
+  pairsBelow-in (suc k) i h t =
+      below-suc (λ (i : ℕ). So (r (i / n) (i % n)) → So (linked (pairsBelow n r (suc k)) (i / n) (i % n)))
+      (λ i l u. linked-left (pairsBelow n r k) _ (i / n) (i % n) (pairsBelow-in k i l u))
+      (λ u. linked-right (pairsBelow n r k) _ (k / n) (k % n) (rw u (linked-one (k / n) (k % n))))
+      i h t
+
+  pub pairsOf-in : (i j : ℕ) → i < n → j < n → So (r i j) → So (linked (pairsOf n r) i j)
+  unfolding pairsOf
+  pairsOf-in i j hi hj t =
+      subst₂ (λ (x y : ℕ). So (r x y) → So (linked (pairsBelow n r (n * n)) x y)) (digits-div i hj) (digits-mod i hj)
+      (pairsBelow-in (n * n) (i * n + j) (digits-lt hi hj)) t
+
+  pub record Pair (k i j : ℕ) : Type 0 where
+    pub number : ℕ
+    pub inside : number < k
+    pub row : number / n ≡ i
+    pub column : number % n ≡ j
+    pub holds : So (r i j)
+
+  pairsBelow-out : (k i j : ℕ) → So (linked (pairsBelow n r k) i j) → Pair k i j
+  unfolding pairsBelow linked
+  pairsBelow-out zero i j t = absurd (false≢true t)
+  pairsBelow-out (suc k) i j t = go (linked-append (pairsBelow n r k) _ i j t) (pairsBelow-out k i j)
+    where
+      last : (b : Bool) → r (k / n) (k % n) ≡ b → So (linked (cond b ((k / n, k % n) ∷ []) []) i j) → Pair (suc k) i j
+      last true e u =
+          let p = linked-one-out (k / n) (k % n) i j u in
+          record { number = k; inside = omega arith; row = p .0; column = p .1; holds = subst₂ (λ (x y : ℕ). So (r x y)) (p .0) (p .1) e }
+      last false e u = absurd (false≢true u)
+
+      go : So (linked (pairsBelow n r k) i j) ⊎ So (linked (cond (r (k / n) (k % n)) ((k / n, k % n) ∷ []) []) i j)
+          → (So (linked (pairsBelow n r k) i j) → Pair k i j) → Pair (suc k) i j
+      go (inl a) ih = let p = ih a in record { number = p .number; inside = omega (arith, p .inside); row = p .row; column = p .column; holds = p .holds }
+      go (inr b) ih = last (r (k / n) (k % n)) refl b
+
+  pub pairsOf-out : (i j : ℕ) → So (linked (pairsOf n r) i j) → (i < n) × (j < n) × So (r i j)
+  unfolding pairsOf
+  pairsOf-out i j t =
+      let p = pairsBelow-out (n * n) i j t in
+      (rw (p .row) at (row-lt n n (p .number) (p .inside)), rw (p .column) at (col-lt n n (p .number) (p .inside)), p .holds)
