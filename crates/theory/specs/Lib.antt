@@ -13,7 +13,13 @@ pub mod SimulationLaws
 pub mod Order
 pub mod OrderLaws
 pub mod Plan
-pub mod PlanLaws
+pub mod LinkLaws
+pub mod Returns
+pub mod WalkLaws
+pub mod ReturnsLaws
+pub mod Plays
+pub mod PlaysLaws
+pub mod WinnerLaws
 pub mod Transfer
 pub mod TransferLaws
 pub mod Reduction

@@ -19,7 +19,7 @@ use Rattle.theory.specs.Simulation.{Moves, Passes, Simulation, Below}
 use Rattle.theory.specs.Order.{below}
 use Rattle.theory.specs.OrderLaws.{Holds, below-simulation, below-in}
 use Rattle.theory.specs.Plan.{Plan, linked, Walk, seen, Winning, WinsBy, Won}
-use Rattle.theory.specs.PlanLaws.{pairsOf-in, pairsOf-out}
+use Rattle.theory.specs.LinkLaws.{pairsOf-in, pairsOf-out}
 use Rattle.theory.specs.Transfer.{isPair, oldPosition, newVertex, newLink, positions, carried}
 
 -- ---- core: positions k that stand for the positions `pos k` of a winning plan
