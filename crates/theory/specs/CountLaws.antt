@@ -75,6 +75,9 @@ count-inject (suc N) M p q Partner f u = go (p N) refl (λ q f. count-inject N M
         let b = count-less M q′ q (λ i h t. and-out t .0) (r .0) (r .1) (and-fails (q (r .0)) _ (ap not (eq-eqb (r .0) (r .0) refl))) (r .2) in
         omega arith
 
+pub count-grows : (n m : ℕ) (p : ℕ → Bool) → n ≤ m → count n p ≤ count m p
+count-grows n m p h = count-inject n m p p (λ i j. i ≡ j) (λ i l t. (i, omega arith, t, refl)) (λ i i′ j l l′ k e e′. e ∙ sym e′)
+
 -- ---- the c-th that passes, and the number of one that passes
 
 pub record Nth (n : ℕ) (p : ℕ → Bool) (c x : ℕ) : Type 0 where

@@ -23,4 +23,7 @@ pub mod WinnerLaws
 pub mod Transfer
 pub mod TransferLaws
 pub mod Reduction
+pub mod MaximalLaws
+pub mod ClassLaws
+pub mod QuotientLaws
 pub mod Examples

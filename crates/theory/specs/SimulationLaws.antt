@@ -92,6 +92,13 @@ module _ (a : Player) where
     holds = (u, h, b .holds, c .holds);
   }
 
+-- the pair test holds of "below"
+pub below-moves : (a : Player) {G₁ G₂ : Game} {v w : ℕ} → v < G₁ .n → w < G₂ .n → Below a G₁ G₂ v w
+    → Moves (own G₁ a v) (own G₂ a w) (Succ G₁ v) (Succ G₂ w) (Below a G₁ G₂)
+below-moves a {G₁} {G₂} {v} {w} hv hw b =
+    moves-mono (own G₁ a v) (own G₂ a w) (Succ G₁ v) (Succ G₂ w) (b .relation) (Below a G₁ G₂)
+    (λ v′ w′ s t r. record { relation = b .relation; simulation = b .simulation; holds = r }) (b .simulation v w hv hw (b .holds) .moves)
+
 -- what is at least as good for one player is at most as good for the other
 pub below-turn : {G₁ G₂ : Game} {v w : ℕ} (a b : Player) → other b ≡ a → Below b G₁ G₂ v w → Below a G₂ G₁ w v
 below-turn a b e u = rw e at (below-dual b u)

@@ -1,0 +1,221 @@
+-- Edges between classes. A class has a quotient edge above each successor of its representative's, and a reduced edge above each
+-- quotient edge; all is said for the owner a, with `worse a` as "no better for a than".
+use mathlib.Core.Path.{_≡_, refl, sym, ap, _∙_, subst}
+use mathlib.Core.Bool.{Bool, true, false, not, So, false≢true}
+use Prim.Native.Nat.{ℕ, _<_}
+use native.Mathlib.Omega.{arith}
+use lib.Dec.{eqb}
+use borrow.Author.Tests.{ne-eqb, eqb-false}
+use Rattle.theory.specs.Bools.{_&_, imp}
+use Rattle.theory.specs.BoolsLaws.{clash, So-not, not-in, not-out, and-in, and-out, imp-in, imp-out}
+use Rattle.theory.specs.Range.{anyBelow}
+use Rattle.theory.specs.RangeLaws.{all-in, all-out, any-in, any-out}
+use Rattle.theory.specs.Passes.{Rel}
+use Rattle.theory.specs.Game.{Player, even, odd, other, same, Game, own, Next, Succ}
+use Rattle.theory.specs.GameLaws.{same-refl}
+use Rattle.theory.specs.Simulation.{Moves, Below}
+use Rattle.theory.specs.SimulationLaws.{below-dual, below-refl, below-trans, below-moves}
+use Rattle.theory.specs.Order.{anyNext, below, order}
+use Rattle.theory.specs.OrderLaws.{Holds, anyNext-in, anyNext-out, below-simulation, below-in, below-out, order-in, order-out, order-refl, order-trans}
+use Rattle.theory.specs.Reduction.{sameClass, lowest, isLowest, worse, quotientEdge, dropped, reducedEdge}
+use Rattle.theory.specs.MaximalLaws.{Preorder, Top, top}
+use Rattle.theory.specs.ClassLaws.{sameClass-sym, sameClass-refl, sameClass-trans, lowest-lt, lowest-same, isLowest-lowest, isLowest-one}
+
+-- every member of c's class has a successor in d's
+abbrev pub QuotientEdge : Game → ℕ → ℕ → Type 0
+QuotientEdge g c d = (v : ℕ) → v < g .n → So (sameClass (order g) v c) → (w : ℕ) × Succ g v w × So (sameClass (order g) w d)
+
+module _ (g : Game) where
+  pub order-preorder : Preorder (g .n) (order g)
+  order-preorder = record { reflexive = order-refl g; transitive = order-trans g }
+
+  -- ---- the order for either player
+
+  pub worse-in : (a : Player) {v w : ℕ} → v < g .n → w < g .n → Below a g g v w → So (worse a (order g) v w)
+  unfolding worse other
+  worse-in even hv hw b = order-in g hv hw b
+  worse-in odd hv hw b = order-in g hw hv (below-dual odd b)
+
+  pub worse-out : (a : Player) {v w : ℕ} → So (worse a (order g) v w) → Below a g g v w
+  unfolding worse other
+  worse-out even t = order-out g t
+  worse-out odd t = below-dual even (order-out g t)
+
+  pub worse-refl : (a : Player) (v : ℕ) → v < g .n → So (worse a (order g) v v)
+  worse-refl a v h = worse-in a h h (below-refl a g v)
+
+  pub worse-trans : (a : Player) (v u w : ℕ) → v < g .n → u < g .n → w < g .n → So (worse a (order g) v u) → So (worse a (order g) u w) → So (worse a (order g) v w)
+  worse-trans a v u w hv hu hw s t = worse-in a hv hw (below-trans a hu (worse-out a s) (worse-out a t))
+
+  pub worse-preorder : (a : Player) → Preorder (g .n) (worse a (order g))
+  worse-preorder a = record { reflexive = worse-refl a; transitive = worse-trans a }
+
+  -- the pair test, for either player
+  worse-moves : (a : Player) (v w : ℕ) → v < g .n → w < g .n → So (worse a (order g) v w)
+      → Moves (own g a v) (own g a w) (Succ g v) (Succ g w) (Below a g g)
+  worse-moves a v w hv hw t = below-moves a hv hw (worse-out a t)
+
+  -- sharing a class is being no better either way
+  pub sameClass-in : (a : Player) (v w : ℕ) → So (worse a (order g) v w) → So (worse a (order g) w v) → So (sameClass (order g) v w)
+  unfolding worse sameClass
+  sameClass-in even v w s t = and-in s t
+  sameClass-in odd v w s t = and-in t s
+
+  pub sameClass-up : (a : Player) (v w : ℕ) → So (sameClass (order g) v w) → So (worse a (order g) v w)
+  unfolding worse sameClass
+  sameClass-up even v w t = and-out t .0
+  sameClass-up odd v w t = and-out t .1
+
+  pub sameClass-down : (a : Player) (v w : ℕ) → So (sameClass (order g) v w) → So (worse a (order g) w v)
+  sameClass-down a v w t = sameClass-up a w v (sameClass-sym (order g) v w t)
+
+  -- ---- the computed quotient edge
+
+  pub quotientEdge-in : (c d : ℕ) → QuotientEdge g c d → So (quotientEdge g (order g) c d)
+  unfolding quotientEdge
+  quotientEdge-in c d f = all-in (g .n) _ (λ v h. imp-in (λ t. let r = f v h t in anyNext-in g v _ (r .0) (r .1) (r .2)))
+
+  pub quotientEdge-out : (c d : ℕ) → So (quotientEdge g (order g) c d) → QuotientEdge g c d
+  unfolding quotientEdge
+  quotientEdge-out c d t v h s = anyNext-out g v _ (imp-out (all-out t .at v h) s)
+
+  -- ---- lemma 1: a quotient edge above each successor. c is a's, with successor c′. Among the successors of a's members of c's class
+  -- that are no worse than c′ take a maximal one, m′: every member of the class has a successor in the class of m′.
+
+  module _ (a : Player) (c c′ : ℕ) (hc : c < g .n) (oc : So (own g a c)) (move : Succ g c c′) where
+    le : Rel
+    le = worse a (order g)
+
+    candidate : ℕ → Bool
+    candidate y = anyBelow (g .n) (λ x. own g a x & sameClass (order g) x c & g .edge x y) & le c′ y
+
+    candidate-in : (x y : ℕ) → x < g .n → So (own g a x) → So (sameClass (order g) x c) → So (g .edge x y) → So (le c′ y) → So (candidate y)
+    unfolding candidate
+    candidate-in x y hx o s e b = and-in (any-in (g .n) _ x hx (and-in (and-in o s) e)) b
+
+    module _ (m′ : ℕ) (hm′ : m′ < g .n) (up : So (le c′ m′))
+        (maximal : (y : ℕ) → y < g .n → So (candidate y) → So (le m′ y) → So (le y m′))
+        (m : ℕ) (hm : m < g .n) (om : So (own g a m)) (mc : So (sameClass (order g) m c)) (edge-m : So (g .edge m m′)) where
+      succ-m : Succ g m m′
+      succ-m = record { inside = hm′; along = edge-m }
+
+      -- nothing that a's members reach is better than m′
+      cap : (x y : ℕ) → x < g .n → So (own g a x) → So (sameClass (order g) x c) → Succ g x y → So (le m′ y) → So (le y m′)
+      unfolding le
+      cap x y hx ox xc s b =
+          maximal y (s .inside)
+          (candidate-in x y hx ox xc (s .along) (worse-trans a c′ m′ y (move .inside) hm′ (s .inside) up b)) b
+
+      member : (x : ℕ) → x < g .n → So (sameClass (order g) x c) → (p q : Bool) → own g a m ≡ p → So p → own g a x ≡ q
+          → Moves p q (Succ g m) (Succ g x) (Below a g g) → Moves q p (Succ g x) (Succ g m) (Below a g g)
+          → (y : ℕ) × Succ g x y × So (sameClass (order g) y m′)
+      unfolding Moves le
+      member x hx xc true true em t ex mx xm =
+          let r = mx m′ succ-m in
+          let b = worse-in a hm′ (r .1 .inside) (r .2) in
+          (r .0, r .1, sameClass-in a (r .0) m′ (cap x (r .0) hx ex xc (r .1) b) b)
+      member x hx xc true false em t ex mx xm =
+          let x₁ = xm .0 in
+          let m₁ = xm .1 in
+          let hx₁ = xm .2 .inside in
+          let hm₁ = xm .3 .inside in
+          let low : So (worse a (order g) m′ x₁) = worse-in a hm′ hx₁ (mx m′ x₁ succ-m (xm .2)) in
+          let high : So (worse a (order g) x₁ m₁) = worse-in a hx₁ hm₁ (xm .4) in
+          let back = cap m m₁ hm em mc (xm .3) (worse-trans a m′ x₁ m₁ hm′ hx₁ hm₁ low high) in
+          (x₁, xm .2, sameClass-in a x₁ m′ (worse-trans a x₁ m₁ m′ hx₁ hm₁ hm′ high back) low)
+      member x hx xc false q em t ex mx xm = absurd (false≢true t)
+
+      members : QuotientEdge g c m′
+      members x hx xc =
+          let xm = sameClass-trans (g .n) (order g) order-preorder x c m hx hc hm xc (sameClass-sym (order g) m c mc) in
+          member x hx xc (own g a m) (own g a x) refl om refl
+          (worse-moves a m x hm hx (sameClass-down a x m xm)) (worse-moves a x m hx hm (sameClass-up a x m xm))
+
+    pub edge-above : (d : ℕ) × (d < g .n) × QuotientEdge g c d × So (worse a (order g) c′ d)
+    unfolding candidate le
+    edge-above =
+        let t =
+            top (g .n) le (worse-preorder a) candidate c′ (move .inside)
+            (candidate-in c c′ hc oc (sameClass-refl (g .n) (order g) order-preorder c hc) (move .along) (worse-refl a c′ (move .inside))) in
+        let w = any-out (and-out (t .is-member) .0) in
+        let p = and-out (w .2) in
+        let q = and-out (p .0) in
+        (t .at, t .inside, members (t .at) (t .inside) (t .above) (t .maximal) (w .0) (w .1) (q .0) (q .1) (p .1), t .above)
+
+  -- ---- edges to lowest members
+
+  -- an edge of E from c to a lowest member that is at least as good as x for the player
+  pub record EdgeAbove (E : Rel) (a : Player) (c x : ℕ) : Type 0 where
+    pub to : ℕ
+    pub inside : to < g .n
+    pub is-lowest : So (isLowest (g .n) (order g) to)
+    pub edge : So (E c to)
+    pub above : So (worse a (order g) x to)
+
+  pub quotient-above : (c x : ℕ) → c < g .n → Succ g c x → EdgeAbove (quotientEdge g (order g)) (g .owner c) c x
+  quotient-above c x hc s =
+      let a = g .owner c in
+      let (d, hd, q, b) = edge-above a c x hc (same-refl a) s in
+      let l = lowest (g .n) (order g) d in
+      let hl = lowest-lt (g .n) (order g) order-preorder d hd in
+      let e = lowest-same (g .n) (order g) order-preorder d hd in
+      let q′ : QuotientEdge g c l = λ v hv vc.
+          let r = q v hv vc in
+          (r .0, r .1, sameClass-trans (g .n) (order g) order-preorder (r .0) d l (r .1 .inside) hd hl (r .2) (sameClass-sym (order g) l d e)) in record {
+        to = l;
+        inside = hl;
+        is-lowest = isLowest-lowest (g .n) (order g) order-preorder d hd;
+        edge = quotientEdge-in c l q′;
+        above = worse-trans a x d l (s .inside) hd hl b (sameClass-down a l d e);
+      }
+
+  -- ---- lemma 2: a reduced edge above each quotient edge. Distinct lowest members are never both above each other, so a maximal
+  -- quotient edge is kept.
+
+  -- what makes an edge to d be dropped: another one, to e, with d no better than e
+  pub record Better (c d : ℕ) : Type 0 where
+    pub to : ℕ
+    pub inside : to < g .n
+    pub is-lowest : So (isLowest (g .n) (order g) to)
+    pub apart : to ≡ d → ⊥
+    pub edge : So (quotientEdge g (order g) c to)
+    pub above : So (worse (g .owner c) (order g) d to)
+
+  pub dropped-out : (c d : ℕ) → So (dropped g (order g) c d) → Better c d
+  unfolding dropped
+  dropped-out c d t =
+      let r = any-out t in
+      let p = and-out (r .2) in
+      let q = and-out (p .0) in
+      let s = and-out (q .0) in
+      record { to = r .0; inside = r .1; is-lowest = s .0; apart = eqb-false (r .0) d (not-out (s .1)); edge = q .1; above = p .1 }
+
+  pub dropped-in : (c d : ℕ) → Better c d → So (dropped g (order g) c d)
+  unfolding dropped
+  dropped-in c d b =
+      any-in (g .n) _ (b .to) (b .inside)
+      (and-in (and-in (and-in (b .is-lowest) (not-in (ne-eqb (b .to) d (b .apart)))) (b .edge)) (b .above))
+
+  pub reduced-above : (c d : ℕ) → d < g .n → So (isLowest (g .n) (order g) d) → So (quotientEdge g (order g) c d)
+      → EdgeAbove (reducedEdge g (order g)) (g .owner c) c d
+  unfolding reducedEdge
+  reduced-above c d hd ld q =
+      let a = g .owner c in
+      let t =
+          top (g .n) (worse a (order g)) (worse-preorder a) (λ e. isLowest (g .n) (order g) e & quotientEdge g (order g) c e) d hd (and-in ld q) in
+      let p = and-out (t .is-member) in
+      let kept : Better c (t .at) → ⊥ = λ b.
+          let back = t .maximal (b .to) (b .inside) (and-in (b .is-lowest) (b .edge)) (b .above) in
+          b .apart
+          (isLowest-one (g .n) (order g) order-preorder (b .to) (t .at) (b .inside) (t .inside) (b .is-lowest) (p .0)
+          (sameClass-in a (b .to) (t .at) back (b .above))) in record {
+        to = t .at;
+        inside = t .inside;
+        is-lowest = p .0;
+        edge = and-in (p .1) (not-in (So-not (λ u. kept (dropped-out c (t .at) u))));
+        above = t .above;
+      }
+
+  pub reducedEdge-quotient : (c d : ℕ) → So (reducedEdge g (order g) c d) → So (quotientEdge g (order g) c d)
+  unfolding reducedEdge
+  reducedEdge-quotient c d t = and-out t .0
