@@ -21,6 +21,14 @@ pub sameClass-sym : (le : Rel) (v w : ℕ) → So (sameClass le v w) → So (sam
 unfolding sameClass
 sameClass-sym le v w t = let p = and-out t in and-in (p .1) (p .0)
 
+pub sameClass-le : (le : Rel) (v w : ℕ) → So (sameClass le v w) → So (le v w)
+unfolding sameClass
+sameClass-le le v w t = and-out t .0
+
+pub sameClass-ge : (le : Rel) (v w : ℕ) → So (sameClass le v w) → So (le w v)
+unfolding sameClass
+sameClass-ge le v w t = and-out t .1
+
 module _ (n : ℕ) (le : Rel) (pre : Preorder n le) where
   -- ---- sharing a class is an equivalence
 

@@ -26,4 +26,8 @@ pub mod Reduction
 pub mod MaximalLaws
 pub mod ClassLaws
 pub mod QuotientLaws
+pub mod ReductionLaws
+pub mod SizeLaws
+pub mod MixedLaws
+pub mod Demands
 pub mod Examples

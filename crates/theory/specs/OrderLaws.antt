@@ -61,10 +61,6 @@ module _ (a : Player) (g h : Game) where
 
   -- ---- the order between two games, for a player
 
-  below-is : below a g h ≡ largest (g .n) (h .n) (test a g h) (equalPriority g h)
-  unfolding below marksBetween largest
-  below-is = refl
-
   -- the marks are a simulation
   pub below-simulation : Simulation a g h (Holds (below a g h))
   unfolding below marksBetween largest
@@ -91,10 +87,6 @@ pub below-out : {a : Player} {g h : Game} {v w : ℕ} → So (below a g h v w) �
 below-out {a} {g} {h} t = record { relation = Holds (below a g h); simulation = below-simulation a g h; holds = t }
 
 -- ---- the order of one game
-
-pub order-is : (g : Game) → order g ≡ below even g g
-unfolding order orderMarks below
-order-is g = refl
 
 module _ (g : Game) where
   pub order-in : {v w : ℕ} → v < g .n → w < g .n → Below even g g v w → So (order g v w)
