@@ -1,1 +1,3 @@
-pub fn nothing(x: u32) -> u32 { x }
+pub fn nothing(x: u32) -> u32 {
+    x
+}

@@ -68,10 +68,10 @@ count-inject (suc N) M p q Partner f u = go (p N) refl (λ q f. count-inject N M
         let r = f N (omega arith) e in
         let q′ : ℕ → Bool = λ m. q m & not (eqb m (r .0)) in
         let a = ih q′ (λ i h t.
-            let s = f i (less i h) t in
-            let ne : s .0 ≡ r .0 → ⊥ =
-                λ d. lt-irrefl N (subst (λ (k : ℕ). k < N) (u i N (s .0) (less i h) (omega arith) (s .1) (s .3) (subst (Partner N) (sym d) (r .3))) h) in
-            (s .0, s .1, and-in (s .2) (ap not (ne-eqb (s .0) (r .0) ne)), s .3)) in
+        let s = f i (less i h) t in
+        let ne : s .0 ≡ r .0 → ⊥ =
+        λ d. lt-irrefl N (subst (λ (k : ℕ). k < N) (u i N (s .0) (less i h) (omega arith) (s .1) (s .3) (subst (Partner N) (sym d) (r .3))) h) in
+        (s .0, s .1, and-in (s .2) (ap not (ne-eqb (s .0) (r .0) ne)), s .3)) in
         let b = count-less M q′ q (λ i h t. and-out t .0) (r .0) (r .1) (and-fails (q (r .0)) _ (ap not (eq-eqb (r .0) (r .0) refl))) (r .2) in
         omega arith
 
@@ -128,28 +128,28 @@ repeated f j = anyBelow j (λ i. eqb (f i) (f j))
 pub pigeonhole : (n : ℕ) (f : ℕ → ℕ) → ((k : ℕ) → k ≤ n → f k < n) → Twice n f
 unfolding repeated
 pigeonhole n f h = elim (decide (anyBelow (suc n) (repeated f))) [
-    | inl t ↦ (
-        let b = any-out t in
-        let a = any-out (b .2) in
-        record { first = a .0; second = b .0; order = a .1; bound = omega arith; equal = eqb-true (f (a .0)) (f (b .0)) (a .2) })
-    | inr e ↦ absurd (too-many e)
-  ]
+  | inl t ↦ (
+      let b = any-out t in
+      let a = any-out (b .2) in
+      record { first = a .0; second = b .0; order = a .1; bound = omega arith; equal = eqb-true (f (a .0)) (f (b .0)) (a .2) })
+  | inr e ↦ absurd (too-many e)
+]
   where
     apart : anyBelow (suc n) (repeated f) ≡ false → (i j : ℕ) → i < j → j < suc n → f i ≡ f j → ⊥
     apart e i j l b q = clash (any-in (suc n) (repeated f) j b (any-in j _ i l (eq-eqb (f i) (f j) q))) e
 
     one : anyBelow (suc n) (repeated f) ≡ false → (i j : ℕ) → i < suc n → j < suc n → f i ≡ f j → i ≡ j
     one e i j hi hj q = elim (decLt i j) [
-        | yes l ↦ absurd (apart e i j l hj q)
-        | no m ↦ elim (decLt j i) [ yes l ↦ absurd (apart e j i l hi (sym q)) | no m′ ↦ omega arith ]
-      ]
+      | yes l ↦ absurd (apart e i j l hj q)
+      | no m ↦ elim (decLt j i) [ yes l ↦ absurd (apart e j i l hi (sym q)) | no m′ ↦ omega arith ]
+    ]
 
     too-many : anyBelow (suc n) (repeated f) ≡ false → ⊥
     too-many e =
         let c =
-            count-inject (suc n) n (λ i. true) (λ i. true) (λ i j. f i ≡ j)
-            (λ i l t. (f i, h i (omega arith), refl, refl))
-            (λ i i′ j l l′ k q q′. one e i i′ l l′ (q ∙ sym q′)) in
+        count-inject (suc n) n (λ i. true) (λ i. true) (λ i j. f i ≡ j)
+        (λ i l t. (f i, h i (omega arith), refl, refl))
+        (λ i i′ j l l′ k q q′. one e i i′ l l′ (q ∙ sym q′)) in
         omega (arith, c, count-all (suc n), count-all n)
 
 -- ---- pairs: number v × n + w has row v and column w

@@ -27,7 +27,7 @@ unfolding other
 odd-down g v w hv hw t = transfer odd g g w v hw hv (below-dual even (order-out g t))
 
 -- two vertices of two games that are below each other have the same winners
-mutual-winner : (a : Player) (G K : Game) (v c : ℕ) → v < G .n → c < K .n → Below even G K v c → Below even K G c v → Won a G v ↔ Won a K c
+unfoldable pub mutual-winner : (a : Player) (G K : Game) (v c : ℕ) → v < G .n → c < K .n → Below even G K v c → Below even K G c v → Won a G v ↔ Won a K c
 unfolding other
 mutual-winner even G K v c hv hc up down = (transfer even G K v c hv hc up, transfer even K G c v hc hv down)
 mutual-winner odd G K v c hv hc up down = (transfer odd G K v c hv hc (below-dual even down), transfer odd K G c v hc hv (below-dual even up))
@@ -40,7 +40,7 @@ quotient-winner g a v h =
     (class-above g (quotientEdge g (order g)) (quotient-enough g) v h) (class-below g (quotientEdge g (order g)) (quotient-enough g) v h)
 
 -- and in the reduced game
-pub reduced-winner : (g : Game) (a : Player) (v : ℕ) → v < g .n → Won a g v ↔ Won a (reduced g) (classOf g v)
+unfoldable pub reduced-winner : (g : Game) (a : Player) (v : ℕ) → v < g .n → Won a g v ↔ Won a (reduced g) (classOf g v)
 unfolding reduced
 reduced-winner g a v h =
     mutual-winner a g (reduced g) v (classOf g v) h (classOf-reduced g v h)

@@ -1,35 +1,119 @@
--- Worked games of document 01.
+-- Worked games: C and D of document 01, computed; a small game with a winning plan for each player; and demand 3 at a merged vertex.
 use mathlib.Core.Path.{_≡_, refl}
-use mathlib.Core.Bool.{Bool, true, false, not}
+use mathlib.Core.Bool.{Bool, true, false, So}
 use mathlib.Core.List.{List, [], _∷_}
-use Prim.Native.Nat.{ℕ, suc, _*_, _/_, _%_}
-use lib.Dec.{eqb}
-use lib.ListN.{getD}
-use Rattle.theory.specs.Bools.{_&_, _or_, imp, bit}
-use Rattle.theory.specs.Range.{allBelow, anyBelow, firstOf, first, count, nth, tabulate}
-use Rattle.theory.specs.Passes.{nextPass, pass, settled, rounds, passCount, finalMarks, relOf, pairStart, pairTest, Rel}
-use Rattle.theory.specs.Game.{Player, even, odd, same, Game, edgeCount}
-use Rattle.theory.specs.Order.{allNext, anyNext, moves, equalPriority, test, marksBetween, orderMarks, order, orderPasses}
-use Rattle.theory.specs.Plan.{Plan, linked}
-use Rattle.theory.specs.Reduction.{sameClass, lowest, isLowest, classCount, classNumber, representative, quotientEdge, worse, dropped, reducedEdge, classGame, quotient, reduced, classOf}
+use Prim.Native.Nat.{ℕ, _<_}
+use native.Mathlib.Omega.{arith}
+use lib.ListN.{length, getD}
+use Rattle.theory.specs.Range.{tabulate, pairsOf}
+use Rattle.theory.specs.Game.{Player, even, odd, Game, edgeCount}
+use Rattle.theory.specs.Order.{order, orderPasses}
+use Rattle.theory.specs.Plan.{Plan, linked, Wins, Won}
+use Rattle.theory.specs.Transfer.{carried}
+use Rattle.theory.specs.TransferLaws.{transfer}
+use Rattle.theory.specs.Reduction.{quotient, reduced, classOf}
+use Rattle.theory.specs.Demands.{mutual-winner, reduced-winner}
+use Rattle.theory.specs.PlanTest.{surelyWins}
+use Rattle.theory.specs.PlanTestLaws.{surely-wins}
+use Rattle.theory.specs.Compute.{compute}
 
-abbrev pub gameOf : List ℕ → List Player → List (ℕ × ℕ) → ℕ → Game
-gameOf priorities owners edges n = record { n = n; priority = λ v. getD priorities v 0; owner = λ v. getD owners v even; edge = linked edges }
+-- a game by its priorities, its owners and its edges
+unfoldable pub listGame : List ℕ → List Player → List (ℕ × ℕ) → Game
+listGame priorities owners edges = record {
+  n = length priorities;
+  priority = λ v. getD priorities v 0;
+  owner = λ v. getD owners v even;
+  edge = linked edges;
+}
 
-unfoldable pub C : Game
-C = gameOf (2 ∷ 0 ∷ 0 ∷ 1 ∷ 4 ∷ []) [] ((0, 1) ∷ (0, 2) ∷ (1, 3) ∷ (2, 3) ∷ (2, 4) ∷ (3, 3) ∷ (4, 4) ∷ []) 5
+-- a game's edges, ascending
+unfoldable pub edgesOf : Game → List (ℕ × ℕ)
+edgesOf g = pairsOf (g .n) (g .edge)
 
-unfoldable pub D : Game
-D = gameOf (2 ∷ 0 ∷ 0 ∷ 1 ∷ 4 ∷ 2 ∷ []) [] ((0, 1) ∷ (0, 2) ∷ (1, 3) ∷ (2, 3) ∷ (2, 4) ∷ (3, 3) ∷ (4, 4) ∷ (5, 2) ∷ []) 6
+-- ---- game C: all Even's; C′: vertex 0 Odd's
 
-pub C-passes : orderPasses C ≡ 2
-unfolding C orderPasses passCount rounds first firstOf settled pass nextPass pairTest pairStart relOf test moves equalPriority allNext anyNext allBelow anyBelow imp _&_ _or_ linked same tabulate
+unfoldable pub gameC : Player → Game
+unfolding listGame
+gameC a =
+    listGame (2 ∷ 0 ∷ 0 ∷ 1 ∷ 4 ∷ []) (a ∷ []) ((0, 1) ∷ (0, 2) ∷ (1, 3) ∷ (2, 3) ∷ (2, 4) ∷ (3, 3) ∷ (4, 4) ∷ [])
+
+pub C-passes : orderPasses (gameC even) ≡ 2
+unfolding compute gameC
 C-passes = refl
 
-pub C-edges : tabulate 25 (λ i. reduced C .edge (i / 5) (i % 5)) ≡ tabulate 25 (λ i. linked ((0, 2) ∷ (1, 3) ∷ (2, 3) ∷ (2, 4) ∷ (3, 3) ∷ (4, 4) ∷ []) (i / 5) (i % 5))
-unfolding C reduced order orderMarks marksBetween classGame reducedEdge dropped worse quotientEdge representative nth count isLowest lowest sameClass bit finalMarks rounds first firstOf settled pass nextPass pairTest pairStart relOf test moves equalPriority allNext anyNext allBelow anyBelow imp _&_ _or_ linked same tabulate
-C-edges = refl
+-- 1 is below 2, not the reverse
+pub C-order : pairsOf 5 (order (gameC even)) ≡ (0, 0) ∷ (1, 1) ∷ (1, 2) ∷ (2, 2) ∷ (3, 3) ∷ (4, 4) ∷ []
+unfolding compute gameC
+C-order = refl
 
-pub D-count : edgeCount (quotient D) ≡ 6
-unfolding D edgeCount quotient order orderMarks marksBetween classGame quotientEdge representative nth classCount count isLowest lowest sameClass bit finalMarks rounds first firstOf settled pass nextPass pairTest pairStart relOf test moves equalPriority allNext anyNext allBelow anyBelow imp _&_ _or_ linked same tabulate
-D-count = refl
+-- five classes, and all edges of C
+pub C-quotient : edgesOf (quotient (gameC even)) ≡ (0, 1) ∷ (0, 2) ∷ (1, 3) ∷ (2, 3) ∷ (2, 4) ∷ (3, 3) ∷ (4, 4) ∷ []
+unfolding compute gameC edgesOf
+C-quotient = refl
+
+-- the reduced game drops 0 to 1
+pub C-reduced : edgesOf (reduced (gameC even)) ≡ (0, 2) ∷ (1, 3) ∷ (2, 3) ∷ (2, 4) ∷ (3, 3) ∷ (4, 4) ∷ []
+unfolding compute gameC edgesOf
+C-reduced = refl
+
+-- with vertex 0 Odd's it drops 0 to 2
+pub C′-reduced : edgesOf (reduced (gameC odd)) ≡ (0, 1) ∷ (1, 3) ∷ (2, 3) ∷ (2, 4) ∷ (3, 3) ∷ (4, 4) ∷ []
+unfolding compute gameC edgesOf
+C′-reduced = refl
+
+-- ---- game D: C with vertex 5, priority 2, Even's, edge to 2
+
+unfoldable pub gameD : Game
+unfolding listGame
+gameD = listGame (2 ∷ 0 ∷ 0 ∷ 1 ∷ 4 ∷ 2 ∷ []) [] ((0, 1) ∷ (0, 2) ∷ (1, 3) ∷ (2, 3) ∷ (2, 4) ∷ (3, 3) ∷ (4, 4) ∷ (5, 2) ∷ [])
+
+pub D-classes : tabulate 6 (classOf gameD) ≡ 0 ∷ 1 ∷ 2 ∷ 3 ∷ 4 ∷ 0 ∷ []
+unfolding compute gameD
+D-classes = refl
+
+pub D-quotient : edgeCount (quotient gameD) ≡ 6
+unfolding compute gameD
+D-quotient = refl
+
+-- ---- a plan for each player: vertices 0 (priority 0, Even's) and 1 (priority 1, Odd's) form a cycle; 2 (priority 1, Odd's) has a loop
+-- and an edge to 0
+
+unfoldable pub cycles : Game
+unfolding listGame
+cycles = listGame (0 ∷ 1 ∷ 1 ∷ []) (even ∷ odd ∷ odd ∷ []) ((0, 1) ∷ (1, 0) ∷ (2, 2) ∷ (2, 0) ∷ [])
+
+-- round the cycle, which sees 1 as well, but 0 is lower
+unfoldable pub evenPlan : Plan
+evenPlan = record { vertices = 0 ∷ 1 ∷ []; links = (0, 1) ∷ (1, 0) ∷ [] }
+
+unfoldable pub oddPlan : Plan
+oddPlan = record { vertices = 2 ∷ []; links = (0, 0) ∷ [] }
+
+pub evenPlan-wins : Wins even cycles evenPlan 0
+unfolding compute cycles evenPlan
+evenPlan-wins = surely-wins even cycles evenPlan 0 refl
+
+pub oddPlan-wins : Wins odd cycles oddPlan 2
+unfolding compute cycles oddPlan
+oddPlan-wins = surely-wins odd cycles oddPlan 2 refl
+
+-- ---- demand 3 at vertex 5 of D, merged into class 0: Even's plan from class 0 of the reduced game gives a plan from vertex 5
+
+unfoldable pub classPlan : Plan
+classPlan = record { vertices = 0 ∷ 2 ∷ 4 ∷ []; links = (0, 1) ∷ (1, 2) ∷ (2, 2) ∷ [] }
+
+pub classPlan-wins : Wins even (reduced gameD) classPlan 0
+unfolding compute gameD classPlan
+classPlan-wins = surely-wins even (reduced gameD) classPlan 0 refl
+
+unfoldable pub won-5 : Won even gameD 5
+unfolding compute gameD
+won-5 = reduced-winner gameD even 5 (omega arith) .1 (classPlan, classPlan-wins)
+
+-- the plan found: 19 positions, of which 0, 9 and 17 are played: 5 to 2 to 4, and there for ever
+pub won-5-plan : won-5 .0 ≡ record {
+  vertices = 5 ∷ 0 ∷ 5 ∷ 5 ∷ 5 ∷ 5 ∷ 5 ∷ 5 ∷ 5 ∷ 2 ∷ 5 ∷ 5 ∷ 5 ∷ 5 ∷ 5 ∷ 5 ∷ 5 ∷ 4 ∷ 5 ∷ [];
+  links = (0, 9) ∷ (1, 9) ∷ (2, 9) ∷ (3, 9) ∷ (4, 9) ∷ (5, 9) ∷ (6, 9) ∷ (7, 9) ∷ (8, 9) ∷ (9, 17) ∷ (10, 9) ∷ (11, 9) ∷ (12, 9) ∷ (13, 9) ∷ (14, 9) ∷ (15, 9) ∷ (16, 9) ∷ (17, 17) ∷ (18, 9) ∷ [];
+}
+unfolding compute gameD classPlan won-5 reduced-winner mutual-winner transfer
+won-5-plan = refl

@@ -30,4 +30,7 @@ pub mod ReductionLaws
 pub mod SizeLaws
 pub mod MixedLaws
 pub mod Demands
+pub mod PlanTest
+pub mod PlanTestLaws
+pub mod Compute
 pub mod Examples

@@ -138,8 +138,8 @@ passes-le n test start diagonal =
     let ok = pairTest n test in
     let init = pairStart n start in
     let kept : n ≤ count N (marked (finalMarks N ok init)) =
-        rw (count-all n) at
-        (count-inject n N (λ v. true) (marked (finalMarks N ok init)) (λ v i. v * n + v ≡ i)
-        (λ v h t. (v * n + v, digits-lt h h, diagonal v h, refl))
-        (λ v v′ i h h′ k e e′. sym (digits-div v h) ∙ ap (λ (z : ℕ). z / n) (e ∙ sym e′) ∙ digits-div v′ h′)) in
+    rw (count-all n) at
+    (count-inject n N (λ v. true) (marked (finalMarks N ok init)) (λ v i. v * n + v ≡ i)
+    (λ v h t. (v * n + v, digits-lt h h, diagonal v h, refl))
+    (λ v v′ i h h′ k e e′. sym (digits-div v h) ∙ ap (λ (z : ℕ). z / n) (e ∙ sym e′) ∙ digits-div v′ h′)) in
     omega (arith, rounds-marks N ok init, count-le N init)

@@ -135,8 +135,8 @@ module _ (g : Game) where
     unfolding candidate le
     edge-above =
         let t =
-            top (g .n) le (worse-preorder a) candidate c′ (move .inside)
-            (candidate-in c c′ hc oc (sameClass-refl (g .n) (order g) order-preorder c hc) (move .along) (worse-refl a c′ (move .inside))) in
+        top (g .n) le (worse-preorder a) candidate c′ (move .inside)
+        (candidate-in c c′ hc oc (sameClass-refl (g .n) (order g) order-preorder c hc) (move .along) (worse-refl a c′ (move .inside))) in
         let w = any-out (and-out (t .is-member) .0) in
         let p = and-out (w .2) in
         let q = and-out (p .0) in
@@ -160,8 +160,8 @@ module _ (g : Game) where
       let hl = lowest-lt (g .n) (order g) order-preorder d hd in
       let e = lowest-same (g .n) (order g) order-preorder d hd in
       let q′ : QuotientEdge g c l = λ v hv vc.
-          let r = q v hv vc in
-          (r .0, r .1, sameClass-trans (g .n) (order g) order-preorder (r .0) d l (r .1 .inside) hd hl (r .2) (sameClass-sym (order g) l d e)) in record {
+      let r = q v hv vc in
+      (r .0, r .1, sameClass-trans (g .n) (order g) order-preorder (r .0) d l (r .1 .inside) hd hl (r .2) (sameClass-sym (order g) l d e)) in record {
         to = l;
         inside = hl;
         is-lowest = isLowest-lowest (g .n) (order g) order-preorder d hd;
@@ -202,13 +202,13 @@ module _ (g : Game) where
   reduced-above c d hd ld q =
       let a = g .owner c in
       let t =
-          top (g .n) (worse a (order g)) (worse-preorder a) (λ e. isLowest (g .n) (order g) e & quotientEdge g (order g) c e) d hd (and-in ld q) in
+      top (g .n) (worse a (order g)) (worse-preorder a) (λ e. isLowest (g .n) (order g) e & quotientEdge g (order g) c e) d hd (and-in ld q) in
       let p = and-out (t .is-member) in
       let kept : Better c (t .at) → ⊥ = λ b.
-          let back = t .maximal (b .to) (b .inside) (and-in (b .is-lowest) (b .edge)) (b .above) in
-          b .apart
-          (isLowest-one (g .n) (order g) order-preorder (b .to) (t .at) (b .inside) (t .inside) (b .is-lowest) (p .0)
-          (sameClass-in a (b .to) (t .at) back (b .above))) in record {
+      let back = t .maximal (b .to) (b .inside) (and-in (b .is-lowest) (b .edge)) (b .above) in
+      b .apart
+      (isLowest-one (g .n) (order g) order-preorder (b .to) (t .at) (b .inside) (t .inside) (b .is-lowest) (p .0)
+      (sameClass-in a (b .to) (t .at) back (b .above))) in record {
         to = t .at;
         inside = t .inside;
         is-lowest = p .0;

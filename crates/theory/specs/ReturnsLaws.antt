@@ -45,11 +45,11 @@ module _ (a : Player) (c : ℕ → ℕ) (link : ℕ → ℕ → Bool) where
   -- so every closed walk has the player's parity exactly when no position returns
   pub closed-in : ((i : ℕ) → Return a c link i → ⊥) → (i : ℕ) (ks : List ℕ) → Walk link i ks i → So (parity a (seen min c i ks))
   closed-in none i ks w = elim (decide (parity a (seen min c i ks))) [
-      | inl t ↦ t
-      | inr f ↦ (
-          let s = seen-at c i ks in
-          absurd (none (s .0) (return-in (s .0) (record { start = i; between = ks; walk = w; on = s .1; lowest = s .2; wrong = f }))))
-    ]
+    | inl t ↦ t
+    | inr f ↦ (
+        let s = seen-at c i ks in
+        absurd (none (s .0) (return-in (s .0) (record { start = i; between = ks; walk = w; on = s .1; lowest = s .2; wrong = f }))))
+  ]
 
   pub closed-out : ((i : ℕ) (ks : List ℕ) → Walk link i ks i → So (parity a (seen min c i ks))) → (i : ℕ) → Return a c link i → ⊥
   closed-out closed i r = let w = return-out i r in clash (closed (w .start) (w .between) (w .walk)) (w .wrong)

@@ -217,6 +217,6 @@ module _ (op : ℕ → ℕ → ℕ) (a : Player) (G₁ G₂ : Game) (H : Rel) (s
       (length (carried H G₂ y P .vertices)) (λ k. getD (carried H G₂ y P .vertices) k 0) (linked (carried H G₂ y P .links)) y old carried-projects
 
 -- along any simulation, through the order that contains it
-pub transfer : (a : Player) (G₁ G₂ : Game) (x y : ℕ) → x < G₁ .n → y < G₂ .n → Below a G₁ G₂ x y → Won a G₁ x → Won a G₂ y
+unfoldable pub transfer : (a : Player) (G₁ G₂ : Game) (x y : ℕ) → x < G₁ .n → y < G₂ .n → Below a G₁ G₂ x y → Won a G₁ x → Won a G₂ y
 transfer a G₁ G₂ x y hx hy b (P, win) =
     (carried (below a G₁ G₂) G₂ y P, carried-wins _ a G₁ G₂ (below a G₁ G₂) (below-simulation a G₁ G₂) P x win y hy (below-in hx hy b))

@@ -42,7 +42,7 @@ module _ (a : Player) (G : Game) (len₁ : ℕ) (at₁ : ℕ → ℕ) (link₁ :
             let m = P .moves (x .i) (x .i-lt) t in
             let h = P .target (x .i) (m .0) (m .1) in
             let s : Succ G (at₂ (x .j)) (at₁ (m .0)) =
-                subst (λ (u : ℕ). Succ G u (at₁ (m .0))) (x .meet) (record { inside = P .vertex (m .0) h; along = P .follows (x .i) (m .0) (m .1) }) in
+            subst (λ (u : ℕ). Succ G u (at₁ (m .0))) (x .meet) (record { inside = P .vertex (m .0) h; along = P .follows (x .i) (m .0) (m .1) }) in
             let r = Q .answers (x .j) (x .j-lt) (opposed ∙ ap not t) (at₁ (m .0)) s in record {
               to = record { i = m .0; j = r .0; i-lt = h; j-lt = Q .target (x .j) (r .0) (r .1); meet = sym (r .2) };
               link-i = m .1;
@@ -52,7 +52,7 @@ module _ (a : Player) (G : Game) (len₁ : ℕ) (at₁ : ℕ → ℕ) (link₁ :
             let m = Q .moves (x .j) (x .j-lt) (opposed ∙ ap not f) in
             let h = Q .target (x .j) (m .0) (m .1) in
             let s : Succ G (at₁ (x .i)) (at₂ (m .0)) =
-                subst (λ (u : ℕ). Succ G u (at₂ (m .0))) (sym (x .meet)) (record { inside = Q .vertex (m .0) h; along = Q .follows (x .j) (m .0) (m .1) }) in
+            subst (λ (u : ℕ). Succ G u (at₂ (m .0))) (sym (x .meet)) (record { inside = Q .vertex (m .0) h; along = Q .follows (x .j) (m .0) (m .1) }) in
             let r = P .answers (x .i) (x .i-lt) f (at₂ (m .0)) s in record {
               to = record { i = r .0; j = m .0; i-lt = P .target (x .i) (r .0) (r .1); j-lt = h; meet = r .2 };
               link-i = r .1;
@@ -118,8 +118,8 @@ module _ (a : Player) (G : Game) (len₁ : ℕ) (at₁ : ℕ → ℕ) (link₁ :
     unfolding code
     contradiction =
         let r =
-            pigeonhole (len₁ * len₂) (λ k. code (after k begin))
-            (λ k h. digits-lt (after k begin .i-lt) (after k begin .j-lt)) in
+        pigeonhole (len₁ * len₂) (λ k. code (after k begin))
+        (λ k h. digits-lt (after k begin .i-lt) (after k begin .j-lt)) in
         apart (r .first) (r .second) (r .order) (r .equal)
 
 -- both players can't have a winning plan from v
