@@ -51,13 +51,13 @@ moves-out false false g h H v w t = λ w′ u. anyNext-out g v _ (allNext-out h 
 
 module _ (a : Player) (g h : Game) where
   -- a Bool-valued relation passes at (v, w), computed and in types
-  pub passes-in : (H : Rel) (v w : ℕ) → Passes a g h (Holds H) v w → So (equalPriority g h v w) × So (test a g h H v w)
-  unfolding equalPriority test
-  passes-in H v w p = (eq-eqb _ _ (p .equal), moves-in _ _ g h H v w (p .moves))
-
   pub passes-out : (H : Rel) (v w : ℕ) → So (equalPriority g h v w) → So (test a g h H v w) → Passes a g h (Holds H) v w
   unfolding equalPriority test
   passes-out H v w e t = record { equal = eqb-true _ _ e; moves = moves-out _ _ g h H v w t }
+
+  pub passes-in : (H : Rel) (v w : ℕ) → Passes a g h (Holds H) v w → So (equalPriority g h v w) × So (test a g h H v w)
+  unfolding equalPriority test
+  passes-in H v w p = (eq-eqb _ _ (p .equal), moves-in _ _ g h H v w (p .moves))
 
   -- ---- the order between two games, for a player
 

@@ -58,7 +58,7 @@ module _ (N : ℕ) (ok : Test) (start : ℕ → Bool) where
 
   unsettled : (j : ℕ) → j < rounds N ok start → settled N ok (pass N ok start j) ≡ false
   unfolding rounds
-  unsettled j h = first-before (λ k. settled N ok (pass N ok start k)) 0 (suc N) j (omega arith) h
+  unsettled j h = first-before _ 0 _ j (omega arith) h
 
   -- the count minus one is at most the marks at the start minus those at the end
   pub rounds-marks : rounds N ok start + count N (marked (finalMarks N ok start)) ≤ count N start

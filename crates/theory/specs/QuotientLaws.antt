@@ -71,13 +71,13 @@ module _ (g : Game) where
 
   -- ---- the computed quotient edge
 
-  pub quotientEdge-in : (c d : ℕ) → QuotientEdge g c d → So (quotientEdge g (order g) c d)
-  unfolding quotientEdge
-  quotientEdge-in c d f = all-in (g .n) _ (λ v h. imp-in (λ t. let r = f v h t in anyNext-in g v _ (r .0) (r .1) (r .2)))
-
   pub quotientEdge-out : (c d : ℕ) → So (quotientEdge g (order g) c d) → QuotientEdge g c d
   unfolding quotientEdge
   quotientEdge-out c d t v h s = anyNext-out g v _ (imp-out (all-out t .at v h) s)
+
+  pub quotientEdge-in : (c d : ℕ) → QuotientEdge g c d → So (quotientEdge g (order g) c d)
+  unfolding quotientEdge
+  quotientEdge-in c d f = all-in (g .n) _ (λ v h. imp-in (λ t. let r = f v h t in anyNext-in g v _ (r .0) (r .1) (r .2)))
 
   -- ---- lemma 1: a quotient edge above each successor. c is a's, with successor c′. Among the successors of a's members of c's class
   -- that are no worse than c′ take a maximal one, m′: every member of the class has a successor in the class of m′.

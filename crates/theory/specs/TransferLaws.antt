@@ -19,6 +19,7 @@ use Rattle.theory.specs.Simulation.{Moves, Passes, Simulation, Below}
 use Rattle.theory.specs.Order.{below}
 use Rattle.theory.specs.OrderLaws.{Holds, below-simulation, below-in}
 use Rattle.theory.specs.Plan.{Plan, linked, Walk, seen, Winning, WinsBy, Won}
+use Rattle.theory.specs.WalkLaws.{walk-over, seen-over}
 use Rattle.theory.specs.LinkLaws.{pairsOf-in, pairsOf-out}
 use Rattle.theory.specs.Transfer.{isPair, oldPosition, newVertex, newLink, positions, carried}
 
@@ -41,16 +42,6 @@ module _ (op : ℕ → ℕ → ℕ) (a : Player) (G₁ G₂ : Game)
     pub answers : (k : ℕ) → k < len′ → own G₂ a (at′ k) ≡ false → (u : ℕ) → Succ G₂ (at′ k) u → (l : ℕ) × So (link′ k l) × (at′ l ≡ u)
 
   module _ (p : Projects) where
-    walk-projects : (k : ℕ) (ls : List ℕ) (m : ℕ) → Walk link′ k ls m → Walk link (pos k) (map pos ls) (pos m)
-    walk-projects k [] m t = p .over k m t
-    walk-projects k (l ∷ ls) m t = (p .over k l (t .0), walk-projects l ls m (t .1))
-
-    seen-projects : (k : ℕ) (ls : List ℕ) (m : ℕ) → Walk link′ k ls m
-        → seen op (λ i. G₂ .priority (at′ i)) k ls ≡ seen op (λ i. G₁ .priority (at i)) (pos k) (map pos ls)
-    unfolding seen
-    seen-projects k [] m t = p .equal k (p .source k m t)
-    seen-projects k (l ∷ ls) m t = ap₂ op (p .equal k (p .source k l (t .0))) (seen-projects l ls m (t .1))
-
     pub winning-projects : Winning op a G₂ len′ at′ link′ w
     winning-projects = record {
       some = p .some;
@@ -61,7 +52,9 @@ module _ (op : ℕ → ℕ → ℕ) (a : Player) (G₁ G₂ : Game)
       follows = p .follows;
       moves = p .moves;
       answers = p .answers;
-      closed = λ i ks c. rw (seen-projects i ks i c) (win .closed (pos i) (map pos ks) (walk-projects i ks i c));
+      closed = λ i ks c.
+          rw (seen-over link link′ pos (p .over) op (λ i. G₁ .priority (at i)) (λ i. G₂ .priority (at′ i)) (λ k l t. p .equal k (p .source k l t)) i ks i c)
+          (win .closed (pos i) (map pos ks) (walk-over link link′ pos (p .over) i ks i c));
     }
 
 -- ---- step: a position i and a vertex u of G₂ that its vertex is related to

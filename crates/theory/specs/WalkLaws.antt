@@ -1,8 +1,8 @@
--- Laws of walks: joining, splitting at a position, and the lowest priority seen.
-use mathlib.Core.Path.{_≡_, refl, sym, ap, _∙_, subst}
+-- Laws of walks: joining, splitting at a position, the lowest priority seen, and walks over walks.
+use mathlib.Core.Path.{_≡_, refl, ap₂}
 use mathlib.Core.Logic.{_⊎_, inl, inr}
 use mathlib.Core.Bool.{Bool, So}
-use mathlib.Core.List.{List, [], _∷_, _++_}
+use mathlib.Core.List.{List, [], _∷_, _++_, map}
 use Prim.Native.Nat.{ℕ, _≤_, _<_, min}
 use native.Mathlib.Decide.{decLt}
 use native.Mathlib.Omega.{arith}
@@ -104,3 +104,16 @@ module _ (c : ℕ → ℕ) where
     where
       go : (k : ℕ) × In k (l ∷ ls) × (c k ≡ seen min c l ls) → (k : ℕ) × In k (i ∷ l ∷ ls) × (c k ≡ min (c i) (seen min c l ls))
       go (k, m, e) = elim (decLt (c i) (seen min c l ls)) [ yes h ↦ (i, inl refl, omega arith) | no h ↦ (k, inr m, omega arith) ]
+
+-- ---- a walk over another one: each link stands over a link, and what the positions see is the same
+
+module _ (link link′ : ℕ → ℕ → Bool) (pos : ℕ → ℕ) (over : (k l : ℕ) → So (link′ k l) → So (link (pos k) (pos l))) where
+  pub walk-over : (k : ℕ) (ls : List ℕ) (m : ℕ) → Walk link′ k ls m → Walk link (pos k) (map pos ls) (pos m)
+  walk-over k [] m t = over k m t
+  walk-over k (l ∷ ls) m t = (over k l (t .0), walk-over l ls m (t .1))
+
+  pub seen-over : (op : ℕ → ℕ → ℕ) (c c′ : ℕ → ℕ) → ((k l : ℕ) → So (link′ k l) → c′ k ≡ c (pos k))
+      → (k : ℕ) (ls : List ℕ) (m : ℕ) → Walk link′ k ls m → seen op c′ k ls ≡ seen op c (pos k) (map pos ls)
+  unfolding seen
+  seen-over op c c′ e k [] m t = e k m t
+  seen-over op c c′ e k (l ∷ ls) m t = ap₂ op (e k l (t .0)) (seen-over op c c′ e l ls m (t .1))
