@@ -30,6 +30,8 @@ pub mod ReductionLaws
 pub mod SizeLaws
 pub mod MixedLaws
 pub mod Demands
+pub mod Agreement
+pub mod AgreementLaws
 pub mod PlanTest
 pub mod PlanTestLaws
 pub mod Compute
