@@ -1,19 +1,22 @@
 -- Laws of lists of links.
-use mathlib.Core.Path.{_≡_, refl, sym, ap, _∙_, subst₂}
+use mathlib.Core.Path.{_≡_, refl, sym, ap, ap₂, _∙_, subst, subst₂}
 use mathlib.Core.Logic.{_⊎_, inl, inr}
 use mathlib.Core.Bool.{Bool, true, false, cond, So, false≢true}
-use mathlib.Core.List.{List, [], _∷_, _++_}
+use mathlib.Core.List.{List, [], _∷_, _++_, append-nil}
 use Prim.Native.Nat.{ℕ, zero, suc, _+_, _*_, _/_, _%_, _<_}
-use native.Mathlib.Nat.{not-suc-le-zero}
+use native.Mathlib.Nat.{not-suc-le-zero, le-of-suc-le-suc}
+use native.Mathlib.Decide.{decLt}
 use native.Mathlib.Omega.{arith}
 use lib.Dec.{eqb}
+use lib.ListN.{length, getD, length-append, List·getD-append}
+use lib.Seq.{getD-append-seam}
 use lib.Arith.{digits-lt, digits-div, digits-mod}
 use borrow.Author.Tests.{eqb-true, eq-eqb}
-use Rattle.theory.specs.Bools.{_&_, _or_}
+use Rattle.theory.specs.Bools.{_&_, _or_, bit}
 use Rattle.theory.specs.BoolsLaws.{and-in, and-out, or-left, or-right, or-out}
-use Rattle.theory.specs.Range.{pairsBelow, pairsOf}
+use Rattle.theory.specs.Range.{count, pairsBelow, pairsOf}
 use Rattle.theory.specs.RangeLaws.{below-suc}
-use Rattle.theory.specs.CountLaws.{row-lt, col-lt}
+use Rattle.theory.specs.CountLaws.{row-lt, col-lt, pair-ext}
 use Rattle.theory.specs.Plan.{linked}
 
 -- ---- a link of two lists is one of either
@@ -46,6 +49,39 @@ pub linked-one-out : (k l i j : ℕ) → So (linked ((k, l) ∷ []) i j) → (k 
 unfolding linked
 linked-one-out k l i j t =
     elim (or-out t) [ inl a ↦ (let p = and-out a in (eqb-true k i (p .0), eqb-true l j (p .1))) | inr b ↦ absurd (false≢true b) ]
+
+-- ---- links by their number
+
+pub linked-at : (ls : List (ℕ × ℕ)) (k : ℕ) → k < length ls → So (linked ls (getD ls k (0, 0) .0) (getD ls k (0, 0) .1))
+unfolding linked
+linked-at [] k h = absurd (not-suc-le-zero h)
+linked-at (l ∷ ls) zero h = or-left (linked ls (l .0) (l .1)) (and-in (eq-eqb (l .0) (l .0) refl) (eq-eqb (l .1) (l .1) refl))
+linked-at (l ∷ ls) (suc k) h = or-right _ (linked-at ls k (le-of-suc-le-suc h))
+
+pub linked-find : (ls : List (ℕ × ℕ)) (i j : ℕ) → So (linked ls i j) → (k : ℕ) × (k < length ls) × (getD ls k (0, 0) ≡ (i, j))
+unfolding linked
+linked-find [] i j t = absurd (false≢true t)
+linked-find (l ∷ ls) i j t = elim (or-out t) [
+  | inl a ↦ (let p = and-out a in (zero, omega arith, pair (eqb-true (l .0) i (p .0)) (eqb-true (l .1) j (p .1))))
+  | inr b ↦ (let r = linked-find ls i j b in (suc (r .0), omega arith, r .2))
+]
+  where
+    pair : {x y : ℕ} → x ≡ i → y ≡ j → _≡_ {A = ℕ × ℕ} (x, y) (i, j)
+    pair p q = ap₂ {C = ℕ × ℕ} (λ x y. (x, y)) p q
+
+-- each link stands in the list a single time
+abbrev pub Single : List (ℕ × ℕ) → Type 0
+Single ls = (i j : ℕ) → i < j → j < length ls → getD ls i (0, 0) ≡ getD ls j (0, 0) → ⊥
+
+pub single-snoc : (ls : List (ℕ × ℕ)) (x : ℕ × ℕ) → Single ls → (So (linked ls (x .0) (x .1)) → ⊥) → Single (ls ++ (x ∷ []))
+single-snoc ls x once new i j h l e =
+    elim (decLt j (length ls)) [
+      | yes b ↦ once i j h b (sym (List·getD-append ls (x ∷ []) (0, 0) i (omega arith)) ∙ e ∙ List·getD-append ls (x ∷ []) (0, 0) j b)
+      | no b ↦ (
+          let q : j ≡ length ls = omega (arith, length-append ls (x ∷ [])) in
+          let f : getD ls i (0, 0) ≡ x = sym (List·getD-append ls (x ∷ []) (0, 0) i (omega arith)) ∙ e ∙ rw q (getD-append-seam ls x [] (0, 0)) in
+          new (subst (λ (y : ℕ × ℕ). So (linked ls (y .0) (y .1))) f (linked-at ls i (omega arith))))
+    ]
 
 -- ---- the list of a relation's pairs
 
@@ -93,3 +129,30 @@ module _ (n : ℕ) (r : ℕ → ℕ → Bool) where
   pairsOf-out i j t =
       let p = pairsBelow-out (n * n) i j t in
       (rw (p .row) at (row-lt n n (p .number) (p .inside)), rw (p .column) at (col-lt n n (p .number) (p .inside)), p .holds)
+
+  -- each pair stands there a single time: the next one is no earlier one
+  pairsBelow-single : (k : ℕ) → Single (pairsBelow n r k)
+  unfolding pairsBelow
+  pairsBelow-single zero = λ i j h l e. not-suc-le-zero l
+  pairsBelow-single (suc k) = go (r (k / n) (k % n)) (pairsBelow-single k)
+    where
+      go : (b : Bool) → Single (pairsBelow n r k) → Single (pairsBelow n r k ++ cond b ((k / n, k % n) ∷ []) [])
+      go true once = single-snoc (pairsBelow n r k) (k / n, k % n) once (λ t.
+          let p = pairsBelow-out k (k / n) (k % n) t in
+          let e = pair-ext n (p .number) k (p .row) (p .column) in
+          omega (arith, p .inside))
+      go false once = rw (append-nil (pairsBelow n r k)) once
+
+  pub pairsOf-single : Single (pairsOf n r)
+  unfolding pairsOf
+  pairsOf-single = pairsBelow-single (n * n)
+
+  -- and there are as many as the relation holds
+  pub length-pairsBelow : (k : ℕ) → length (pairsBelow n r k) ≡ count k (λ i. r (i / n) (i % n))
+  unfolding pairsBelow count bit
+  length-pairsBelow zero = refl
+  length-pairsBelow (suc k) = go (r (k / n) (k % n)) (length-pairsBelow k)
+    where
+      go : (b : Bool) {c : ℕ} → length (pairsBelow n r k) ≡ c → length (pairsBelow n r k ++ cond b ((k / n, k % n) ∷ []) []) ≡ c + bit b
+      go true e = omega (arith, length-append (pairsBelow n r k) ((k / n, k % n) ∷ []))
+      go false e = omega (arith, length-append (pairsBelow n r k) [])
