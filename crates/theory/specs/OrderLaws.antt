@@ -2,11 +2,12 @@
 use mathlib.Core.Path.{_≡_, refl, sym}
 use mathlib.Core.Bool.{Bool, true, false, So}
 use Prim.Native.Nat.{ℕ, suc, _+_, _*_, _≤_, _<_}
+use lib.ListN.{length}
 use borrow.Author.Tests.{eqb-true, eq-eqb}
 use Rattle.theory.specs.BoolsLaws.{So-ext, and-in, and-out, imp-in, imp-out}
 use Rattle.theory.specs.RangeLaws.{all-in, all-out, any-in, any-out}
-use Rattle.theory.specs.Passes.{Rel, relOf}
-use Rattle.theory.specs.PassesLaws.{largest, largest-start, largest-fixed, largest-contains, passes-le}
+use Rattle.theory.specs.Passes.{Rel, relOf, pairStart, pairTest}
+use Rattle.theory.specs.PassesLaws.{length-finalMarks, largest, largest-start, largest-fixed, largest-contains, passes-le}
 use Rattle.theory.specs.Game.{Player, even, odd, other, Game, own, Next, Succ}
 use Rattle.theory.specs.Simulation.{Moves, Passes, Simulation, DirectSimulation, Below}
 use Rattle.theory.specs.SimulationLaws.{moves-mono, below-dual, below-refl, below-trans}
@@ -96,6 +97,10 @@ module _ (g : Game) where
   pub order-out : {v w : ℕ} → So (order g v w) → Below even g g v w
   unfolding order orderMarks below
   order-out t = below-out t
+
+  pub length-orderMarks : length (orderMarks g) ≡ g .n * g .n
+  unfolding orderMarks marksBetween
+  length-orderMarks = length-finalMarks (g .n * g .n) (pairTest (g .n) (test even g g)) (pairStart (g .n) (equalPriority g g))
 
   pub order-simulation : DirectSimulation g g (Holds (order g))
   unfolding order orderMarks below

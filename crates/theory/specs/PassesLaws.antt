@@ -22,6 +22,10 @@ module _ (N : ℕ) (ok : Test) (start : ℕ → Bool) where
   length-pass zero = length-tabulate N start
   length-pass (suc k) = length-tabulate N _
 
+  pub length-finalMarks : length (finalMarks N ok start) ≡ N
+  unfolding finalMarks
+  length-finalMarks = length-pass (rounds N ok start)
+
   pub pass-zero : (i : ℕ) → i < N → marked (pass N ok start zero) i ≡ start i
   unfolding pass
   pass-zero i h = getD-tabulate N start false i h
