@@ -1,4 +1,15 @@
 pub mod Table
+pub mod TableLaws
 pub mod Verdict
+pub mod VerdictLaws
+pub mod Rules
+pub mod RulesLaws
 pub mod Reading
+pub mod ReadingRules
 pub mod WellFormed
+pub mod ReadingLaws
+pub mod Kind
+pub mod KindLaws
+pub mod Parts
+pub mod PartsLaws
+pub mod SearchLaws

@@ -4,10 +4,12 @@ use mathlib.Core.List.{List, [], _∷_}
 use Prim.Native.Nat.{ℕ, _+_, _*_}
 use lib.Dec.{eqb, ltb, leb}
 use lib.ListN.{length, getD}
-use Rattle.theory.specs.Bools.{_&_, _or_}
+use Rattle.theory.specs.Bools.{_or_}
 use Rattle.theory.specs.Range.{anyBelow, first}
 use Rattle.table.specs.Table.{vertexCount, tableEdges, sourceAt, targetAt, tableLength, isEdge}
-use Rattle.table.specs.Verdict.{Row, Answer, judge}
+use Rattle.table.specs.Verdict.{Row, Answer, accepted, refused, judge}
+use Rattle.table.specs.declared.Reading.{Reading}
+use Rattle.table.specs.declared.Reading.the-variants.{Accepted, Refused}
 
 -- edge j equals an earlier one
 unfoldable pub repeatsEarlier : List ℕ → ℕ → Bool
@@ -52,3 +54,8 @@ gameRows g =
 -- the reader's answer: accepted with n and m
 unfoldable pub readAnswer : List ℕ → Answer
 readAnswer g = judge (gameRows g) (vertexCount g ∷ tableEdges g ∷ [])
+
+-- what the cases of the reader's verdict say
+abbrev pub readingAnswer : Reading → Answer
+readingAnswer (Accepted c) = accepted (c .vertices ∷ c .edges ∷ [])
+readingAnswer (Refused f) = refused (f .number) (f .place)

@@ -1,7 +1,8 @@
 -- The game table: document 01, "The game table", and the game that its words stand for.
+use mathlib.Core.Path.{_≡_}
 use mathlib.Core.Bool.{Bool, cond}
 use mathlib.Core.List.{List}
-use Prim.Native.Nat.{ℕ, _+_, _*_}
+use Prim.Native.Nat.{ℕ, _+_, _*_, _<_}
 use lib.Dec.{eqb}
 use lib.ListN.{getD}
 use Rattle.theory.specs.Bools.{_&_}
@@ -40,6 +41,12 @@ playerOf w = cond (eqb w 0) even odd
 -- edge j leads from v to w
 unfoldable pub isEdge : List ℕ → ℕ → ℕ → ℕ → Bool
 isEdge g v w j = eqb (sourceAt g j) v & eqb (targetAt g j) w
+
+-- the same as a fact, with edge j in the table
+pub record Listed (g : List ℕ) (v w j : ℕ) : Type 0 where
+  pub inside : j < tableEdges g
+  pub source : sourceAt g j ≡ v
+  pub target : targetAt g j ≡ w
 
 -- the game of a table: an edge wherever the table lists one
 unfoldable pub gameOf : List ℕ → Game

@@ -1,7 +1,8 @@
 -- Verdicts: document 01, "Turned down for the input" and "Turned down for the state of the lent memory". A call has a table of
 -- refusals, its rows in order; the first row whose condition holds is its refusal, and otherwise it is accepted with its counts.
-use mathlib.Core.Bool.{Bool, true, false, cond}
-use mathlib.Core.List.{List, [], _∷_, _++_, map}
+use mathlib.Core.Path.{_≡_}
+use mathlib.Core.Bool.{Bool, false, cond}
+use mathlib.Core.List.{List, [], _∷_, _++_}
 use Prim.Native.Nat.{ℕ}
 use lib.ListN.{length, drop}
 
@@ -19,6 +20,11 @@ pub data Answer : Type 0 where
 unfoldable pub judge : List Row → List ℕ → Answer
 judge [] counts = accepted counts
 judge (r ∷ rs) counts = cond (r .condition) (refused (r .number) (r .place)) (judge rs counts)
+
+-- no condition of these rows holds
+abbrev pub Clean : List Row → Type 0
+Clean [] = Unit
+Clean (r ∷ rs) = (r .condition ≡ false) × Clean rs
 
 -- ---- lent memory
 

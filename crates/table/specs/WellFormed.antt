@@ -4,6 +4,7 @@ use mathlib.Core.List.{List}
 use Prim.Native.Nat.{ℕ, _≤_, _<_}
 use lib.ListN.{length}
 use Rattle.table.specs.Table.{vertexCount, tableEdges, ownerAt, sourceAt, targetAt, tableLength}
+use Rattle.table.specs.declared.Sizes.{Sizes}
 
 pub record WellFormed (g : List ℕ) : Type 0 where
   pub some : 0 < vertexCount g
@@ -17,3 +18,9 @@ pub record WellFormed (g : List ℕ) : Type 0 where
   pub distinct : (i j : ℕ) → i < j → j < tableEdges g → sourceAt g i ≡ sourceAt g j → targetAt g i ≡ targetAt g j → ⊥
   -- every vertex has an edge out
   pub total : (v : ℕ) → v < vertexCount g → (j : ℕ) × (j < tableEdges g) × (sourceAt g j ≡ v)
+
+-- a well-formed table of these sizes: what the reader's `Accepted` tells a caller
+pub record WellSized (g : List ℕ) (c : Sizes) : Type 0 where
+  pub well : WellFormed g
+  pub vertices : c .vertices ≡ vertexCount g
+  pub edges : c .edges ≡ tableEdges g

@@ -1,0 +1,112 @@
+// The reader and the kind call: document 01's games, bad input of each kind, the limits.
+use crate::print;
+use crate::tables;
+use table::Reading;
+
+fn reads(name: &[u8], game: &[u16]) {
+    print::text(name);
+    let r = table::read(game);
+    match r {
+        Reading::Accepted(c) => {
+            print::text(b" accepted");
+            print::number(c.vertices as u64);
+            print::number(c.edges as u64);
+            print::end_line();
+        }
+        Reading::Refused(f) => print::refused(f),
+    }
+}
+
+// The largest table, with one word changed.
+fn reads_largest_with(name: &[u8], at: usize, word: u16) {
+    let mut game = [0u16; 8706];
+    tables::largest(&mut game);
+    tables::put(&mut game, at, word);
+    reads(name, &game);
+}
+
+pub fn games() {
+    let words = [1u16, 1, 1, 1, 0, 0];
+    reads(b"P1", &words);
+    reads(b"P2", &words[..0]);
+    reads(b"P3", &[0, 0]);
+    reads(b"P4", &[1, 0, 0, 0]);
+    reads(b"P5", &[1, 1, 0, 2, 0, 0]);
+    reads(b"P6", &[1, 1, 0, 0, 0, 1]);
+    reads(b"P7", &[1, 2, 0, 0, 0, 0, 0, 0]);
+    reads(b"B", &tables::b());
+    reads(b"C", &tables::c());
+    reads(b"D", &tables::d());
+}
+
+// Refusals 1 to 4.
+pub fn bad_sizes() {
+    reads(b"one_word", &[7]);
+    reads(b"sizes_alone", &[1, 1]);
+    reads(b"one_word_short", &[1, 1, 1, 1, 0]);
+    reads(b"one_word_long", &[1, 1, 1, 1, 0, 0, 0]);
+    reads(b"both_sizes_too_large", &[257, 4097]);
+}
+
+// Refusals 5 to 8.
+pub fn bad_words() {
+    reads(
+        b"late_owner_before_early_source",
+        &[2, 2, 0, 0, 0, 2, 2, 1, 0, 0],
+    );
+    reads(
+        b"late_source_before_early_target",
+        &[2, 2, 0, 0, 0, 0, 0, 2, 2, 0],
+    );
+    reads(b"target_at_n", &[2, 2, 0, 0, 0, 0, 0, 1, 1, 2]);
+    reads(
+        b"first_of_two_repeats",
+        &[2, 4, 0, 0, 0, 0, 0, 1, 1, 0, 1, 0, 0, 1],
+    );
+    reads(
+        b"repeat_before_lacking",
+        &[3, 3, 0, 0, 0, 0, 0, 0, 1, 1, 2, 0, 0, 0],
+    );
+    reads(b"lacking_0_and_2", &[3, 1, 0, 0, 0, 0, 0, 0, 1, 1]);
+    reads(b"lacking_last", &[3, 2, 0, 0, 0, 0, 0, 0, 1, 0, 2, 2]);
+}
+
+pub fn limits() {
+    reads_largest_with(b"n_256_m_4096", 0, 256);
+    reads_largest_with(b"n_257", 0, 257);
+    reads_largest_with(b"n_0", 0, 0);
+    reads_largest_with(b"m_4097", 1, 4097);
+    reads_largest_with(b"m_4095", 1, 4095);
+    reads_largest_with(b"priority_65535", 2, 65535);
+    reads_largest_with(b"last_owner_2", 513, 2);
+    reads_largest_with(b"first_source_256", 514, 256);
+    reads_largest_with(b"last_target_256", 8705, 256);
+    reads_largest_with(b"last_edge_repeats", 8705, 0);
+}
+
+fn kind(number: u32) {
+    print::text(b"kind");
+    print::number(number as u64);
+    print::number(table::kind(number) as u64);
+    print::end_line();
+}
+
+pub fn kinds() {
+    kind(0);
+    kind(1);
+    kind(8);
+    kind(9);
+    kind(10);
+    kind(11);
+    kind(16);
+    kind(17);
+    kind(20);
+    kind(21);
+    kind(24);
+    kind(25);
+    kind(30);
+    kind(31);
+    kind(99);
+    kind(100);
+    kind(4294967295);
+}

@@ -1,0 +1,93 @@
+// Game tables that the cases share.
+ghost use mathlib.Core.Path.{_≡_};
+ghost use lib.ListN.{length};
+
+pub fn b() -> [u16; 14] {
+    [3, 3, 0, 1, 0, 0, 0, 1, 0, 1, 2, 1, 1, 1]
+}
+
+pub fn c() -> [u16; 26] {
+    [
+        5,
+        7,
+        2,
+        0,
+        0,
+        1,
+        4,
+        0,
+        0,
+        0,
+        0,
+        0,
+        0,
+        0,
+        1,
+        2,
+        2,
+        3,
+        4,
+        1,
+        2,
+        3,
+        3,
+        4,
+        3,
+        4,
+    ]
+}
+
+pub fn d() -> [u16; 30] {
+    [
+        6,
+        8,
+        2,
+        0,
+        0,
+        1,
+        4,
+        2,
+        0,
+        0,
+        0,
+        0,
+        0,
+        0,
+        0,
+        0,
+        1,
+        2,
+        2,
+        3,
+        4,
+        5,
+        1,
+        2,
+        3,
+        3,
+        4,
+        3,
+        4,
+        2,
+    ]
+}
+
+// 256 vertices and 4,096 edges: 16 from each vertex v, to v + 0, .., v + 15, modulo 256.
+pub fn largest(game: &mut [u16])
+    requires { ⌜ length (now game) ≡ 8706 ⌝ }
+{
+    game[0] = 256;
+    game[1] = 4096;
+    let mut j = 0;
+    while j < 4096 {
+        game[514 + j] = (j % 256) as u16;
+        game[4610 + j] = ((j % 256 + j / 256) % 256) as u16;
+        j += 1;
+    }
+}
+
+pub fn put(game: &mut [u16], at: usize, word: u16) {
+    if at < game.len() {
+        game[at] = word;
+    }
+}

@@ -1,0 +1,156 @@
+-- Laws of the reader: its computed rows render document 01's, so it refuses k at p exactly as that table says, and accepts exactly
+-- the well-formed tables.
+use mathlib.Core.Path.{_≡_, sym}
+use mathlib.Core.Logic.{_⊎_, inl, inr, _↔_, _≢_, ⊎-elim}
+use mathlib.Core.Bool.{not, So}
+use mathlib.Core.List.{List, [], _∷_, _++_}
+use Prim.Native.Nat.{ℕ, _+_, _-_, _*_, _≤_, _<_}
+use native.Mathlib.Decide.{decLt, decLe, ℕ-discrete}
+use native.Mathlib.Omega.{arith}
+use lib.Dec.{eqb, ltb, leb}
+use lib.ListN.{length, getD}
+use borrow.Author.Tests.{ltb-true, lt-ltb, leb-true, le-leb, eqb-true, eqb-false, eq-eqb, ne-eqb, not-false}
+use Rattle.theory.specs.Bools.{_or_}
+use Rattle.theory.specs.BoolsLaws.{decide, So-not, not-in, not-out, and-in, and-out, or-left, or-right, or-out}
+use Rattle.theory.specs.Range.{anyBelow}
+use Rattle.theory.specs.RangeLaws.{any-in, any-out, any-fails}
+use Rattle.table.specs.Table.{vertexCount, tableEdges, ownerAt, sourceAt, targetAt, tableLength, isEdge}
+use Rattle.table.specs.Verdict.{Row, accepted, refused, judge, Clean}
+use Rattle.table.specs.Rules.{Some, FirstRule, NoRule, no-rule, fails, Rendered, none, next}
+use Rattle.table.specs.VerdictLaws.{judge-accepted, judge-clean, judge-past, judge-stays}
+use Rattle.table.specs.RulesLaws.{renders-placed, renders-first, judge-refused, judge-refuses, clean-none, none-clean}
+use Rattle.table.specs.Reading.{repeatsEarlier, lacksEdge, firstOwner, firstEnd, firstRepeat, firstLacking, gameRows, readAnswer, readingAnswer}
+use Rattle.table.specs.ReadingRules.{Repeats, Lacks, gameRules}
+use Rattle.table.specs.WellFormed.{WellFormed, WellSized}
+use Rattle.table.specs.declared.Sizes.{Sizes}
+use Rattle.table.specs.declared.Refusal.{Refusal}
+use Rattle.table.specs.declared.Reading.the-variants.{Accepted, Refused}
+
+-- ---- what the reader's tests say
+
+bad-count : (n : ℕ) → So (eqb n 0 or ltb 256 n) ↔ ((n ≡ 0) ⊎ (256 < n))
+bad-count n = (
+  λ h. ⊎-elim (λ a. inl (eqb-true n 0 a)) (λ b. inr (ltb-true 256 n b)) (or-out h),
+  λ s. ⊎-elim (λ a. or-left (ltb 256 n) (eq-eqb n 0 a)) (λ b. or-right (eqb n 0) (lt-ltb 256 n b)) s,
+)
+
+differs : (a b : ℕ) → So (not (eqb a b)) ↔ (a ≢ b)
+differs a b = (λ h. eqb-false a b (not-out h), λ d. not-in (ne-eqb a b d))
+
+repeats : (g : List ℕ) (j : ℕ) → So (repeatsEarlier g j) ↔ Repeats g j
+unfolding repeatsEarlier isEdge
+repeats g j = (
+  λ h. let r = any-out h in let e = and-out (r .2) in (r .0, r .1, eqb-true (sourceAt g (r .0)) (sourceAt g j) (e .0), eqb-true (targetAt g (r .0)) (targetAt g j) (e .1)),
+  λ r. any-in j _ (r .0) (r .1) (and-in (eq-eqb (sourceAt g (r .0)) (sourceAt g j) (r .2)) (eq-eqb (targetAt g (r .0)) (targetAt g j) (r .3))),
+)
+
+lacks : (g : List ℕ) (v : ℕ) → So (lacksEdge g v) ↔ Lacks g v
+unfolding lacksEdge
+lacks g v = (
+  λ h j l. eqb-false (sourceAt g j) v (any-fails (tableEdges g) _ (not-out h) j l),
+  λ d. not-in {b = anyBelow (tableEdges g) (λ j. eqb (sourceAt g j) v)} (So-not (λ h. let r = any-out h in d (r .0) (r .1) (eqb-true (sourceAt g (r .0)) v (r .2)))),
+)
+
+pub rows-render : (g : List ℕ) → Rendered (gameRows g) (gameRules g)
+unfolding gameRows firstOwner firstEnd firstRepeat firstLacking
+rows-render g =
+    let n = vertexCount g in
+    let m = tableEdges g in
+    next (renders-placed 1 (length g) _ _ (ltb-true (length g) 2, lt-ltb (length g) 2))
+    (next (renders-placed 2 0 _ _ (bad-count n))
+    (next (renders-placed 3 1 _ _ (ltb-true 4096 m, lt-ltb 4096 m))
+    (next (renders-placed 4 (length g) _ _ (differs (length g) (tableLength n m)))
+    (next (renders-first 5 (λ k. ltb 1 (getD g k 0)) (λ k. 1 < getD g k 0) (2 + n) (2 + 2 * n) (λ k. k) (omega arith) (λ k. (ltb-true 1 (getD g k 0), lt-ltb 1 (getD g k 0))))
+    (next (renders-first 6 (λ k. leb n (getD g k 0)) (λ k. n ≤ getD g k 0) (2 + 2 * n) (tableLength n m) (λ k. k) (omega arith) (λ k. (leb-true n (getD g k 0), le-leb n (getD g k 0))))
+    (next (renders-first 7 (repeatsEarlier g) (Repeats g) 0 m (λ j. 2 + 2 * n + j) (omega arith) (repeats g))
+    (next (renders-first 8 (lacksEdge g) (Lacks g) 0 n (λ v. v) (omega arith) (lacks g))
+    none)))))))
+
+-- ---- the reader refuses k at p exactly if rule k is the first whose condition holds, and it names p
+
+pub read-refused : (g : List ℕ) (k p : ℕ) → (readAnswer g ≡ refused k p) ↔ FirstRule (gameRules g) k p
+unfolding readAnswer
+read-refused g k p = (judge-refused (rows-render g) _ k p, λ f. judge-refuses (rows-render g) f _)
+
+-- ---- it accepts exactly the well-formed tables, with n and m
+
+none-well : (g : List ℕ) → NoRule (gameRules g) → WellFormed g
+unfolding lacksEdge
+none-well g (fails d₁ (fails d₂ (fails d₃ (fails d₄ (fails d₅ (fails d₆ (fails d₇ (fails d₈ no-rule)))))))) = record {
+  some = let x : vertexCount g ≢ 0 = λ e. d₂ (inl e) in omega arith;
+  vertices = let x : ¬ (256 < vertexCount g) = λ l. d₂ (inr l) in omega arith;
+  edges = omega arith;
+  size = elim (ℕ-discrete (length g) (tableLength (vertexCount g) (tableEdges g))) [ yes e ↦ e | no e ↦ absurd (d₄ e) ];
+  owners = λ v h. elim (decLt 1 (ownerAt g v)) [ yes l ↦ absurd (d₅ (2 + vertexCount g + v, omega arith, omega arith, l)) | no l ↦ omega arith ];
+  sources = λ j h. inside (2 + 2 * vertexCount g + j) (omega arith) (omega arith);
+  targets = λ j h. inside (2 + 2 * vertexCount g + tableEdges g + j) (omega arith) (omega arith);
+  distinct = λ i j l h e f. d₇ (j, omega arith, h, (i, l, e, f));
+  total = λ v h. elim (decide (lacksEdge g v)) [
+    | inl t ↦ absurd (d₈ (v, omega arith, h, lacks g v .0 t))
+    | inr f ↦ (let r = any-out {n = tableEdges g} {p = λ j. eqb (sourceAt g j) v} (not-false _ f) in (r .0, r .1, eqb-true (sourceAt g (r .0)) v (r .2)))
+  ];
+}
+  where
+    inside : (k : ℕ) → 2 + 2 * vertexCount g ≤ k → k < tableLength (vertexCount g) (tableEdges g) → getD g k 0 < vertexCount g
+    inside k a b = elim (decLe (vertexCount g) (getD g k 0)) [ yes l ↦ absurd (d₆ (k, a, b, l)) | no l ↦ omega arith ]
+
+well-none : (g : List ℕ) → WellFormed g → NoRule (gameRules g)
+well-none g w =
+    fails (λ (h : length g < 2). omega (arith, w .size))
+    (fails count
+    (fails (λ (h : 4096 < tableEdges g). omega (arith, w .edges))
+    (fails (λ (h : length g ≢ tableLength (vertexCount g) (tableEdges g)). h (w .size))
+    (fails owner
+    (fails inside
+    (fails (λ (h : Some (Repeats g) 0 (tableEdges g)). let r = h .3 in w .distinct (r .0) (h .0) (r .1) (h .2) (r .2) (r .3))
+    (fails (λ (h : Some (Lacks g) 0 (vertexCount g)). let t = w .total (h .0) (h .2) in h .3 (t .0) (t .1) (t .2)) no-rule)))))))
+  where
+    count : (vertexCount g ≡ 0) ⊎ (256 < vertexCount g) → ⊥
+    count (inl e) = omega (arith, w .some)
+    count (inr l) = omega (arith, w .vertices)
+
+    at : (a k : ℕ) → a ≤ k → a + (k - a) ≡ k
+    at a k l = omega arith
+
+    owner : Some (λ k. 1 < getD g k 0) (2 + vertexCount g) (2 + 2 * vertexCount g) → ⊥
+    owner h =
+        let k = h .0 in
+        let x = rw (at (2 + vertexCount g) k (h .1)) at (w .owners (k - (2 + vertexCount g)) (omega arith)) in
+        omega arith
+
+    inside : Some (λ k. vertexCount g ≤ getD g k 0) (2 + 2 * vertexCount g) (tableLength (vertexCount g) (tableEdges g)) → ⊥
+    inside h =
+        let k = h .0 in
+        let s = 2 + 2 * vertexCount g in
+        let t = 2 + 2 * vertexCount g + tableEdges g in
+        elim (decLt k t) [
+          | yes l ↦ (let x = rw (at s k (h .1)) at (w .sources (k - s) (omega arith)) in omega arith)
+          | no l ↦ (let x = rw (at t k (omega arith)) at (w .targets (k - t) (omega arith)) in omega arith)
+        ]
+
+pub well-clean : (g : List ℕ) → WellFormed g → Clean (gameRows g)
+well-clean g w = none-clean (rows-render g) (well-none g w)
+
+pub read-accepted : (g counts : List ℕ) → readAnswer g ≡ accepted counts → WellFormed g × (counts ≡ vertexCount g ∷ tableEdges g ∷ [])
+unfolding readAnswer
+read-accepted g counts e = let a = judge-accepted (gameRows g) _ counts e in (none-well g (clean-none (rows-render g) (a .0)), sym (a .1))
+
+pub read-accepts : (g : List ℕ) → WellFormed g → readAnswer g ≡ accepted (vertexCount g ∷ tableEdges g ∷ [])
+unfolding readAnswer
+read-accepts g w = judge-clean (gameRows g) _ (well-clean g w)
+
+-- ---- for a caller of `read`, whose rows are the reader's and then its own
+
+pub reading-accepted : (g : List ℕ) (c : Sizes) → readingAnswer (Accepted c) ≡ readAnswer g → WellSized g c
+reading-accepted g c e =
+    let a = read-accepted g _ (sym e) in
+    record { well = a .0; vertices = cc (a .1); edges = cc (a .1) }
+
+pub reading-past : (g : List ℕ) (c : Sizes) → readingAnswer (Accepted c) ≡ readAnswer g → (rs : List Row) (counts : List ℕ)
+    → judge (gameRows g ++ rs) counts ≡ judge rs counts
+reading-past g c e rs counts = judge-past (gameRows g) rs counts (well-clean g (reading-accepted g c e .well))
+
+pub reading-stays : (g : List ℕ) (f : Refusal) → readingAnswer (Refused f) ≡ readAnswer g → (rs : List Row) (counts : List ℕ)
+    → judge (gameRows g ++ rs) counts ≡ readingAnswer (Refused f)
+unfolding readAnswer
+reading-stays g f e rs counts = judge-stays (gameRows g) rs _ counts (f .number) (f .place) (sym e)

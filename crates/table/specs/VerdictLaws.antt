@@ -1,0 +1,95 @@
+-- Laws of verdicts, for the rows of any call.
+use mathlib.Core.Path.{_≡_, refl, sym, _∙_}
+use mathlib.Core.Bool.{Bool, true, false, cond, So}
+use mathlib.Core.List.{List, [], _∷_, _++_}
+use Prim.Native.Nat.{ℕ, _+_, _-_, _≤_, _<_}
+use native.Mathlib.Omega.{arith}
+use lib.ListN.{length, drop, getD, length-append, length-drop, List·getD-append}
+use lib.Seq.{getD-append-add, getD-drop}
+use Rattle.table.specs.Verdict.{Row, Answer, accepted, refused, judge, Clean, written, after}
+
+-- ---- answers
+
+pub accepted-inj : {xs ys : List ℕ} → accepted xs ≡ accepted ys → xs ≡ ys
+accepted-inj e = cc
+
+pub refused-inj : {k k′ p p′ : ℕ} → refused k p ≡ refused k′ p′ → (k ≡ k′) × (p ≡ p′)
+refused-inj e = (cc, cc)
+
+-- no answer is both
+pub not-both : {xs : List ℕ} {k p : ℕ} → refused k p ≡ accepted xs → ⊥
+not-both e = let z : _≡_ {A = ℕ} 0 1 = cc in omega arith
+
+-- ---- one row: its condition holds, or the next row decides
+
+pub judge-hit : (r : Row) (rs : List Row) (counts : List ℕ) → So (r .condition) → judge (r ∷ rs) counts ≡ refused (r .number) (r .place)
+unfolding judge
+judge-hit r rs counts h = rw h
+
+pub judge-next : (r : Row) (rs : List Row) (counts : List ℕ) → r .condition ≡ false → judge (r ∷ rs) counts ≡ judge rs counts
+unfolding judge
+judge-next r rs counts h = rw h
+
+-- ---- accepted exactly if no condition holds, and then with these counts
+
+pub judge-clean : (rs : List Row) (counts : List ℕ) → Clean rs → judge rs counts ≡ accepted counts
+unfolding judge
+judge-clean [] counts c = refl
+judge-clean (r ∷ rs) counts c = judge-next r rs counts (c .0) ∙ judge-clean rs counts (c .1)
+
+pub judge-accepted : (rs : List Row) (counts given : List ℕ) → judge rs counts ≡ accepted given → Clean rs × (counts ≡ given)
+unfolding judge
+judge-accepted [] counts given e = (tt, accepted-inj e)
+judge-accepted (r ∷ rs) counts given e = go (r .condition) refl e (judge-accepted rs counts given)
+  where
+    go : (b : Bool) → r .condition ≡ b → cond b (refused (r .number) (r .place)) (judge rs counts) ≡ accepted given
+        → (judge rs counts ≡ accepted given → Clean rs × (counts ≡ given)) → Clean (r ∷ rs) × (counts ≡ given)
+    go true f e ih = absurd (not-both e)
+    go false f e ih = let a = ih e in ((f, a .0), a .1)
+
+-- ---- the rows of a call are the reader's and then its own
+
+pub judge-past : (rs ss : List Row) (counts : List ℕ) → Clean rs → judge (rs ++ ss) counts ≡ judge ss counts
+judge-past [] ss counts c = refl
+judge-past (r ∷ rs) ss counts c = judge-next r (rs ++ ss) counts (c .0) ∙ judge-past rs ss counts (c .1)
+
+-- a refusal stands, whatever rows and counts follow
+pub judge-stays : (rs ss : List Row) (counts given : List ℕ) (k p : ℕ) → judge rs counts ≡ refused k p → judge (rs ++ ss) given ≡ refused k p
+unfolding judge
+judge-stays [] ss counts given k p e = absurd (not-both (sym e))
+judge-stays (r ∷ rs) ss counts given k p e = go (r .condition) e (judge-stays rs ss counts given k p)
+  where
+    go : (b : Bool) → cond b (refused (r .number) (r .place)) (judge rs counts) ≡ refused k p
+        → (judge rs counts ≡ refused k p → judge (rs ++ ss) given ≡ refused k p)
+        → cond b (refused (r .number) (r .place)) (judge (rs ++ ss) given) ≡ refused k p
+    go true e ih = e
+    go false e ih = ih e
+
+-- ---- lent memory: as long as before, the stated words first, old content beyond
+
+pub length-written : (new old : List ℕ) → length new ≤ length old → length (written new old) ≡ length old
+unfolding written
+length-written new old h = simp (length-append, length-drop) (omega arith)
+
+pub getD-written : (new old : List ℕ) (i d : ℕ) → i < length new → getD (written new old) i d ≡ getD new i d
+unfolding written
+getD-written new old i d h = List·getD-append new (drop (length new) old) d i h
+
+pub getD-written-beyond : (new old : List ℕ) (i d : ℕ) → length new ≤ i → getD (written new old) i d ≡ getD old i d
+unfolding written
+getD-written-beyond new old i d h =
+    let e : i ≡ length new + (i - length new) = omega arith in
+    rw e (getD-append-add new (drop (length new) old) (i - length new) d ∙ getD-drop (length new) old (i - length new) d)
+
+pub after-accepted : {a : Answer} {counts : List ℕ} (new old : List ℕ) → a ≡ accepted counts → after a new old ≡ written new old
+unfolding after
+after-accepted new old e = rw e
+
+pub after-refused : {a : Answer} {k p : ℕ} (new old : List ℕ) → a ≡ refused k p → after a new old ≡ old
+unfolding after
+after-refused new old e = rw e
+
+pub length-after : (a : Answer) (new old : List ℕ) → length new ≤ length old → length (after a new old) ≡ length old
+unfolding after
+length-after (accepted counts) new old h = length-written new old h
+length-after (refused k p) new old h = refl

@@ -1,0 +1,100 @@
+// Parts of the reader, `read`: the four searches for its refusals 5 to 8. No host calls them.
+ghost use mathlib.Core.Path.{_≡_};
+ghost use Prim.Native.Nat.{_+_, _*_, _<_, _≤_};
+ghost use lib.ListN.{length, getD};
+ghost use Rattle.theory.specs.Bools.{bit};
+ghost use Rattle.theory.specs.Range.{first, tabulate};
+ghost use Rattle.table.specs.Table.{vertexCount};
+ghost use Rattle.table.specs.Reading.{firstOwner, firstEnd, firstRepeat, firstLacking, lacksEdge};
+ghost use Rattle.table.specs.Parts.{atLeast, Sized, EndsInside, edgeNumber, Filled};
+
+// The first word from `from` on, below `end`, that is `limit` or more; `end` where there is none.
+fn first_at_least(words: &[u16], limit: usize, from: usize, end: usize) -> usize
+    requires { ⌜ (from ≤ end) × (end ≤ length (now words)) ⌝ }
+    ensures { λ r. ⌜ r ≡ first (atLeast (now (words .entry)) limit) from end ⌝ }
+{
+    let mut k = from;
+    while k < end {
+        if limit <= words[k] as usize {
+            return k;
+        }
+        k += 1;
+    }
+    k
+}
+
+// 5: the first word of an owner above 1.
+pub fn first_owner(game: &[u16], n: usize) -> usize
+    requires { ⌜ (n ≡ vertexCount (now game)) × (n ≤ 256) × (2 + 2 * n ≤ length (now game)) ⌝ }
+    ensures { λ r. ⌜ r ≡ firstOwner (now (game .entry)) ⌝ }
+{
+    first_at_least(game, 2, 2 + n, 2 + 2 * n)
+}
+
+// 6: the first word of an edge end not below n; sources stand before targets.
+pub fn first_end(game: &[u16], n: usize, m: usize) -> usize
+    requires { ⌜ Sized (now game) n m ⌝ }
+    ensures { λ r. ⌜ r ≡ firstEnd (now (game .entry)) ⌝ }
+{
+    first_at_least(game, n, 2 + 2 * n, 2 + 2 * n + 2 * m)
+}
+
+// 7: the first edge equal to an earlier one. The flag of an edge tells whether it was seen.
+pub fn first_repeat(game: &[u16], n: usize, m: usize) -> usize
+    requires { ⌜ Sized (now game) n m × EndsInside (now game) ⌝ }
+    ensures { λ r. ⌜ r ≡ firstRepeat (now (game .entry)) ⌝ }
+{
+    let mut seen = [0u8; 65536];
+    first_seen(game, n, m, &mut seen)
+}
+
+fn first_seen(game: &[u16], n: usize, m: usize, seen: &mut [u8]) -> usize
+    requires { ⌜ Sized (now game) n m × EndsInside (now game) ⌝ }
+    requires { ⌜ (65536 ≤ length (now seen)) × Filled 0 (now seen) ⌝ }
+    ensures { λ r. ⌜ r ≡ firstRepeat (now (game .entry)) ⌝ }
+{
+    let mut j = 0;
+    while j < m {
+        let i = edge_number(game, n, m, j);
+        if seen[i] != 0 {
+            return j;
+        }
+        seen[i] = 1;
+        j += 1;
+    }
+    j
+}
+
+// An edge as one number: source × n + target.
+fn edge_number(game: &[u16], n: usize, m: usize, j: usize) -> usize
+    requires { ⌜ Sized (now game) n m × EndsInside (now game) × (j < m) ⌝ }
+    ensures { λ r. ⌜ r ≡ edgeNumber (now (game .entry)) j ⌝ }
+{
+    let s = game[2 + 2 * n + j] as usize;
+    let t = game[2 + 2 * n + m + j] as usize;
+    s * n + t
+}
+
+// 8: the lowest vertex without an edge out.
+pub fn first_lacking(game: &[u16], n: usize, m: usize) -> usize
+    requires { ⌜ Sized (now game) n m × EndsInside (now game) ⌝ }
+    ensures { λ r. ⌜ r ≡ firstLacking (now (game .entry)) ⌝ }
+{
+    let mut lacking = [1u16; 256];
+    clear_sources(game, n, m, &mut lacking);
+    first_at_least(&lacking, 1, 0, n)
+}
+
+// Leaves a 1 at the vertices without an edge out.
+fn clear_sources(game: &[u16], n: usize, m: usize, lacking: &mut [u16])
+    requires { ⌜ Sized (now game) n m × EndsInside (now game) ⌝ }
+    requires { ⌜ (n ≤ length (now lacking)) × Filled 1 (now lacking) ⌝ }
+    ensures { λ r. ⌜ now (lacking .exit) ≡ tabulate (length (now (lacking .entry))) (λ v. bit (lacksEdge (now (game .entry)) v)) ⌝ }
+{
+    let mut j = 0;
+    while j < m {
+        let v = game[2 + 2 * n + j] as usize;
+        lacking[v] = 0;
+        j += 1;
+    }
+}
