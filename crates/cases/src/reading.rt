@@ -34,9 +34,9 @@ pub fn games() {
     reads(b"P5", &[1, 1, 0, 2, 0, 0]);
     reads(b"P6", &[1, 1, 0, 0, 0, 1]);
     reads(b"P7", &[1, 2, 0, 0, 0, 0, 0, 0]);
-    reads(b"B", &tables::b());
-    reads(b"C", &tables::c());
-    reads(b"D", &tables::d());
+    reads(b"B", &tables::game_b());
+    reads(b"C", &tables::game_c());
+    reads(b"D", &tables::game_d());
 }
 
 // Refusals 1 to 4.

@@ -1,12 +1,12 @@
-// Game tables that the cases share.
+// Game tables that the cases share: document 01's games B, C and D, and the largest.
 ghost use mathlib.Core.Path.{_≡_};
 ghost use lib.ListN.{length};
 
-pub fn b() -> [u16; 14] {
+pub fn game_b() -> [u16; 14] {
     [3, 3, 0, 1, 0, 0, 0, 1, 0, 1, 2, 1, 1, 1]
 }
 
-pub fn c() -> [u16; 26] {
+pub fn game_c() -> [u16; 26] {
     [
         5,
         7,
@@ -37,7 +37,7 @@ pub fn c() -> [u16; 26] {
     ]
 }
 
-pub fn d() -> [u16; 30] {
+pub fn game_d() -> [u16; 30] {
     [
         6,
         8,

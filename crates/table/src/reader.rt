@@ -6,7 +6,7 @@ ghost use Rattle.theory.specs.Bools.{bit};
 ghost use Rattle.theory.specs.Range.{first, tabulate};
 ghost use Rattle.table.specs.Table.{vertexCount};
 ghost use Rattle.table.specs.Reading.{firstOwner, firstEnd, firstRepeat, firstLacking, lacksEdge};
-ghost use Rattle.table.specs.Parts.{atLeast, Sized, EndsInside, edgeNumber, Filled};
+ghost use Rattle.table.specs.Parts.{atLeast, Sized, EndsInside, edgeNumber, Filled, Flagged};
 
 // The first word from `from` on, below `end`, that is `limit` or more; `end` where there is none.
 fn first_at_least(words: &[u16], limit: usize, from: usize, end: usize) -> usize
@@ -48,10 +48,12 @@ pub fn first_repeat(game: &[u16], n: usize, m: usize) -> usize
     first_seen(game, n, m, &mut seen)
 }
 
+// Leaves a 1 at the numbers of the edges before the answer.
 fn first_seen(game: &[u16], n: usize, m: usize, seen: &mut [u8]) -> usize
     requires { ⌜ Sized (now game) n m × EndsInside (now game) ⌝ }
     requires { ⌜ (65536 ≤ length (now seen)) × Filled 0 (now seen) ⌝ }
     ensures { λ r. ⌜ r ≡ firstRepeat (now (game .entry)) ⌝ }
+    ensures { λ r. ⌜ Flagged 0 1 (edgeNumber (now (game .entry))) r (now (seen .exit)) ⌝ }
 {
     let mut j = 0;
     while j < m {

@@ -1,3 +1,4 @@
+-- After j edges flag v is 0 exactly if one of them leaves v.
 use mathlib.Core.Path.{_≡_}
 use Prim.Native.Nat.{_≤_, _-_, _+_, _*_}
 use native.Mathlib.Omega.{arith}

@@ -1,3 +1,4 @@
+-- The number is below 256 × 256, so nothing wraps.
 use Prim.Native.Nat.{_+_, _*_}
 use native.Mathlib.Omega.{arith}
 use borrow.Author.Needs.{needs}

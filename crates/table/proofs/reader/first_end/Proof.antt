@@ -1,3 +1,4 @@
+-- The definition is the search's, at the table's own sizes.
 use borrow.Author.Needs.{needs}
 use Rattle.table.specs.Reading.{firstEnd}
 use Rattle.table.proofs.reader.first_end.Statement.{statement}

@@ -1,3 +1,4 @@
+-- The fresh array has a flag of 1 for each of 256 vertices; what `clear_sources` leaves is searched for the first 1.
 use mathlib.Core.Path.{_∙_}
 use Prim.Native.Nat.{_≤_}
 use native.Mathlib.Omega.{arith}

@@ -1,3 +1,4 @@
+-- The definition is the search's, at the table's own size.
 use borrow.Author.Needs.{needs}
 use Rattle.table.specs.Reading.{firstOwner}
 use Rattle.table.proofs.reader.first_owner.Statement.{statement}

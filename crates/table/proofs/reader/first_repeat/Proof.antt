@@ -1,8 +1,8 @@
+-- The fresh array has a flag of 0 for each of 256 × 256 pairs.
 use mathlib.Core.Path.{sym}
 use Prim.Native.Nat.{ℕ}
 use native.Mathlib.Nat.{le-of-eq}
 use lib.ListN.{length-replicate}
-use borrow.Author.Needs.{needs}
 use Rattle.table.specs.PartsLaws.{filled}
 use Rattle.table.proofs.reader.first_repeat.Statement.{statement}
 use Rattle.table.proofs.reader.first_repeat.Tie as tie
@@ -14,7 +14,7 @@ first-seen-requires : tie.Need-first-seen-requires
 first-seen-requires c κs = (c .before .before .pre, (le-of-eq (sym (length-replicate {A = ℕ} 65536 0)), filled 65536 0))
 
 returns : tie.Need-returns
-returns c = search needs
+returns c = c .before .first-seen .ensures .0
 
 pub first-repeat-spec : {M : Type 1} → statement M
 first-repeat-spec = tie.close (tie.spec slice-aggregate-first-seen first-seen-requires returns)

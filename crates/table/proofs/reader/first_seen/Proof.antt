@@ -1,3 +1,4 @@
+-- The flags are those of the edges before j, so the flag of edge j tells whether it repeats one of them.
 use mathlib.Core.Path.{_≡_, sym, _∙_}
 use Prim.Native.Nat.{_≤_, _<_, _-_}
 use native.Mathlib.Omega.{arith}
@@ -46,12 +47,16 @@ slice-read-if1 c = inside c
 same-length : tie.Need-same-length Inv-loop μ-loop
 same-length c = search needs
 
-returns : tie.Need-returns Inv-loop μ-loop
+-- the whole search is what is left of it at edge j
+whole : (c : tie.At-loop Inv-loop μ-loop)
+    → firstRepeat (c .before .before .before .args .game .now) ≡ first (repeatsEarlier (c .before .before .before .args .game .now)) (c .loop .j) (c .before .before .before .args .m)
 unfolding firstRepeat
+whole c = rw (← c .before .before .before .pre .0 .0 .edges) (c .loop .inv .2)
+
+returns : tie.Need-returns Inv-loop μ-loop
 returns c =
     let l = c .before .before .before .before in
-    sym (rw (← l .before .before .before .pre .0 .0 .edges)
-    (l .loop .inv .2 ∙ first-hit _ _ _ (c .before .before .before .loop-test .taken) (bit-set _ (λ e. c .if1 .taken (flag (c .before) ∙ e)))))
+    (sym (whole l ∙ first-hit _ _ _ (c .before .before .before .loop-test .taken) (bit-set _ (λ e. c .if1 .taken (flag (c .before) ∙ e)))), l .loop .inv .3)
 
 slice-write-seen : tie.Need-slice-write-seen Inv-loop μ-loop
 slice-write-seen c = inside (c .before)
@@ -75,9 +80,7 @@ same-length-2 : tie.Need-same-length-2 Inv-loop μ-loop
 same-length-2 c = search needs
 
 returns-2 : tie.Need-returns-2 Inv-loop μ-loop
-unfolding firstRepeat
-returns-2 c =
-    sym (rw (← c .before .before .before .before .pre .0 .0 .edges) (c .before .loop .inv .2 ∙ first-end _ _ _ (c .loop-test .left)))
+returns-2 c = (sym (whole (c .before) ∙ first-end _ _ _ (c .loop-test .left)), c .before .loop .inv .3)
 
 pub first-seen-spec : {M : Type 1} → statement M
 first-seen-spec =
