@@ -1,4 +1,6 @@
 // Cases that go through the compiled library, a line for each: its name, then the verdict.
+mod orders;
+mod plans;
 mod print;
 mod reading;
 mod tables;
@@ -9,4 +11,14 @@ fn main() {
     reading::bad_words();
     reading::limits();
     reading::kinds();
+    orders::games();
+    orders::short_buffers();
+    orders::good_relations();
+    orders::bad_relations();
+    plans::games();
+    plans::bad_players();
+    plans::bad_sizes();
+    plans::limits();
+    plans::bad_words();
+    plans::bad_positions();
 }

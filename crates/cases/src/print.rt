@@ -23,3 +23,25 @@ pub fn refused(f: Refusal) {
     number(f.place as u64);
     end_line();
 }
+
+pub fn accepted() {
+    text(b" accepted");
+}
+
+// a space and a number for each byte
+pub fn bytes(bs: &[u8]) {
+    let mut i = 0;
+    while i < bs.len() {
+        number(bs[i] as u64);
+        i += 1;
+    }
+}
+
+// the same for words
+pub fn words(ws: &[u16]) {
+    let mut i = 0;
+    while i < ws.len() {
+        number(ws[i] as u64);
+        i += 1;
+    }
+}

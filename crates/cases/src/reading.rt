@@ -8,7 +8,7 @@ fn reads(name: &[u8], game: &[u16]) {
     let r = table::read(game);
     match r {
         Reading::Accepted(c) => {
-            print::text(b" accepted");
+            print::accepted();
             print::number(c.vertices as u64);
             print::number(c.edges as u64);
             print::end_line();

@@ -2,45 +2,112 @@
 -- definitions that the promises cite.
 use mathlib.Core.Path.{_≡_, refl}
 use mathlib.Core.List.{List, [], _∷_, map}
-use Prim.Native.Nat.{ℕ}
-use Rattle.theory.specs.Bools.{_&_, _or_}
-use Rattle.theory.specs.Range.{anyBelow, firstOf, first}
-use Rattle.table.specs.Table.{isEdge}
-use Rattle.table.specs.Verdict.{Answer, accepted, refused, judge}
+use Prim.Native.Nat.{ℕ, _*_}
+use lib.ListN.{getD, replicate}
+use Rattle.theory.specs.Order.{orderMarks}
+use Rattle.theory.specs.Compute.{compute}
+use Rattle.table.specs.Table.{vertexCount, gameOf, playerOf, isEdge}
+use Rattle.table.specs.Verdict.{Answer, accepted, refused, judge, written, after}
 use Rattle.table.specs.Reading.{repeatsEarlier, lacksEdge, firstOwner, firstEnd, firstRepeat, firstLacking, gameRows, readAnswer}
+use Rattle.order.specs.Bytes.{bytes, isMark, relation}
+use Rattle.order.specs.OrderCall.{orderRows, orderAnswer}
+use Rattle.order.specs.RelationCall.{fails, firstHigh, firstFailing, relationRows, relationAnswer}
+use Rattle.plan.specs.Acceptance.{badSize, beyond, firstBeyond, strays, firstStray, anyLink, answers, lacksLink, firstLackingLink, reaches, returns, positionPriority, hasLink, returnsWrong, firstReturn, planRows, planAnswer}
 
--- a call of the host, with its input
+-- a call of the host, with its input; what it writes into starts as zeros, as long as needed
 pub data Call : Type 0 where
   read : List ℕ → Call
+  writeOrder : List ℕ → Call
+  acceptRelation : List ℕ → List ℕ → Call
+  acceptPlan : List ℕ → ℕ → List ℕ → Call
 
-abbrev pub answerOf : Call → Answer
-answerOf (read game) = readAnswer game
+-- the answer, and the words that the call writes
+pub record Outcome : Type 0 where
+  pub answer : Answer
+  pub words : List (List ℕ)
+
+abbrev pairs : List ℕ → List ℕ
+pairs game = replicate (vertexCount game * vertexCount game) 0
+
+abbrev answers-only : Answer → Outcome
+answers-only a = record { answer = a; words = [] }
+
+abbrev pub outcome : Call → Outcome
+outcome (read game) = answers-only (readAnswer game)
+outcome (writeOrder game) =
+    let a = orderAnswer game (pairs game) (pairs game) in
+    record { answer = a; words = after a (bytes (orderMarks (gameOf game))) (pairs game) ∷ [] }
+outcome (acceptRelation game marks) = answers-only (relationAnswer game marks)
+outcome (acceptPlan game player plan) = answers-only (planAnswer game player plan)
 
 pub record Case : Type 0 where
   pub call : Call
-  pub answer : Answer
+  pub expected : Outcome
 
-abbrev case : Call → Answer → Case
-case c a = record { call = c; answer = a }
+-- a call that writes nothing
+abbrev judged : Call → Answer → Case
+judged c a = record { call = c; expected = answers-only a }
+
+-- a call that writes
+abbrev wrote : Call → Answer → List (List ℕ) → Case
+wrote c a ws = record { call = c; expected = record { answer = a; words = ws } }
+
+-- ---- the games
+
+abbrev p1 : List ℕ
+p1 = 1 ∷ 1 ∷ 1 ∷ 1 ∷ 0 ∷ 0 ∷ []
+
+-- B = 3 3 / 0 1 0 / 0 0 1 / 0 1 2 / 1 1 1
+abbrev gameB : List ℕ
+gameB = 3 ∷ 3 ∷ 0 ∷ 1 ∷ 0 ∷ 0 ∷ 0 ∷ 1 ∷ 0 ∷ 1 ∷ 2 ∷ 1 ∷ 1 ∷ 1 ∷ []
+
+-- C, with the owner of vertex 0
+abbrev gameC : ℕ → List ℕ
+gameC owner =
+    5 ∷ 7 ∷ 2 ∷ 0 ∷ 0 ∷ 1 ∷ 4 ∷ owner ∷ 0 ∷ 0 ∷ 0 ∷ 0
+    ∷ 0 ∷ 0 ∷ 1 ∷ 2 ∷ 2 ∷ 3 ∷ 4
+    ∷ 1 ∷ 2 ∷ 3 ∷ 3 ∷ 4 ∷ 3 ∷ 4 ∷ []
+
+-- the plan of P12: 3 3 / 0 2 4 / 0 1 2 / 1 2 2
+abbrev planC : List ℕ
+planC = 3 ∷ 3 ∷ 0 ∷ 2 ∷ 4 ∷ 0 ∷ 1 ∷ 2 ∷ 1 ∷ 2 ∷ 2 ∷ []
 
 abbrev pub cases : List Case
 cases =
-    -- P1: 1 1 1 1 0 0
-    case (read (1 ∷ 1 ∷ 1 ∷ 1 ∷ 0 ∷ 0 ∷ [])) (accepted (1 ∷ 1 ∷ []))
+    -- P1: 1 1 1 1 0 0: marks 1, passes 1
+    judged (read p1) (accepted (1 ∷ 1 ∷ []))
+    ∷ wrote (writeOrder p1) (accepted (1 ∷ [])) ((1 ∷ []) ∷ [])
     -- P2: no words: 1 at 0
-    ∷ case (read []) (refused 1 0)
+    ∷ judged (read []) (refused 1 0)
     -- P3: 0 0: 2 at 0
-    ∷ case (read (0 ∷ 0 ∷ [])) (refused 2 0)
+    ∷ judged (read (0 ∷ 0 ∷ [])) (refused 2 0)
     -- P4: 1 0 0 0: 8 at 0
-    ∷ case (read (1 ∷ 0 ∷ 0 ∷ 0 ∷ [])) (refused 8 0)
+    ∷ judged (read (1 ∷ 0 ∷ 0 ∷ 0 ∷ [])) (refused 8 0)
     -- P5: 1 1 0 2 0 0: 5 at 3
-    ∷ case (read (1 ∷ 1 ∷ 0 ∷ 2 ∷ 0 ∷ 0 ∷ [])) (refused 5 3)
+    ∷ judged (read (1 ∷ 1 ∷ 0 ∷ 2 ∷ 0 ∷ 0 ∷ [])) (refused 5 3)
     -- P6: 1 1 0 0 0 1: 6 at 5
-    ∷ case (read (1 ∷ 1 ∷ 0 ∷ 0 ∷ 0 ∷ 1 ∷ [])) (refused 6 5)
+    ∷ judged (read (1 ∷ 1 ∷ 0 ∷ 0 ∷ 0 ∷ 1 ∷ [])) (refused 6 5)
     -- P7: 1 2 0 0 0 0 0 0: 7 at 5
-    ∷ case (read (1 ∷ 2 ∷ 0 ∷ 0 ∷ 0 ∷ 0 ∷ 0 ∷ 0 ∷ [])) (refused 7 5)
+    ∷ judged (read (1 ∷ 2 ∷ 0 ∷ 0 ∷ 0 ∷ 0 ∷ 0 ∷ 0 ∷ [])) (refused 7 5)
+    -- P8: B: mark rows 101, 010, 101
+    ∷ wrote (writeOrder gameB) (accepted (1 ∷ [])) ((1 ∷ 0 ∷ 1 ∷ 0 ∷ 1 ∷ 0 ∷ 1 ∷ 0 ∷ 1 ∷ []) ∷ [])
+    -- P9: C: 1 is below 2, not the reverse; passes 2
+    ∷ wrote (writeOrder (gameC 0)) (accepted (2 ∷ []))
+    ((1 ∷ 0 ∷ 0 ∷ 0 ∷ 0 ∷ 0 ∷ 1 ∷ 1 ∷ 0 ∷ 0 ∷ 0 ∷ 0 ∷ 1 ∷ 0 ∷ 0 ∷ 0 ∷ 0 ∷ 0 ∷ 1 ∷ 0 ∷ 0 ∷ 0 ∷ 0 ∷ 0 ∷ 1 ∷ []) ∷ [])
+    -- P11: C, only (2, 1) marked: 10 at 11
+    ∷ judged (acceptRelation (gameC 0) (0 ∷ 0 ∷ 0 ∷ 0 ∷ 0 ∷ 0 ∷ 0 ∷ 0 ∷ 0 ∷ 0 ∷ 0 ∷ 1 ∷ 0 ∷ 0 ∷ 0 ∷ 0 ∷ 0 ∷ 0 ∷ 0 ∷ 0 ∷ 0 ∷ 0 ∷ 0 ∷ 0 ∷ 0 ∷ [])) (refused 10 11)
+    -- P12: C, plan 3 3 / 0 2 4 / 0 1 2 / 1 2 2: passes for Even
+    ∷ judged (acceptPlan (gameC 0) 0 planC) (accepted [])
+    -- P13: for Odd 15 at 0
+    ∷ judged (acceptPlan (gameC 0) 1 planC) (refused 15 0)
+    -- P14: game of P1, plan 1 1 0 0 0, Even: 16 at 0
+    ∷ judged (acceptPlan p1 0 (1 ∷ 1 ∷ 0 ∷ 0 ∷ 0 ∷ [])) (refused 16 0)
     ∷ []
 
-pub cases-hold : map (λ (c : Case). answerOf (c .call)) cases ≡ map (λ (c : Case). c .answer) cases
-unfolding readAnswer gameRows judge firstOwner firstEnd firstRepeat firstLacking repeatsEarlier lacksEdge isEdge first firstOf anyBelow _or_ _&_
+pub cases-hold : map (λ (c : Case). outcome (c .call)) cases ≡ map (λ (c : Case). c .expected) cases
+unfolding compute
+    gameOf playerOf isEdge judge written after
+    readAnswer gameRows firstOwner firstEnd firstRepeat firstLacking repeatsEarlier lacksEdge
+    bytes isMark relation orderRows orderAnswer fails firstHigh firstFailing relationRows relationAnswer
+    badSize beyond firstBeyond strays firstStray anyLink answers lacksLink firstLackingLink reaches returns positionPriority hasLink returnsWrong firstReturn planRows planAnswer
 cases-hold = refl

@@ -6,5 +6,5 @@ ghost use Rattle.claims.specs.Cases.{cases};
 pub fn case_count() -> u32
     ensures { λ r. ⌜ r ≡ length cases ⌝ }
 {
-    7
+    14
 }

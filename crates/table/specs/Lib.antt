@@ -13,3 +13,4 @@ pub mod KindLaws
 pub mod Parts
 pub mod PartsLaws
 pub mod SearchLaws
+pub mod Acceptance

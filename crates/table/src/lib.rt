@@ -1,4 +1,5 @@
 // The game table: its reader, the refusal that all verdicts share, and the kinds of refusals.
+pub mod acceptor;
 mod reader;
 
 ghost use mathlib.Core.Path.{_≡_};
@@ -18,6 +19,12 @@ pub struct Sizes {
 
 pub enum Reading {
     Accepted(Sizes),
+    Refused(Refusal),
+}
+
+// An acceptor's verdict has no counts.
+pub enum Acceptance {
+    Accepted,
     Refused(Refusal),
 }
 

@@ -1,0 +1,114 @@
+// The order and the relation acceptor: document 01's games, short buffers, bad relations.
+use crate::print;
+use crate::tables;
+use order::Ordering;
+use table::Acceptance;
+
+// The verdict, and then both buffers, which start as sevens.
+fn orders(name: &[u8], game: &[u16], marks: &mut [u8], spare: &mut [u8]) {
+    print::text(name);
+    match order::write_order(game, marks, spare) {
+        Ordering::Accepted(count) => {
+            print::accepted();
+            print::number(count.passes as u64);
+            print::end_line();
+        }
+        Ordering::Refused(refusal) => print::refused(refusal),
+    }
+    print::text(b"marks");
+    print::bytes(marks);
+    print::end_line();
+    print::text(b"spare");
+    print::bytes(spare);
+    print::end_line();
+}
+
+pub fn games() {
+    orders(b"P1_order", &[1, 1, 1, 1, 0, 0], &mut [7; 2], &mut [7; 1]);
+    orders(b"B_order", &tables::game_b(), &mut [7; 10], &mut [7; 11]);
+    orders(b"C_order", &tables::game_c(), &mut [7; 25], &mut [7; 25]);
+    orders(b"D_order", &tables::game_d(), &mut [7; 36], &mut [7; 37]);
+}
+
+pub fn short_buffers() {
+    orders(
+        b"order_refused_game",
+        &[1, 0, 0, 0],
+        &mut [7; 1],
+        &mut [7; 1],
+    );
+    orders(
+        b"marks_one_byte_short",
+        &tables::game_b(),
+        &mut [7; 8],
+        &mut [7; 8],
+    );
+    orders(
+        b"spare_one_byte_short",
+        &tables::game_b(),
+        &mut [7; 9],
+        &mut [7; 8],
+    );
+}
+
+fn accepts(name: &[u8], game: &[u16], marks: &[u8]) {
+    print::text(name);
+    match order::accept_relation(game, marks) {
+        Acceptance::Accepted => {
+            print::accepted();
+            print::end_line();
+        }
+        Acceptance::Refused(refusal) => print::refused(refusal),
+    }
+}
+
+pub fn good_relations() {
+    let b = tables::game_b();
+    accepts(b"B_order_accepted", &b, &[1, 0, 1, 0, 1, 0, 1, 0, 1]);
+    accepts(b"empty_relation", &b, &[0; 9]);
+    accepts(b"bytes_beyond_ignored", &b, &[0, 0, 0, 0, 0, 0, 0, 0, 0, 9]);
+}
+
+pub fn bad_relations() {
+    let b = tables::game_b();
+    accepts(b"relation_refused_game", &[1, 0, 0, 0], &[1]);
+    accepts(b"relation_short", &b, &[2; 8]);
+    accepts(
+        b"late_byte_before_early_pair",
+        &b,
+        &[0, 1, 0, 0, 0, 0, 0, 0, 2],
+    );
+    accepts(b"unequal_priorities", &b, &[0, 1, 0, 1, 0, 0, 0, 0, 0]);
+    accepts(b"missing_pair", &b, &[1, 0, 0, 0, 0, 0, 0, 0, 0]);
+    accepts(
+        b"P11",
+        &tables::game_c(),
+        &[
+            0,
+            0,
+            0,
+            0,
+            0,
+            0,
+            0,
+            0,
+            0,
+            0,
+            0,
+            1,
+            0,
+            0,
+            0,
+            0,
+            0,
+            0,
+            0,
+            0,
+            0,
+            0,
+            0,
+            0,
+            0,
+        ],
+    );
+}

@@ -1,0 +1,82 @@
+use borrow.Author.Needs.{needs}
+use Rattle.order.specs.Bytes.{isMark}
+use Rattle.order.specs.Search.{someFrom, hasMark}
+use Rattle.order.specs.SearchLaws.{some-step, some-hit, some-end}
+use native.Mathlib.Omega.{arith}
+use mathlib.Core.Path.{_≡_, sym, _∙_}
+use Prim.Native.Nat.{_+_, _-_, _*_, _≤_, _<_}
+use lib.ListN.{length, getD}
+use Rattle.order.proofs.pairs.finds.Statement.{statement}
+use Rattle.order.proofs.pairs.finds.Tie as tie
+
+abbrev Inv-loop : tie.InvT-loop
+Inv-loop marks targets base stride wanted end k₀ k = let p = hasMark marks targets base stride wanted in (k₀ ≤ k) × (someFrom p k₀ end ≡ someFrom p k end)
+
+abbrev μ-loop : tie.MeasureT-loop
+μ-loop marks targets base stride wanted end k₀ k = end - k
+
+-- the byte of the target at k is there
+room : (c : tie.Else1 Inv-loop μ-loop)
+    → let a = c .before .before .args in a .base + getD (a .targets .now) (c .before .loop .k) 0 * a .stride < length (a .marks .now)
+room c = c .before .before .pre .1 (c .before .loop .k) (c .before .loop .inv .0) (c .if1 .left)
+
+loop-holds : tie.Need-loop-holds Inv-loop μ-loop
+loop-holds c = search needs
+
+mul-at : tie.Need-mul-at Inv-loop μ-loop
+mul-at c = search needs
+
+shared-slice-read-at : tie.Need-shared-slice-read-at Inv-loop μ-loop
+shared-slice-read-at c = search needs
+
+cast-at : tie.Need-cast-at Inv-loop μ-loop
+cast-at c = omega (arith, c .shared-slice-known .given (c .before .before .loop .k))
+
+mul-at-2 : tie.Need-mul-at-2 Inv-loop μ-loop
+mul-at-2 c = omega (arith, room (c .before))
+
+add-at : tie.Need-add-at Inv-loop μ-loop
+add-at c = omega (arith, room (c .before))
+
+shared-slice-read-if2 : tie.Need-shared-slice-read-if2 Inv-loop μ-loop
+shared-slice-read-if2 c = omega (arith, room (c .before .before))
+
+add-k : tie.Need-add-k Inv-loop μ-loop
+add-k c = search needs
+
+loop-less : tie.Need-loop-less Inv-loop μ-loop
+loop-less c = search needs
+
+loop-again : tie.Need-loop-again Inv-loop μ-loop
+unfolding hasMark isMark
+loop-again c =
+    let a = c .before .before .before .before .loop in
+    (search needs, a .inv .1 ∙ some-step _ _ _ (c .before .before .before .if1 .left) (c .if2 .left))
+
+returns : tie.Need-returns Inv-loop μ-loop
+returns c = sym (c .before .loop .inv .1 ∙ some-end _ _ _ (c .if1 .taken))
+
+returns-2 : tie.Need-returns-2 Inv-loop μ-loop
+unfolding hasMark isMark
+returns-2 c =
+    let a = c .before .before .before .before .loop in
+    sym (a .inv .1 ∙ some-hit _ _ _ (c .before .before .before .if1 .left) (c .if2 .taken))
+
+pub finds-spec : {M : Type 1} → statement M
+finds-spec =
+    tie.close
+    (tie.spec
+    Inv-loop
+    μ-loop
+    loop-holds
+    mul-at
+    shared-slice-read-at
+    cast-at
+    mul-at-2
+    add-at
+    shared-slice-read-if2
+    add-k
+    loop-less
+    loop-again
+    returns
+    returns-2)

@@ -1,0 +1,90 @@
+use borrow.Author.Needs.{needs}
+use native.Mathlib.Omega.{arith}
+use native.Mathlib.Nat.{mul-le-mul}
+use mathlib.Core.Path.{_≡_}
+use Prim.Native.Nat.{_≤_}
+use Rattle.table.specs.WellFormed.{WellSized}
+use Rattle.table.specs.Reading.{readAnswer, readingAnswer}
+use Rattle.table.specs.ReadingLaws.{reading-accepted}
+use Rattle.table.specs.declared.Reading.the-variants.{Accepted}
+use Rattle.order.specs.OrderCallLaws.{order-handed, order-short-marks, order-short-spare, order-done}
+use Rattle.order.proofs.write_order.Statement.{statement}
+use Rattle.order.proofs.write_order.Tie as tie
+
+-- the reader accepted
+answer : (c : tie.After-reading) → readingAnswer (Accepted (c .reading .given .0 .0)) ≡ readAnswer (c .before .before .before .before .before .before .args .game .now)
+answer c = rw (c .reading .given .1) at (c .before .before .read .ensures)
+
+sized : (c : tie.After-reading) → WellSized (c .before .before .before .before .before .before .args .game .now) (c .reading .given .0 .0)
+sized c = reading-accepted _ _ (answer c)
+
+read-requires : tie.Need-read-requires
+read-requires c κs = search needs
+
+enum-known-reading : tie.Need-enum-known-reading
+enum-known-reading c = search needs
+
+enum-told : tie.Need-enum-told
+enum-told c = search needs
+
+refusal-of-requires : tie.Need-refusal-of-requires
+refusal-of-requires c κs = search needs
+
+returns : tie.Need-returns
+returns c =
+    let t = c .before .enum-told .given in
+    rw (c .refusal-of .ensures, t .1) (order-handed _ _ _ (t .0 .0) (rw (t .1) at (c .before .before .before .read .ensures)))
+
+mul-needed : tie.Need-mul-needed
+mul-needed c =
+    let s = sized (c .before .before) in
+    let w : c .before .before .reading .given .0 .0 .vertices ≤ 256 = omega (arith, s .vertices, s .well .vertices) in
+    omega (arith, mul-le-mul w w)
+
+returns-2 : tie.Need-returns-2
+returns-2 c =
+    let r = c .before .before .before in
+    let n = sized r .vertices in
+    rw n (order-short-marks _ _ _ _ (answer r) (rw n at (c .if1 .taken)))
+
+returns-3 : tie.Need-returns-3
+returns-3 c =
+    let r = c .before .before .before .before in
+    let n = sized r .vertices in
+    rw n (order-short-spare _ _ _ _ (answer r) (rw n at (c .before .if1 .left)) (rw n at (c .if2 .taken)))
+
+fill-order-requires : tie.Need-fill-order-requires
+fill-order-requires c κs =
+    let r = c .before .before .before .before .before .before in
+    let n = sized r .vertices in
+    (sized r .well, (rw n at (c .before .before .before .if1 .left), rw n at (c .before .before .if2 .left)))
+
+same-length : tie.Need-same-length
+same-length c = search needs
+
+same-length-2 : tie.Need-same-length-2
+same-length-2 c = search needs
+
+returns-4 : tie.Need-returns-4
+returns-4 c =
+    let o = c .before .before .before .before .before .before .before in
+    let r = o .before .before .before .before in
+    let n = sized r .vertices in
+    order-done _ _ _ _ (answer r) (rw n at (o .before .if1 .left)) (rw n at (o .if2 .left)) _ _ _ (c .before .before .before .before .fill-order .ensures)
+
+pub write-order-spec : {M : Type 1} → statement M
+write-order-spec =
+    tie.close
+    (tie.spec
+    read-requires
+    enum-known-reading
+    enum-told
+    refusal-of-requires
+    returns
+    mul-needed
+    returns-2
+    returns-3
+    fill-order-requires
+    same-length
+    same-length-2
+    returns-4)

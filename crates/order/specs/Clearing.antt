@@ -1,0 +1,63 @@
+-- A pass over the marks of a table's game, as the code makes it.
+use mathlib.Core.Path.{_≡_}
+use mathlib.Core.Bool.{Bool, not}
+use mathlib.Core.List.{List}
+use Prim.Native.Nat.{ℕ, _+_, _*_, _<_}
+use lib.ListN.{set}
+use Rattle.theory.specs.Bools.{_&_, bit}
+use Rattle.theory.specs.Range.{count}
+use Rattle.theory.specs.Passes.{Marks, marked, Test, nextPass, pairStart, pairTest}
+use Rattle.theory.specs.Game.{even}
+use Rattle.theory.specs.Order.{equalPriority, test, orderMarks, orderPasses}
+use Rattle.table.specs.Table.{vertexCount, gameOf}
+use Rattle.table.specs.Verdict.{written}
+use Rattle.order.specs.Bytes.{bytes, isMark, marksOf, relation}
+
+-- how many marks the pass after m unmarks
+unfoldable pub cleared : ℕ → Test → Marks → ℕ
+cleared N ok m = count N (λ i. marked m i & not (ok (marked m) i))
+
+-- the pairs of vertices, pass 0 and the test of the table's game
+abbrev pub pairCount : List ℕ → ℕ
+pairCount g = vertexCount g * vertexCount g
+
+abbrev pub equalPairs : List ℕ → ℕ → Bool
+equalPairs g = pairStart (vertexCount g) (equalPriority (gameOf g) (gameOf g))
+
+abbrev pub pairPasses : List ℕ → Test
+pairPasses g = pairTest (vertexCount g) (test even (gameOf g) (gameOf g))
+
+-- what the pass does to the mark of pair i, under the marks in the buffer: it stays, or it is cleared
+abbrev pub stays : List ℕ → List ℕ → ℕ → Bool
+stays g marks i = let m = marksOf (pairCount g) marks in marked m i & pairPasses g (marked m) i
+
+abbrev pub leaves : List ℕ → List ℕ → ℕ → Bool
+leaves g marks i = let m = marksOf (pairCount g) marks in marked m i & not (pairPasses g (marked m) i)
+
+-- (v, w) is marked and passes the test, or is marked and fails it, under the marks in the buffer
+unfoldable pub keeps : List ℕ → List ℕ → ℕ → ℕ → Bool
+keeps g marks v w = isMark marks (v * vertexCount g + w) & test even (gameOf g) (gameOf g) (relation (vertexCount g) marks) v w
+
+unfoldable pub clears : List ℕ → List ℕ → ℕ → ℕ → Bool
+clears g marks v w = isMark marks (v * vertexCount g + w) & not (test even (gameOf g) (gameOf g) (relation (vertexCount g) marks) v w)
+
+-- (v, w) is done: its new mark is in the spare buffer, and c is 1 if it was cleared
+pub record PairDone (g marks old new : List ℕ) (v w c : ℕ) : Type 0 where
+  pub spare : new ≡ set old (v * vertexCount g + w) (bit (keeps g marks v w))
+  pub count : c ≡ bit (clears g marks v w)
+
+-- a pass is done: the new marks are in the spare buffer, and c marks were cleared
+pub record PassDone (g marks old new : List ℕ) (c : ℕ) : Type 0 where
+  pub spare : new ≡ written (bytes (nextPass (pairCount g) (pairPasses g) (marksOf (pairCount g) marks))) old
+  pub count : c ≡ cleared (pairCount g) (pairPasses g) (marksOf (pairCount g) marks)
+
+-- all passes are done: both buffers hold the order's marks, and c passes were made
+pub record OrderDone (g oldMarks newMarks oldSpare newSpare : List ℕ) (c : ℕ) : Type 0 where
+  pub marks : newMarks ≡ written (bytes (orderMarks (gameOf g))) oldMarks
+  pub spare : newSpare ≡ written (bytes (orderMarks (gameOf g))) oldSpare
+  pub count : c ≡ orderPasses (gameOf g)
+
+-- pair (v, w) is number k
+pub record PairAt (n k v w : ℕ) : Type 0 where
+  pub number : v * n + w ≡ k
+  pub column : w < n

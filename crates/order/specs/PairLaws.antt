@@ -1,0 +1,186 @@
+-- The pair test by searches over an index: each of document 01's four rows is one search for a successor that decides it.
+use mathlib.Core.Path.{_≡_, refl, sym, ap, _∙_, fun-ext}
+use mathlib.Core.Bool.{Bool, true, false, not, So, Bool·beq}
+use mathlib.Core.List.{List}
+use Prim.Native.Nat.{ℕ, _+_, _*_, _≤_, _<_}
+use native.Mathlib.Omega.{arith}
+use native.Mathlib.Nat.{mul-one, add-comm, lt-of-lt-of-le}
+use lib.Arith.{digits-lt}
+use lib.ListN.{length, getD}
+use borrow.Author.Tests.{lt-ltb, ltb-true}
+use Rattle.theory.specs.BoolsLaws.{So-ext, So-not, clash, not-in, not-out, imp-fails}
+use Rattle.theory.specs.Range.{first}
+use Rattle.theory.specs.RangeLaws.{all-fails, first-passes, first-least, first-ge}
+use Rattle.theory.specs.Passes.{relOf}
+use Rattle.theory.specs.Game.{even, same, Game, Succ}
+use Rattle.theory.specs.Order.{allNext, anyNext, moves, test}
+use Rattle.theory.specs.OrderLaws.{allNext-out, anyNext-in, anyNext-out}
+use Rattle.table.specs.Table.{vertexCount, ownerAt, gameOf}
+use Rattle.table.specs.TableLaws.{own-even}
+use Rattle.order.specs.Bytes.{isMark, relation}
+use Rattle.order.specs.Index.{Index}
+use Rattle.order.specs.Search.{someFrom, hasMark, searchEnds, Reaches}
+
+pub game-n : (g : List ℕ) → gameOf g .n ≡ vertexCount g
+unfolding gameOf
+game-n g = refl
+
+-- ---- tests of Bools
+
+beq-true : {b c : Bool} → b ≡ c → Bool·beq b true ≡ c
+beq-true {b} {c} e = same b ∙ e
+  where
+    same : (b : Bool) → Bool·beq b true ≡ b
+    same true = refl
+    same false = refl
+
+beq-false : {b c : Bool} → b ≡ c → Bool·beq b false ≡ not c
+beq-false {b} {c} e = same b ∙ ap not e
+  where
+    same : (b : Bool) → Bool·beq b false ≡ not b
+    same true = refl
+    same false = refl
+
+not-not : (b : Bool) → not (not b) ≡ b
+not-not true = refl
+not-not false = refl
+
+-- ---- a search of the places from a on, below e
+
+some-in : (p : ℕ → Bool) (a e k : ℕ) → a ≤ k → k < e → So (p k) → So (someFrom p a e)
+unfolding someFrom
+some-in p a e k h l t = lt-ltb (first p a e) e (omega (arith, first-least p a e k h t))
+
+some-out : (p : ℕ → Bool) (a e : ℕ) → So (someFrom p a e) → (k : ℕ) × (a ≤ k) × (k < e) × So (p k)
+unfolding someFrom
+some-out p a e t =
+    let l = ltb-true (first p a e) e t in
+    (first p a e, first-ge p a e, l, first-passes p a e (omega (arith, first-ge p a e)) l)
+
+-- ---- each and some successor
+
+module _ (G : Game) (v : ℕ) where
+  any-ext : (p q : ℕ → Bool) → ((x : ℕ) → p x ≡ q x) → anyNext G v p ≡ anyNext G v q
+  any-ext p q e = ap (anyNext G v) (fun-ext e)
+
+  allNext-fails : (p : ℕ → Bool) → allNext G v p ≡ false → (x : ℕ) × Succ G v x × (p x ≡ false)
+  unfolding allNext
+  allNext-fails p f =
+      let r = all-fails (G .n) _ f in
+      let i = imp-fails (G .edge v (r .0)) (p (r .0)) (r .2) in
+      (r .0, record { inside = r .1; along = i .0 }, i .1)
+
+  -- some successor fails exactly where not each passes
+  any-not : (p q : ℕ → Bool) → ((x : ℕ) → q x ≡ not (p x)) → anyNext G v q ≡ not (allNext G v p)
+  any-not p q e =
+      So-ext
+      (λ t. let r = anyNext-out G v q t in not-in (So-not (λ a. clash (allNext-out G v p a (r .0) (r .1)) (not-out (rw (e (r .0)) at (r .2))))))
+      (λ t. let r = allNext-fails p (not-out t) in anyNext-in G v q (r .0) (r .1) (e (r .0) ∙ not-in (r .2)))
+
+  all-not : (p q : ℕ → Bool) → ((x : ℕ) → q x ≡ not (p x)) → not (anyNext G v q) ≡ allNext G v p
+  all-not p q e = ap not (any-not p q e) ∙ not-not (allNext G v p)
+
+-- ---- searches over an index
+
+-- some place of v at which the search over the places of w ends as `found`
+abbrev pub searched : List ℕ → List ℕ → List ℕ → ℕ → ℕ → ℕ → ℕ → Bool → Bool → Bool
+searched offsets targets marks v w across down wanted found =
+    someFrom (searchEnds marks targets (getD offsets w 0) (getD offsets (w + 1) 0) across down wanted found) (getD offsets v 0) (getD offsets (v + 1) 0)
+
+module _ {G : Game} {offsets targets : List ℕ} (index : Index G offsets targets) where
+  -- a search over the places of v is one over its successors
+  some-next : (v : ℕ) → v < G .n → (p q : ℕ → Bool) → ((k : ℕ) → p k ≡ q (getD targets k 0))
+      → someFrom p (getD offsets v 0) (getD offsets (v + 1) 0) ≡ anyNext G v q
+  some-next v h p q e =
+      So-ext
+      (λ t.
+      let r = some-out p (getD offsets v 0) (getD offsets (v + 1) 0) t in
+      anyNext-in G v q (getD targets (r .0) 0) (index .sound v (r .0) h (record { from = r .1; below = r .2 })) (sym (e (r .0)) ∙ r .3))
+      (λ t.
+      let r = anyNext-out G v q t in
+      let k = index .whole v (r .0) h (r .1) in
+      some-in p _ _ (k .0) (k .1 .from) (k .1 .below) (e (k .0) ∙ ap q (k .2) ∙ r .2))
+
+  -- a search in a search
+  search-next : (marks : List ℕ) (across down : ℕ) (wanted found : Bool) (v w : ℕ) → v < G .n → w < G .n
+      → searched offsets targets marks v w across down wanted found
+      ≡ anyNext G v (λ x. Bool·beq (anyNext G w (λ y. Bool·beq (isMark marks (x * across + y * down)) wanted)) found)
+  unfolding searchEnds hasMark
+  search-next marks across down wanted found v w hv hw =
+      some-next v hv _ _ (λ k. ap (λ (b : Bool). Bool·beq b found) (some-next w hw _ _ (λ l. refl)))
+
+-- ---- the four rows
+
+-- the mark of x and y, where x's successors are those of v and where they are those of w
+row-cell : (n : ℕ) (marks : List ℕ) (x y : ℕ) → Bool·beq (isMark marks (x * n + y * 1)) true ≡ relation n marks x y
+unfolding relation relOf
+row-cell n marks x y = rw (mul-one y) (beq-true refl)
+
+row-gap : (n : ℕ) (marks : List ℕ) (x y : ℕ) → Bool·beq (isMark marks (x * n + y * 1)) false ≡ not (relation n marks x y)
+unfolding relation relOf
+row-gap n marks x y = rw (mul-one y) (beq-false {b = isMark marks (x * n + y)} refl)
+
+column-cell : (n : ℕ) (marks : List ℕ) (x y : ℕ) → Bool·beq (isMark marks (x * 1 + y * n)) true ≡ relation n marks y x
+unfolding relation relOf
+column-cell n marks x y = rw (mul-one x, add-comm x (y * n)) (beq-true refl)
+
+module _ (g offsets targets : List ℕ) (index : Index (gameOf g) offsets targets) (v : ℕ) (h : v < vertexCount g) where
+  pub places-inside : v + 1 < length offsets
+  unfolding gameOf
+  places-inside = omega (arith, index .size)
+
+  pub places-within : getD offsets (v + 1) 0 ≤ length targets
+  places-within = index .within v (rw (game-n g) h)
+
+  target-inside : (k : ℕ) → getD offsets v 0 ≤ k → k < getD offsets (v + 1) 0 → getD targets k 0 < vertexCount g
+  unfolding gameOf
+  target-inside k a b = index .sound v k h (record { from = a; below = b }) .inside
+
+module _ (g offsets targets marks : List ℕ) (index : Index (gameOf g) offsets targets) (v w : ℕ) (hv : v < vertexCount g) (hw : w < vertexCount g) where
+  -- every byte that the searches read is there
+  reaches : (v w across down : ℕ) → v < vertexCount g → w < vertexCount g
+      → ((x y : ℕ) → x < vertexCount g → y < vertexCount g → x * across + y * down < vertexCount g * vertexCount g)
+      → vertexCount g * vertexCount g ≤ length marks
+      → Reaches marks targets (getD offsets v 0) (getD offsets (v + 1) 0) (getD offsets w 0) (getD offsets (w + 1) 0) across down
+  reaches v w across down hv hw cell long i k a b a′ b′ =
+      lt-of-lt-of-le (cell (getD targets i 0) (getD targets k 0) (target-inside g offsets targets index v hv i a b) (target-inside g offsets targets index w hw k a′ b′)) long
+
+  pub reaches-rows : vertexCount g * vertexCount g ≤ length marks
+      → Reaches marks targets (getD offsets v 0) (getD offsets (v + 1) 0) (getD offsets w 0) (getD offsets (w + 1) 0) (vertexCount g) 1
+  reaches-rows = reaches v w (vertexCount g) 1 hv hw (λ x y hx hy. rw (mul-one y) (digits-lt hx hy))
+
+  pub reaches-columns : vertexCount g * vertexCount g ≤ length marks
+      → Reaches marks targets (getD offsets w 0) (getD offsets (w + 1) 0) (getD offsets v 0) (getD offsets (v + 1) 0) 1 (vertexCount g)
+  reaches-columns = reaches w v 1 (vertexCount g) hw hv (λ x y hx hy. rw (mul-one x, add-comm x (y * vertexCount g)) (digits-lt hy hx))
+
+  -- no v′ lacks a marked w′
+  pub row-even-even : ownerAt g v ≡ 0 → ownerAt g w ≡ 0
+      → not (searched offsets targets marks v w (vertexCount g) 1 true false) ≡ test even (gameOf g) (gameOf g) (relation (vertexCount g) marks) v w
+  unfolding test moves
+  row-even-even ov ow =
+      rw (own-even g v, own-even g w, ov, ow, search-next index marks (vertexCount g) 1 true false v w (rw (game-n g) hv) (rw (game-n g) hw))
+      (all-not (gameOf g) v _ _ (λ x. beq-false (any-ext (gameOf g) w _ _ (row-cell (vertexCount g) marks x))))
+
+  -- no v′ has an unmarked w′
+  pub row-even-odd : ownerAt g v ≡ 0 → ownerAt g w ≡ 1
+      → not (searched offsets targets marks v w (vertexCount g) 1 false true) ≡ test even (gameOf g) (gameOf g) (relation (vertexCount g) marks) v w
+  unfolding test moves
+  row-even-odd ov ow =
+      rw (own-even g v, own-even g w, ov, ow, search-next index marks (vertexCount g) 1 false true v w (rw (game-n g) hv) (rw (game-n g) hw))
+      (all-not (gameOf g) v _ _ (λ x. beq-true (any-not (gameOf g) w _ _ (row-gap (vertexCount g) marks x))))
+
+  -- some v′ has a marked w′
+  pub row-odd-even : ownerAt g v ≡ 1 → ownerAt g w ≡ 0
+      → searched offsets targets marks v w (vertexCount g) 1 true true ≡ test even (gameOf g) (gameOf g) (relation (vertexCount g) marks) v w
+  unfolding test moves
+  row-odd-even ov ow =
+      rw (own-even g v, own-even g w, ov, ow, search-next index marks (vertexCount g) 1 true true v w (rw (game-n g) hv) (rw (game-n g) hw))
+      (any-ext (gameOf g) v _ _ (λ x. beq-true (any-ext (gameOf g) w _ _ (row-cell (vertexCount g) marks x))))
+
+  -- no w′ lacks a marked v′
+  pub row-odd-odd : ownerAt g v ≡ 1 → ownerAt g w ≡ 1
+      → not (searched offsets targets marks w v 1 (vertexCount g) true false) ≡ test even (gameOf g) (gameOf g) (relation (vertexCount g) marks) v w
+  unfolding test moves
+  row-odd-odd ov ow =
+      rw (own-even g v, own-even g w, ov, ow, search-next index marks 1 (vertexCount g) true false w v (rw (game-n g) hw) (rw (game-n g) hv))
+      (all-not (gameOf g) w _ _ (λ x. beq-false (any-ext (gameOf g) v _ _ (column-cell (vertexCount g) marks x))))

@@ -1,0 +1,193 @@
+-- Laws of the relation acceptor: it refuses k at p exactly as document 01's table says, passes exactly the direct simulations, and all
+-- that it passes lies in the written order.
+use mathlib.Core.Path.{_≡_, sym, subst, subst₂}
+use mathlib.Core.Logic.{_↔_, inl, inr}
+use mathlib.Core.Bool.{Bool, true, false, So}
+use mathlib.Core.List.{List, []}
+use Prim.Native.Nat.{ℕ, _+_, _*_, _/_, _%_, _≤_, _<_}
+use native.Mathlib.Omega.{arith}
+use native.Mathlib.Nat.{div-add-mod'}
+use lib.Arith.{digits-lt, digits-div, digits-mod}
+use lib.Dec.{ltb}
+use lib.ListN.{length, getD}
+use borrow.Author.Tests.{eqb-true, eq-eqb, ltb-true, ltb-false, lt-ltb, le-ltb}
+use Rattle.theory.specs.Bools.{_&_, bit}
+use Rattle.theory.specs.BoolsLaws.{clash, decide, So-not, and-in, and-out, not-in, not-out}
+use Rattle.theory.specs.Range.{first}
+use Rattle.theory.specs.RangeLaws.{first-before, first-passes}
+use Rattle.theory.specs.CountLaws.{row-lt, col-lt}
+use Rattle.theory.specs.Passes.{relOf}
+use Rattle.theory.specs.Game.{even}
+use Rattle.theory.specs.Simulation.{Passes, Below}
+use Rattle.theory.specs.SimulationLaws.{moves-mono}
+use Rattle.theory.specs.Order.{equalPriority, test, order}
+use Rattle.theory.specs.OrderLaws.{passes-in, passes-out}
+use Rattle.table.specs.Table.{vertexCount, gameOf}
+use Rattle.table.specs.Verdict.{accepted, refused}
+use Rattle.table.specs.VerdictLaws.{judge-clean, judge-accepted}
+use Rattle.table.specs.Reading.{gameRows}
+use Rattle.table.specs.ReadingLaws.{rows-render, well-clean}
+use Rattle.table.specs.Rules.{FirstRule, Rendered, none, next}
+use Rattle.table.specs.RulesLaws.{renders-placed, renders-first, judge-refused, judge-refuses, rendered-append}
+use Rattle.table.specs.WellFormed.{WellFormed}
+use Rattle.order.specs.Bytes.{isMark, relation}
+use Rattle.order.specs.PairLaws.{game-n}
+use Rattle.order.specs.OrderCall.{OrderWritten}
+use Rattle.order.specs.OrderRulesLaws.{clean-append, clean-split, clean-well, order-accepted, length-marks, written-marks, marked-below, below-marked}
+use Rattle.order.specs.RelationCall.{fails, firstHigh, firstFailing, relationRows, relationAnswer}
+use Rattle.order.specs.RelationRules.{Marked, Fails, relationRules, RelationPasses}
+
+-- ---- the relation as a Bool and as a type
+
+module _ (g marks : List ℕ) where
+  mark-out : (v w : ℕ) → So (relation (vertexCount g) marks v w) → Marked g marks v w
+  unfolding relation relOf isMark
+  mark-out v w t = eqb-true _ 1 t
+
+  mark-in : (v w : ℕ) → Marked g marks v w → So (relation (vertexCount g) marks v w)
+  unfolding relation relOf isMark
+  mark-in v w e = eq-eqb _ 1 e
+
+  -- the computed test of a pair is the test
+  abbrev pub passesTest : ℕ → ℕ → Bool
+  passesTest v w = equalPriority (gameOf g) (gameOf g) v w & test even (gameOf g) (gameOf g) (relation (vertexCount g) marks) v w
+
+  test-out : (v w : ℕ) → So (passesTest v w) → Passes even (gameOf g) (gameOf g) (Marked g marks) v w
+  test-out v w t =
+      let a = and-out t in
+      let p = passes-out even (gameOf g) (gameOf g) (relation (vertexCount g) marks) v w (a .0) (a .1) in
+      record { equal = p .equal; moves = moves-mono _ _ _ _ _ _ (λ x y s u. mark-out x y) (p .moves) }
+
+  test-in : (v w : ℕ) → Passes even (gameOf g) (gameOf g) (Marked g marks) v w → So (passesTest v w)
+  test-in v w p =
+      let q =
+      passes-in even (gameOf g) (gameOf g) (relation (vertexCount g) marks) v w
+      (record { equal = p .equal; moves = moves-mono _ _ _ _ _ _ (λ x y s u. mark-in x y) (p .moves) }) in
+      and-in (q .0) (q .1)
+
+  fails-is : (v w : ℕ) → So (fails g marks v w) ↔ Fails g marks v w
+  unfolding fails
+  fails-is v w = (
+    λ t. let a = and-out t in record { marked = mark-out v w (a .0); failing = λ p. clash (test-in v w p) (not-out (a .1)) },
+    λ f. and-in (mark-in v w (f .marked)) (not-in (So-not (λ t. f .failing (test-out v w t)))),
+  )
+
+-- ---- refused exactly by the table
+
+relation-rows-render : (g marks : List ℕ) → Rendered (relationRows g marks) (relationRules g marks)
+unfolding relationRows firstHigh firstFailing
+relation-rows-render g marks =
+    let n = vertexCount g in
+    rendered-append (rows-render g)
+    (next (renders-placed 21 (n * n) _ _ (ltb-true (length marks) (n * n), lt-ltb (length marks) (n * n)))
+    (next (renders-first 9 (λ i. ltb 1 (getD marks i 0)) (λ i. 1 < getD marks i 0) 0 (n * n) (λ i. i) (omega arith) (λ i. (ltb-true 1 (getD marks i 0), lt-ltb 1 (getD marks i 0))))
+    (next (renders-first 10 (λ i. fails g marks (i / n) (i % n)) (λ i. Fails g marks (i / n) (i % n)) 0 (n * n) (λ i. i) (omega arith) (λ i. fails-is g marks (i / n) (i % n)))
+    none)))
+
+pub relation-refused : (g marks : List ℕ) (k p : ℕ) → (relationAnswer g marks ≡ refused k p) ↔ FirstRule (relationRules g marks) k p
+unfolding relationAnswer
+relation-refused g marks k p = (judge-refused (relation-rows-render g marks) _ k p, λ f. judge-refuses (relation-rows-render g marks) f _)
+
+-- ---- accepted exactly if the marked pairs form a direct simulation
+
+-- no first, so none
+none-before : (p : ℕ → Bool) (e : ℕ) → ltb (first p 0 e) e ≡ false → (i : ℕ) → i < e → p i ≡ false
+none-before p e f i h = first-before p 0 e i (omega arith) (omega (arith, ltb-false (first p 0 e) e f))
+
+none-first : (p : ℕ → Bool) (e : ℕ) → ((i : ℕ) → i < e → p i ≡ false) → ltb (first p 0 e) e ≡ false
+none-first p e f = So-not (λ t. let l = ltb-true (first p 0 e) e t in clash (first-passes p 0 e (omega arith) l) (f (first p 0 e) l))
+
+module _ (g marks : List ℕ) where
+  pub relation-accepted : relationAnswer g marks ≡ accepted [] → RelationPasses g marks
+  unfolding relationAnswer relationRows firstHigh firstFailing
+  relation-accepted e =
+      let n = vertexCount g in
+      let c = clean-split (gameRows g) _ (judge-accepted _ [] [] e .0) in
+      record {
+        game = clean-well g (c .0);
+        fits = ltb-false (length marks) (n * n) (c .1 .0);
+        low = λ i h. ltb-false 1 (getD marks i 0) (none-before _ (n * n) (c .1 .1 .0) i h);
+        simulation = λ v w hv hw m.
+            let hv′ = rw (game-n g) at hv in
+            let hw′ = rw (game-n g) at hw in
+            let f : fails g marks v w ≡ false =
+            subst₂ (λ (x y : ℕ). fails g marks x y ≡ false) (digits-div v hw′) (digits-mod v hw′)
+            (none-before _ (n * n) (c .1 .1 .1 .0) (v * n + w) (digits-lt hv′ hw′)) in
+            elim (decide (passesTest g marks v w)) [
+              | inl t ↦ test-out g marks v w t
+              | inr t ↦ clash (fails-is g marks v w .1 (record { marked = m; failing = λ p. clash (test-in g marks v w p) t })) f
+            ];
+      }
+
+  pub relation-accepts : RelationPasses g marks → relationAnswer g marks ≡ accepted []
+  unfolding relationAnswer relationRows firstHigh firstFailing
+  relation-accepts r =
+      let n = vertexCount g in
+      judge-clean _ []
+      (clean-append (gameRows g) _ (well-clean g (r .game)) (
+        le-ltb (length marks) (n * n) (r .fits),
+        (
+          none-first _ (n * n) (λ i h. le-ltb 1 (getD marks i 0) (r .low i h)),
+          (
+            none-first _ (n * n)
+                (λ i h. So-not (λ t.
+                let f = fails-is g marks (i / n) (i % n) .0 t in
+                f .failing (r .simulation (i / n) (i % n) (rw (game-n g) (row-lt n n i h)) (rw (game-n g) (col-lt n n i h)) (f .marked)))),
+            tt,
+          ),
+        ),
+      ))
+
+  -- ---- all that is passed lies in the written order
+
+  pub passed-below : relationAnswer g marks ≡ accepted [] → (v w : ℕ) → Marked g marks v w → Below even (gameOf g) (gameOf g) v w
+  passed-below e v w m = record { relation = Marked g marks; simulation = relation-accepted e .simulation; holds = m }
+
+  pub passed-written : relationAnswer g marks ≡ accepted [] → (oldMarks newMarks oldSpare newSpare counts : List ℕ)
+      → OrderWritten g oldMarks newMarks oldSpare newSpare (accepted counts)
+      → (v w : ℕ) → v < vertexCount g → w < vertexCount g → Marked g marks v w → Marked g newMarks v w
+  passed-written e oldMarks newMarks oldSpare newSpare counts p v w hv hw m =
+      below-marked g oldMarks newMarks oldSpare newSpare counts p v w hv hw (passed-below e v w m)
+
+  -- ---- the empty relation passes
+
+  pub empty-passes : WellFormed g → vertexCount g * vertexCount g ≤ length marks → ((i : ℕ) → i < vertexCount g * vertexCount g → getD marks i 0 ≡ 0)
+      → relationAnswer g marks ≡ accepted []
+  empty-passes well fit zero = relation-accepts (record {
+    game = well;
+    fits = fit;
+    low = λ i h. omega (arith, zero i h);
+    simulation = λ v w hv hw m. absurd (omega (arith, m, zero (v * vertexCount g + w) (digits-lt (rw (game-n g) at hv) (rw (game-n g) at hw))));
+  })
+
+-- ---- the written order passes
+
+module _ (g oldMarks newMarks oldSpare newSpare counts : List ℕ) (p : OrderWritten g oldMarks newMarks oldSpare newSpare (accepted counts)) where
+  bits-low : (b : Bool) → bit b ≤ 1
+  unfolding bit
+  bits-low true = omega arith
+  bits-low false = omega arith
+
+  pub written-passes : relationAnswer g newMarks ≡ accepted []
+  written-passes =
+      let n = vertexCount g in
+      let f = order-accepted g oldMarks oldSpare counts (sym (p .verdict)) .0 in
+      relation-accepts g newMarks (record {
+        game = f .game;
+        fits = omega (arith, f .marksFit, length-marks g oldMarks newMarks oldSpare newSpare counts p);
+        low = λ i h.
+            subst (λ (k : ℕ). getD newMarks k 0 ≤ 1) (div-add-mod' i n)
+            (rw (written-marks g oldMarks newMarks oldSpare newSpare counts p (i / n) (i % n) (row-lt n n i h) (col-lt n n i h)) (bits-low _));
+        simulation = λ v w hv hw m.
+            let b = marked-below g oldMarks newMarks oldSpare newSpare counts p v w (rw (game-n g) at hv) (rw (game-n g) at hw) m in
+            let q = b .simulation v w hv hw (b .holds) in
+            record {
+              equal = q .equal;
+              moves =
+                  moves-mono _ _ _ _ _ _
+                  (λ x y s t r.
+                  below-marked g oldMarks newMarks oldSpare newSpare counts p x y (rw (game-n g) at (s .inside)) (rw (game-n g) at (t .inside))
+                  (record { relation = b .relation; simulation = b .simulation; holds = r }))
+                  (q .moves);
+            };
+      })

@@ -1,0 +1,118 @@
+// The passes of document 01, "The order", over marks in buffers.
+use crate::pairs::Pair;
+use crate::pairs::next_pair;
+use crate::pairs::pair_passes;
+use crate::pairs::same_priority;
+ghost use mathlib.Core.Path.{_≡_};
+ghost use Prim.Native.Nat.{_+_, _*_, _<_, _≤_};
+ghost use lib.ListN.{length};
+ghost use Rattle.theory.specs.Bools.{bit};
+ghost use Rattle.theory.specs.Range.{tabulate};
+ghost use Rattle.theory.specs.Order.{equalPriority};
+ghost use Rattle.table.specs.Table.{vertexCount, gameOf};
+ghost use Rattle.table.specs.Verdict.{written};
+ghost use Rattle.table.specs.WellFormed.{WellFormed};
+ghost use Rattle.order.specs.Bytes.{bytes};
+ghost use Rattle.order.specs.Index.{Index};
+ghost use Rattle.order.specs.Clearing.{pairCount, equalPairs, PairDone, PassDone, OrderDone};
+
+// The mark of (v, w) in pass 0.
+fn equal_mark(game: &[u16], v: usize, w: usize) -> u8
+    requires { ⌜ WellFormed (now game) ⌝ }
+    requires { ⌜ (v < vertexCount (now game)) × (w < vertexCount (now game)) ⌝ }
+    ensures { λ r. ⌜ r ≡ bit (equalPriority (gameOf (now (game .entry))) (gameOf (now (game .entry))) v w) ⌝ }
+{
+    if same_priority(game, v, w) { 1 } else { 0 }
+}
+
+// Pass 0.
+fn mark_equal(game: &[u16], marks: &mut [u8])
+    requires { ⌜ WellFormed (now game) ⌝ }
+    requires { ⌜ pairCount (now game) ≤ length (now marks) ⌝ }
+    ensures { λ r. ⌜ now (marks .exit) ≡ written (bytes (tabulate (pairCount (now (game .entry))) (equalPairs (now (game .entry))))) (now (marks .entry)) ⌝ }
+{
+    let n = game[0] as usize;
+    let size = n * n;
+    let mut at = Pair { v: 0, w: 0 };
+    let mut k = 0;
+    while k < size {
+        marks[k] = equal_mark(game, at.v, at.w);
+        at = next_pair(at, n);
+        k += 1;
+    }
+}
+
+// Writes the mark of (v, w) after the pass; 1 if the pass clears it.
+fn pass_pair(
+    game: &[u16],
+    offsets: &[u16],
+    targets: &[u16],
+    marks: &[u8],
+    spare: &mut [u8],
+    v: usize,
+    w: usize,
+) -> u32
+    requires { ⌜ WellFormed (now game) ⌝ }
+    requires { ⌜ Index (gameOf (now game)) (now offsets) (now targets) ⌝ }
+    requires { ⌜ (v < vertexCount (now game)) × (w < vertexCount (now game)) ⌝ }
+    requires { ⌜ (pairCount (now game) ≤ length (now marks)) × (pairCount (now game) ≤ length (now spare)) ⌝ }
+    ensures { λ r. ⌜ PairDone (now (game .entry)) (now (marks .entry)) (now (spare .entry)) (now (spare .exit)) v w r ⌝ }
+{
+    let k = v * (game[0] as usize) + w;
+    if marks[k] != 1 {
+        spare[k] = 0;
+        return 0;
+    }
+    if !pair_passes(game, offsets, targets, marks, v, w) {
+        spare[k] = 0;
+        return 1;
+    }
+    spare[k] = 1;
+    0
+}
+
+// A pass from marks to spare; how many marks it clears.
+fn pass(game: &[u16], offsets: &[u16], targets: &[u16], marks: &[u8], spare: &mut [u8]) -> u32
+    requires { ⌜ WellFormed (now game) ⌝ }
+    requires { ⌜ Index (gameOf (now game)) (now offsets) (now targets) ⌝ }
+    requires { ⌜ (pairCount (now game) ≤ length (now marks)) × (pairCount (now game) ≤ length (now spare)) ⌝ }
+    ensures { λ r. ⌜ PassDone (now (game .entry)) (now (marks .entry)) (now (spare .entry)) (now (spare .exit)) r ⌝ }
+{
+    let n = game[0] as usize;
+    let pairs = n * n;
+    let mut cleared: u32 = 0;
+    let mut at = Pair { v: 0, w: 0 };
+    let mut i = 0;
+    while i < pairs {
+        cleared += pass_pair(game, offsets, targets, marks, spare, at.v, at.w);
+        at = next_pair(at, n);
+        i += 1;
+    }
+    cleared
+}
+
+// Makes the passes, from one buffer to the other and back; how many there were. The last leaves the same marks in both.
+pub fn settle(
+    game: &[u16],
+    offsets: &[u16],
+    targets: &[u16],
+    marks: &mut [u8],
+    spare: &mut [u8],
+) -> u32
+    requires { ⌜ WellFormed (now game) ⌝ }
+    requires { ⌜ Index (gameOf (now game)) (now offsets) (now targets) ⌝ }
+    requires { ⌜ (pairCount (now game) ≤ length (now marks)) × (pairCount (now game) ≤ length (now spare)) ⌝ }
+    ensures { λ r. ⌜ OrderDone (now (game .entry)) (now (marks .entry)) (now (marks .exit)) (now (spare .entry)) (now (spare .exit)) r ⌝ }
+{
+    mark_equal(game, marks);
+    let mut passes: u32 = 0;
+    loop {
+        if pass(game, offsets, targets, marks, spare) == 0 {
+            return passes + 1;
+        }
+        if pass(game, offsets, targets, spare, marks) == 0 {
+            return passes + 2;
+        }
+        passes += 2;
+    }
+}

@@ -1,0 +1,128 @@
+// The pair test of direct simulation, over a successor index.
+use crate::index::Run;
+use crate::index::run_of;
+ghost use mathlib.Core.Path.{_≡_};
+ghost use Prim.Native.Nat.{ℕ, _+_, _*_, _<_, _≤_};
+ghost use lib.ListN.{length, getD};
+ghost use Rattle.theory.specs.Game.{even};
+ghost use Rattle.theory.specs.Order.{equalPriority, test};
+ghost use Rattle.table.specs.Table.{vertexCount, gameOf};
+ghost use Rattle.table.specs.WellFormed.{WellFormed};
+ghost use Rattle.order.specs.Bytes.{relation};
+ghost use Rattle.order.specs.Clearing.{PairAt};
+ghost use Rattle.order.specs.Index.{Index};
+ghost use Rattle.order.specs.Search.{someFrom, hasMark, searchEnds, Reaches};
+
+// A pair of vertices.
+pub struct Pair {
+    pub v: usize,
+    pub w: usize,
+}
+
+// The pair after this one in row order.
+pub fn next_pair(at: Pair, n: usize) -> Pair
+    requires { ⌜ (at .v < n) × (at .w < n) ⌝ }
+    ensures { λ r. ⌜ PairAt n (at .v * n + at .w + 1) (r .v) (r .w) ⌝ }
+{
+    let v = at.v;
+    let w = at.w + 1;
+    if w < n {
+        Pair { v, w }
+    } else {
+        Pair { v: v + 1, w: 0 }
+    }
+}
+
+// Whether a target y of the run has the wanted mark; y's mark is byte base + y * stride.
+fn finds(marks: &[u8], targets: &[u16], ys: Run, base: usize, stride: usize, wanted: bool) -> bool
+    requires { ⌜ ys .end ≤ length (now targets) ⌝ }
+    requires { ⌜ ((k : ℕ) → ys .from ≤ k → k < ys .end → base + getD (now targets) k 0 * stride < length (now marks)) ⌝ }
+    ensures { λ r. ⌜ r ≡ someFrom (hasMark (now (marks .entry)) (now (targets .entry)) base stride wanted) (ys .from) (ys .end) ⌝ }
+{
+    let end = ys.end;
+    let mut k = ys.from;
+    let found = loop {
+        if k >= end {
+            break false;
+        }
+        let at = base + (targets[k] as usize) * stride;
+        if (marks[at] == 1) == wanted {
+            break true;
+        }
+        k += 1;
+    };
+    found
+}
+
+// Whether for some target x of xs the search for a target y of ys with the wanted mark ends as `found`; the mark of x and y is byte
+// x * across + y * down.
+fn some_ends(
+    marks: &[u8],
+    targets: &[u16],
+    xs: Run,
+    ys: Run,
+    across: usize,
+    down: usize,
+    wanted: bool,
+    found: bool,
+) -> bool
+    requires { ⌜ (xs .end ≤ length (now targets)) × (ys .end ≤ length (now targets)) × (across ≤ 256) ⌝ }
+    requires { ⌜ Reaches (now marks) (now targets) (xs .from) (xs .end) (ys .from) (ys .end) across down ⌝ }
+    ensures { λ r. ⌜ r ≡ someFrom (searchEnds (now (marks .entry)) (now (targets .entry)) (ys .from) (ys .end) across down wanted found) (xs .from) (xs .end) ⌝ }
+{
+    let end = xs.end;
+    let mut i = xs.from;
+    let hit = loop {
+        if i >= end {
+            break false;
+        }
+        let base = (targets[i] as usize) * across;
+        if finds(marks, targets, ys, base, down, wanted) == found {
+            break true;
+        }
+        i += 1;
+    };
+    hit
+}
+
+// Whether the priorities are equal.
+pub fn same_priority(game: &[u16], v: usize, w: usize) -> bool
+    requires { ⌜ WellFormed (now game) ⌝ }
+    requires { ⌜ (v < vertexCount (now game)) × (w < vertexCount (now game)) ⌝ }
+    ensures { λ r. ⌜ r ≡ equalPriority (gameOf (now (game .entry))) (gameOf (now (game .entry))) v w ⌝ }
+{
+    let p = game[2 + v];
+    let q = game[2 + w];
+    p == q
+}
+
+// Document 01's test of the pair (v, w) under the marks. A row asks one search, over v' and w' or over w' and v'.
+pub fn pair_passes(
+    game: &[u16],
+    offsets: &[u16],
+    targets: &[u16],
+    marks: &[u8],
+    v: usize,
+    w: usize,
+) -> bool
+    requires { ⌜ WellFormed (now game) ⌝ }
+    requires { ⌜ Index (gameOf (now game)) (now offsets) (now targets) ⌝ }
+    requires { ⌜ (v < vertexCount (now game)) × (w < vertexCount (now game)) ⌝ }
+    requires { ⌜ vertexCount (now game) * vertexCount (now game) ≤ length (now marks) ⌝ }
+    ensures { λ r. ⌜ r ≡ test even (gameOf (now (game .entry))) (gameOf (now (game .entry))) (relation (vertexCount (now (game .entry))) (now (marks .entry))) v w ⌝ }
+{
+    let n = game[0] as usize;
+    let vs = run_of(offsets, v);
+    let ws = run_of(offsets, w);
+    let owners = 2 * game[2 + n + v] + game[2 + n + w];
+    match owners {
+        // no v' lacks a marked w'
+        0 => !some_ends(marks, targets, vs, ws, n, 1, true, false),
+        // no v' has an unmarked w'
+        1 => !some_ends(marks, targets, vs, ws, n, 1, false, true),
+        // some v' has a marked w'
+        2 => some_ends(marks, targets, vs, ws, n, 1, true, true),
+        // no w' lacks a marked v'
+        _ => !some_ends(marks, targets, ws, vs, 1, n, true, false),
+    }
+}

@@ -1,0 +1,251 @@
+-- Laws of the plan acceptor: it refuses k at p exactly as document 01's table says, and accepts exactly the winning plans within the limits.
+use mathlib.Core.Path.{_≡_, refl, sym, ap, _∙_, subst}
+use mathlib.Core.Logic.{_⊎_, inl, inr, _↔_, _≢_, ⊎-elim}
+use mathlib.Core.Bool.{Bool, true, false, not, cond, So}
+use mathlib.Core.List.{List, [], _∷_, _++_, append-assoc}
+use Prim.Native.Nat.{ℕ, suc, _+_, _*_, _≤_, _<_}
+use native.Mathlib.Decide.{decLt}
+use native.Mathlib.Omega.{arith}
+use lib.Dec.{eqb, ltb, leb}
+use lib.ListN.{length, getD, take, drop}
+use borrow.Author.Tests.{ltb-true, ltb-false, lt-ltb, le-ltb, leb-true, le-leb, eqb-true, eqb-false, eq-eqb, ne-eqb}
+use Rattle.theory.specs.Bools.{_&_, _or_, imp}
+use Rattle.theory.specs.BoolsLaws.{decide, clash, So-not, and-in, and-out, not-in, not-out, or-left, or-right, or-out, imp-in, imp-out, imp-fails}
+use Rattle.theory.specs.Range.{allBelow, first}
+use Rattle.theory.specs.RangeLaws.{all-in, all-out, all-fails, first-before, first-le}
+use Rattle.theory.specs.Game.{Game, own, Succ, parity}
+use Rattle.theory.specs.Plan.{Plan, linked, Walk, Winning, Wins}
+use Rattle.theory.specs.Returns.{WrongWalk, Return}
+use Rattle.theory.specs.ReturnsLaws.{wrongWalk-return, closed-in, closed-out}
+use Rattle.table.specs.Table.{vertexCount, playerOf, gameOf}
+use Rattle.table.specs.TableLaws.{edge-target, edge-succ}
+use Rattle.table.specs.Verdict.{Row, Answer, accepted, refused, judge, Clean}
+use Rattle.table.specs.VerdictLaws.{judge-clean, judge-accepted, judge-past, judge-stays}
+use Rattle.table.specs.Reading.{gameRows, readAnswer}
+use Rattle.table.specs.ReadingLaws.{rows-render, well-clean, read-accepted}
+use Rattle.table.specs.ReadingRules.{gameRules}
+use Rattle.table.specs.Rules.{Rule, FirstRule, here, later, NoRule, no-rule, fails, Rendered, none, next}
+use Rattle.table.specs.RulesLaws.{renders-placed, renders-first, judge-refused, judge-refuses, rendered-append, clean-none, none-clean}
+use Rattle.table.specs.WellFormed.{WellFormed}
+use Rattle.plan.specs.PlanTable.{positionCount, linkCount, vertexAt, linkSource, linkTarget, planLength, planOf}
+use Rattle.plan.specs.PlanTableLaws.{planOf-length, planOf-vertex, planOf-links, planOf-link, Link, link-in, link-out, anyLink-in, anyLink-out}
+use Rattle.plan.specs.PlanFormed.{PlanSized, PlanFormed}
+use Rattle.plan.specs.PlanFormedLaws.{size-good, good-size, words-good}
+use Rattle.plan.specs.Acceptance.{badSize, beyond, firstBeyond, strays, firstStray, anyLink, answers, lacksLink, firstLackingLink, returns, positionPriority, hasLink, returnsWrong, firstReturn, planRows, planAnswer}
+use Rattle.plan.specs.AcceptanceRules.{BadSize, Beyond, Strays, LacksMove, LacksAnswer, planRules}
+use Rattle.plan.specs.ReachLaws.{return-in, return-out}
+
+-- ---- what the tests say
+
+bad-size : (w : List ℕ) → So (badSize w) ↔ BadSize w
+unfolding badSize
+bad-size w = (out, into)
+  where
+    out : So (badSize w) → BadSize w
+    out t = ⊎-elim
+        (λ a. ⊎-elim
+        (λ b. ⊎-elim
+        (λ c. ⊎-elim (λ d. inl (ltb-true (length w) 2 d)) (λ d. inr (inl (eqb-true (positionCount w) 0 d))) (or-out c))
+        (λ c. inr (inr (inl (ltb-true 4096 (positionCount w) c))))
+        (or-out b))
+        (λ b. inr (inr (inr (inl (ltb-true 16384 (linkCount w) b)))))
+        (or-out a))
+        (λ a. inr (inr (inr (inr (eqb-false _ _ (not-out a))))))
+        (or-out t)
+
+    into : BadSize w → So (badSize w)
+    into (inl a) = or-left _ (or-left _ (or-left _ (or-left _ (lt-ltb (length w) 2 a))))
+    into (inr (inl a)) = or-left _ (or-left _ (or-left _ (or-right _ (eq-eqb (positionCount w) 0 a))))
+    into (inr (inr (inl a))) = or-left _ (or-left _ (or-right _ (lt-ltb 4096 (positionCount w) a)))
+    into (inr (inr (inr (inl a)))) = or-left _ (or-right _ (lt-ltb 16384 (linkCount w) a))
+    into (inr (inr (inr (inr a)))) = or-right _ (not-in (ne-eqb _ _ a))
+
+is-beyond : (n : ℕ) (w : List ℕ) (k : ℕ) → So (beyond n w k) ↔ Beyond n w k
+unfolding beyond
+is-beyond n w k = (out (decLt k (2 + positionCount w)), into)
+  where
+    out : Dec (k < 2 + positionCount w) → So (beyond n w k) → Beyond n w k
+    out (yes l) t = inl (l, leb-true n (getD w k 0) (rw (lt-ltb k (2 + positionCount w) l) at t))
+    out (no m) t =
+        let l : 2 + positionCount w ≤ k = omega arith in
+        inr (l, leb-true (positionCount w) (getD w k 0) (rw (le-ltb k (2 + positionCount w) l) at t))
+
+    into : Beyond n w k → So (beyond n w k)
+    into (inl a) = rw (lt-ltb k (2 + positionCount w) (a .0)) (le-leb n (getD w k 0) (a .1))
+    into (inr a) = rw (le-ltb k (2 + positionCount w) (a .0)) (le-leb (positionCount w) (getD w k 0) (a .1))
+
+is-strays : (g w : List ℕ) (k : ℕ) → So (strays g w k) ↔ Strays g w k
+unfolding strays
+is-strays g w k = (λ t e. clash e (not-out t), λ d. not-in {b = gameOf g .edge (vertexAt w (linkSource w k)) (vertexAt w (linkTarget w k))} (So-not d))
+
+-- every successor is answered
+pub record Answered (w : List ℕ) (i x : ℕ) : Type 0 where
+  pub position : ℕ
+  pub linked : So (hasLink w i position)
+  pub at : vertexAt w position ≡ x
+
+answer-out : (w : List ℕ) (i x : ℕ) → So (anyLink w i (λ j. eqb (vertexAt w j) x)) → Answered w i x
+answer-out w i x t = let r = anyLink-out w i _ t in record { position = r .0; linked = r .1; at = eqb-true (vertexAt w (r .0)) x (r .2) }
+
+answer-in : (w : List ℕ) (i x : ℕ) → Answered w i x → So (anyLink w i (λ j. eqb (vertexAt w j) x))
+answer-in w i x a = anyLink-in w i (a .position) _ (a .linked) (eq-eqb (vertexAt w (a .position)) x (a .at))
+
+pub answers-out : (g w : List ℕ) (i : ℕ) → So (answers g w i) → (x : ℕ) → Succ (gameOf g) (vertexAt w i) x → Answered w i x
+unfolding answers gameOf
+answers-out g w i t x s = answer-out w i x (imp-out (all-out {n = vertexCount g} t .at x (s .inside)) (s .along))
+
+answers-in : (g w : List ℕ) (i : ℕ) → ((x : ℕ) → Succ (gameOf g) (vertexAt w i) x → Answered w i x) → So (answers g w i)
+unfolding answers gameOf
+answers-in g w i f = all-in (vertexCount g) _ (λ x h. imp-in (λ e. answer-in w i x (f x (record { inside = h; along = e }))))
+
+answers-fail : (g w : List ℕ) (i : ℕ) → answers g w i ≡ false → (x : ℕ) × Succ (gameOf g) (vertexAt w i) x × ¬ Answered w i x
+unfolding answers gameOf
+answers-fail g w i e =
+    let r = all-fails (vertexCount g) _ e in
+    let c = imp-fails _ _ (r .2) in
+    (r .0, record { inside = r .1; along = c .0 }, λ a. clash (answer-in w i (r .0) a) (c .1))
+
+module _ (g : List ℕ) (player : ℕ) (w : List ℕ) (i : ℕ) where
+  abbrev owned : Bool
+  owned = own (gameOf g) (playerOf player) (vertexAt w i)
+
+  pub lacks-out : So (lacksLink g player w i) → LacksMove g player w i ⊎ LacksAnswer g player w i
+  unfolding lacksLink
+  lacks-out t = go owned refl (not-out t)
+    where
+      go : (b : Bool) → owned ≡ b → cond b (anyLink w i (λ j. true)) (answers g w i) ≡ false → LacksMove g player w i ⊎ LacksAnswer g player w i
+      go true e f = inl (record { owner = e; none = λ j l. clash (anyLink-in w i j (λ k. true) (rw (planOf-link w i j) at l) refl) f })
+      go false e f =
+          let r = answers-fail g w i f in
+          inr (record { owner = e; successor = r .0; move = r .1; none = λ j l d. r .2 (record { position = j; linked = rw (planOf-link w i j) at l; at = d }) })
+
+  lacks-in : LacksMove g player w i ⊎ LacksAnswer g player w i → So (lacksLink g player w i)
+  unfolding lacksLink
+  lacks-in (inl m) = rw (m .owner) (not-in (So-not (λ t. let r = anyLink-out w i (λ j. true) t in m .none (r .0) (rw (planOf-link w i (r .0)) (r .1)))))
+  lacks-in (inr m) = rw (m .owner) (not-in (So-not (λ t. let r = answers-out g w i t (m .successor) (m .move) in m .none (r .position) (rw (planOf-link w i (r .position)) (r .linked)) (r .at))))
+
+-- links of a well-formed plan lead from position to position
+pub link-inside : {n : ℕ} {w : List ℕ} → PlanFormed n w → (i j : ℕ) → So (hasLink w i j) → (i < positionCount w) × (j < positionCount w)
+link-inside {n} {w} f i j t =
+    let k = link-out w i j t in
+    (rw (← k .source) (f .sources (k .number) (k .inside)), rw (← k .target) (f .targets (k .number) (k .inside)))
+
+is-wrong : (g : List ℕ) (player : ℕ) (w : List ℕ) → PlanFormed (vertexCount g) w → (i : ℕ)
+    → So (returnsWrong g player w i) ↔ WrongWalk (playerOf player) (positionPriority g w) (linked (planOf w .links)) i
+unfolding returnsWrong
+is-wrong g player w f i =
+    let a = playerOf player in
+    let c = positionPriority g w in
+    rw (planOf-links w) (
+      λ t. wrongWalk-return a c (hasLink w) i .1 (return-out (positionCount w) (hasLink w) (link-inside f) a c i t),
+      λ x. return-in (positionCount w) (hasLink w) (link-inside f) a c i (wrongWalk-return a c (hasLink w) i .0 x),
+    )
+
+-- ---- the computed rows render document 01's. Rows 14 to 16 do so for a plan that passes 12 and 13; for no other are they looked at.
+
+-- 1 to 13
+abbrev pub wordRows : List ℕ → ℕ → List ℕ → List Row
+wordRows g player w = gameRows g ++ take 3 (planRows g player w)
+
+abbrev wordRules : List ℕ → ℕ → List ℕ → List Rule
+wordRules g player w = gameRules g ++ take 3 (planRules g player w)
+
+words-render : (g : List ℕ) (player : ℕ) (w : List ℕ) → Rendered (wordRows g player w) (wordRules g player w)
+unfolding planRows firstBeyond
+words-render g player w =
+    rendered-append (rows-render g)
+    (next (renders-placed 11 0 _ _ (ltb-true 1 player, lt-ltb 1 player))
+    (next (renders-placed 12 0 _ _ (bad-size w))
+    (next (renders-first 13 (beyond (vertexCount g) w) (Beyond (vertexCount g) w) 2 (planLength (positionCount w) (linkCount w)) (λ k. k) (omega arith) (is-beyond (vertexCount g) w))
+    none)))
+
+links-render : (g : List ℕ) (player : ℕ) (w : List ℕ) → PlanFormed (vertexCount g) w → Rendered (drop 3 (planRows g player w)) (drop 3 (planRules g player w))
+unfolding planRows firstStray firstLackingLink firstReturn
+links-render g player w f =
+    next (renders-first 14 (strays g w) (Strays g w) 0 (linkCount w) (λ k. k) (omega arith) (is-strays g w))
+    (next (renders-first 15 (lacksLink g player w) _ 0 (positionCount w) (λ i. i) (omega arith) (λ i. (lacks-out g player w i, lacks-in g player w i)))
+    (next (renders-first 16 (returnsWrong g player w) _ 0 (positionCount w) (λ i. i) (omega arith) (is-wrong g player w f))
+    none))
+
+pub clean-split : (rs ss : List Row) → Clean (rs ++ ss) → Clean rs × Clean ss
+clean-split [] ss c = (tt, c)
+clean-split (r ∷ rs) ss c = let x = clean-split rs ss (c .1) in ((c .0, x .0), x .1)
+
+pub clean-append : (rs ss : List Row) → Clean rs → Clean ss → Clean (rs ++ ss)
+clean-append [] ss c d = d
+clean-append (r ∷ rs) ss c d = (c .0, clean-append rs ss (c .1) d)
+
+-- a plan that passes 1 to 13
+pub record WordsPass (g : List ℕ) (player : ℕ) (w : List ℕ) : Type 0 where
+  pub game : WellFormed g
+  pub number : player ≤ 1
+  pub formed : PlanFormed (vertexCount g) w
+
+pub clean-words : (g : List ℕ) (player : ℕ) (w : List ℕ) → Clean (wordRows g player w) → WordsPass g player w
+unfolding planRows readAnswer
+clean-words g player w c =
+    let d = clean-split (gameRows g) _ c in
+    record {
+      game = read-accepted g _ (judge-clean (gameRows g) _ (d .0)) .0;
+      number = ltb-false 1 player (d .1 .0);
+      formed = words-good (vertexCount g) w (size-good w (d .1 .1 .0)) (ltb-false (firstBeyond (vertexCount g) w) _ (d .1 .1 .1 .0));
+    }
+
+-- ---- rules after rules, and rows after rows
+
+first-front : {qs : List Rule} {k p : ℕ} (ts : List Rule) → FirstRule qs k p → FirstRule (qs ++ ts) k p
+first-front ts (here h e a) = here h e a
+first-front ts (later m f) = later m (first-front ts f)
+
+first-behind : {qs ts : List Rule} {k p : ℕ} → NoRule qs → FirstRule ts k p → FirstRule (qs ++ ts) k p
+first-behind no-rule f = f
+first-behind (fails m n) f = later m (first-behind n f)
+
+first-split : (qs ts : List Rule) (k p : ℕ) → FirstRule (qs ++ ts) k p → FirstRule qs k p ⊎ (NoRule qs × FirstRule ts k p)
+first-split [] ts k p f = inr (no-rule, f)
+first-split (q ∷ qs) ts k p (here h e a) = inl (here h e a)
+first-split (q ∷ qs) ts k p (later m f) = go (first-split qs ts k p f)
+  where
+    go : FirstRule qs k p ⊎ (NoRule qs × FirstRule ts k p) → FirstRule (q ∷ qs) k p ⊎ (NoRule (q ∷ qs) × FirstRule ts k p)
+    go (inl a) = inl (later m a)
+    go (inr b) = inr (fails m (b .0), b .1)
+
+judge-split : (rs ss : List Row) (k p : ℕ) → judge (rs ++ ss) [] ≡ refused k p → (judge rs [] ≡ refused k p) ⊎ (Clean rs × (judge ss [] ≡ refused k p))
+judge-split rs ss k p e = go (judge rs []) refl
+  where
+    go : (a : Answer) → judge rs [] ≡ a → (judge rs [] ≡ refused k p) ⊎ (Clean rs × (judge ss [] ≡ refused k p))
+    go (accepted counts) f = let c = judge-accepted rs [] counts f .0 in inr (c, sym (judge-past rs ss [] c) ∙ e)
+    go (refused k′ p′) f = inl (f ∙ sym (judge-stays rs ss [] [] k′ p′ f) ∙ e)
+
+-- ---- refused k at p exactly if rule k is the first whose condition holds, and it names p
+
+pub split-rows : (g : List ℕ) (player : ℕ) (w : List ℕ) → gameRows g ++ planRows g player w ≡ wordRows g player w ++ drop 3 (planRows g player w)
+unfolding planRows
+split-rows g player w = sym (append-assoc (gameRows g) (take 3 (planRows g player w)) (drop 3 (planRows g player w)))
+
+split-rules : (g : List ℕ) (player : ℕ) (w : List ℕ) → gameRules g ++ planRules g player w ≡ wordRules g player w ++ drop 3 (planRules g player w)
+split-rules g player w = sym (append-assoc (gameRules g) (take 3 (planRules g player w)) (drop 3 (planRules g player w)))
+
+module _ (g : List ℕ) (player : ℕ) (w : List ℕ) (k p : ℕ) where
+  refused-rule : judge (wordRows g player w ++ drop 3 (planRows g player w)) [] ≡ refused k p → FirstRule (wordRules g player w ++ drop 3 (planRules g player w)) k p
+  refused-rule e = go (judge-split _ _ k p e)
+    where
+      go : (judge (wordRows g player w) [] ≡ refused k p) ⊎ (Clean (wordRows g player w) × (judge (drop 3 (planRows g player w)) [] ≡ refused k p))
+          → FirstRule (wordRules g player w ++ drop 3 (planRules g player w)) k p
+      go (inl f) = first-front (drop 3 (planRules g player w)) (judge-refused (words-render g player w) [] k p f)
+      go (inr c) =
+          first-behind (clean-none (words-render g player w) (c .0)) (judge-refused (links-render g player w (clean-words g player w (c .0) .formed)) [] k p (c .1))
+
+  rule-refused : FirstRule (wordRules g player w ++ drop 3 (planRules g player w)) k p → judge (wordRows g player w ++ drop 3 (planRows g player w)) [] ≡ refused k p
+  rule-refused f = go (first-split (wordRules g player w) _ k p f)
+    where
+      go : FirstRule (wordRules g player w) k p ⊎ (NoRule (wordRules g player w) × FirstRule (drop 3 (planRules g player w)) k p)
+          → judge (wordRows g player w ++ drop 3 (planRows g player w)) [] ≡ refused k p
+      go (inl f) = judge-stays (wordRows g player w) (drop 3 (planRows g player w)) [] [] k p (judge-refuses (words-render g player w) f [])
+      go (inr n) =
+          let c = none-clean (words-render g player w) (n .0) in
+          judge-past (wordRows g player w) (drop 3 (planRows g player w)) [] c ∙ judge-refuses (links-render g player w (clean-words g player w c .formed)) (n .1) []
+
+  pub plan-refused : (planAnswer g player w ≡ refused k p) ↔ FirstRule (gameRules g ++ planRules g player w) k p
+  unfolding planAnswer
+  plan-refused = rw (split-rows g player w, split-rules g player w) (refused-rule, rule-refused)

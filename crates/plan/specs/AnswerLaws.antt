@@ -1,0 +1,77 @@
+-- Refusal 15 by the two indexes is refusal 15 by the words of game and plan.
+use mathlib.Core.Path.{_≡_, refl, sym, ap, _∙_, subst}
+use mathlib.Core.Bool.{Bool, true, false, not, cond, So}
+use mathlib.Core.List.{List}
+use Prim.Native.Nat.{ℕ, _+_, _≤_, _<_}
+use native.Mathlib.Decide.{ℕ-discrete}
+use native.Mathlib.Omega.{arith}
+use lib.Dec.{eqb}
+use lib.ListN.{getD}
+use borrow.Author.Tests.{eqb-true, eq-eqb, ne-eqb}
+use Rattle.theory.specs.Bools.{_&_, imp}
+use Rattle.theory.specs.BoolsLaws.{clash, So-ext, So-not, and-in, and-out, not-in, not-out, imp-in, imp-out, imp-fails}
+use Rattle.theory.specs.Range.{allBelow, anyBelow}
+use Rattle.theory.specs.RangeLaws.{all-in, all-out, all-fails, any-in, any-out}
+use Rattle.theory.specs.Game.{even, odd, own}
+use Rattle.table.specs.Table.{vertexCount, tableEdges, ownerAt, sourceAt, targetAt, playerOf, gameOf}
+use Rattle.table.specs.WellFormed.{WellFormed}
+use Rattle.table.specs.TableLaws.{player-zero, player-one, own-even, own-one, edge-in, edge-out}
+use Rattle.plan.specs.PlanTable.{positionCount, vertexAt}
+use Rattle.plan.specs.PlanFormed.{PlanFormed}
+use Rattle.plan.specs.Acceptance.{anyLink, answers, lacksLink}
+use Rattle.plan.specs.Index.{anyFrom, among, LinkIndex, EdgeIndex}
+use Rattle.plan.specs.IndexLaws.{from-in, from-none, among-any}
+use Rattle.plan.specs.Marks.{standsAt, unanswered}
+use Rattle.plan.specs.ReturnLaws.{among-link}
+
+-- the player moves at v exactly if v's owner word is the player's number
+pub own-number : (g : List ℕ) → WellFormed g → (player v : ℕ) → player ≤ 1 → v < vertexCount g → own (gameOf g) (playerOf player) v ≡ eqb (ownerAt g v) player
+own-number g well player v h l = elim (ℕ-discrete player 0) [
+  | yes e ↦ rw (e, player-zero) (own-even g v)
+  | no d ↦ (
+      let e : player ≡ 1 = omega arith in
+      rw (e, player-one) (own-one g well v l))
+]
+
+-- a range is empty exactly if it ends where it starts
+empty-range : (a e : ℕ) → a ≤ e → not (anyFrom a e (λ t. true)) ≡ eqb a e
+empty-range a e h = elim (ℕ-discrete a e) [
+  | yes d ↦ rw (← d, So-not (from-none a (λ t. true)), eq-eqb a a refl)
+  | no d ↦ rw (from-in a e (λ t. true) a (omega arith) (omega arith) refl, ne-eqb a e d)
+]
+
+module _ (g w starts targets edgeStarts edgeTargets : List ℕ) (well : WellFormed g) (formed : PlanFormed (vertexCount g) w)
+    (links : LinkIndex w starts targets) (edges : EdgeIndex g edgeStarts edgeTargets) (player i : ℕ) (h : player ≤ 1) (l : i < positionCount w) where
+  pub lacks-own : getD starts i 0 ≤ getD starts (i + 1) 0 → ownerAt g (vertexAt w i) ≡ player → lacksLink g player w i ≡ eqb (getD starts i 0) (getD starts (i + 1) 0)
+  unfolding lacksLink among
+  lacks-own order e =
+      rw (own-number g well player (vertexAt w i) h (formed .vertices i l), eq-eqb (ownerAt g (vertexAt w i)) player e, ← among-link w starts targets links i l (λ j. true))
+      (empty-range (getD starts i 0) (getD starts (i + 1) 0) order)
+
+  -- some successor isn't answered
+  unanswered-some : So (among edgeStarts edgeTargets (vertexAt w i) (unanswered w starts targets i)) → answers g w i ≡ false
+  unfolding answers unanswered standsAt
+  unanswered-some t =
+      let r = any-out {n = tableEdges g} (rw (among-any edges (vertexAt w i) (formed .vertices i l) (unanswered w starts targets i)) at t) in
+      let c = and-out (r .2) in
+      let x = targetAt g (r .0) in
+      So-not (λ a. clash
+      (imp-out (all-out a .at x (well .targets (r .0) (r .1))) (edge-in g (vertexAt w i) x (r .0) (record { inside = r .1; source = eqb-true (sourceAt g (r .0)) (vertexAt w i) (c .0); target = refl })))
+      (sym (among-link w starts targets links i l (λ j. eqb (vertexAt w j) x)) ∙ not-out (c .1)))
+
+  some-unanswered : answers g w i ≡ false → So (among edgeStarts edgeTargets (vertexAt w i) (unanswered w starts targets i))
+  unfolding answers unanswered standsAt
+  some-unanswered e =
+      let r = all-fails (vertexCount g) _ e in
+      let c = imp-fails _ _ (r .2) in
+      let j = edge-out g (vertexAt w i) (r .0) (c .0) in
+      rw (among-any edges (vertexAt w i) (formed .vertices i l) (unanswered w starts targets i))
+      (any-in (tableEdges g) _ (j .0) (j .1 .inside)
+      (and-in (eq-eqb (sourceAt g (j .0)) (vertexAt w i) (j .1 .source))
+      (rw (j .1 .target) (not-in (among-link w starts targets links i l (λ j. eqb (vertexAt w j) (r .0)) ∙ c .1)))))
+
+  pub lacks-other : (ownerAt g (vertexAt w i) ≡ player → ⊥) → lacksLink g player w i ≡ among edgeStarts edgeTargets (vertexAt w i) (unanswered w starts targets i)
+  unfolding lacksLink
+  lacks-other d =
+      rw (own-number g well player (vertexAt w i) h (formed .vertices i l), ne-eqb (ownerAt g (vertexAt w i)) player d)
+      (So-ext (λ t. some-unanswered (not-out t)) (λ t. not-in (unanswered-some t)))

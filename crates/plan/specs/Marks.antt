@@ -1,0 +1,33 @@
+-- What the search for unanswered successors keeps: a stamp on each vertex that a link of the position leads to.
+use mathlib.Core.Path.{_≡_}
+use mathlib.Core.Bool.{Bool, not, cond}
+use mathlib.Core.List.{List}
+use Prim.Native.Nat.{ℕ, _+_}
+use lib.Dec.{eqb}
+use lib.ListN.{getD}
+use Rattle.plan.specs.PlanTable.{vertexAt}
+use Rattle.plan.specs.Index.{anyFrom, among}
+
+-- position j stands at vertex x
+unfoldable pub standsAt : List ℕ → ℕ → ℕ → Bool
+standsAt w x j = eqb (vertexAt w j) x
+
+-- the vertices at which the targets from a to t stand are stamped, and the others are as before
+pub record MarkedTo (w targets : List ℕ) (a t stamp : ℕ) (old new : List ℕ) : Type 0 where
+  pub at : (x : ℕ) → getD new x 0 ≡ cond (anyFrom a t (λ k. standsAt w x (getD targets k 0))) stamp (getD old x 0)
+
+-- the same for the whole group of position i
+pub record Marked (w starts targets : List ℕ) (i stamp : ℕ) (old new : List ℕ) : Type 0 where
+  pub at : (x : ℕ) → getD new x 0 ≡ cond (among starts targets i (standsAt w x)) stamp (getD old x 0)
+
+-- vertex x has no stamp
+unfoldable pub unmarked : List ℕ → ℕ → ℕ → Bool
+unmarked marks stamp x = not (eqb (getD marks x 0) stamp)
+
+-- target k has no stamp
+unfoldable pub unmarkedTarget : List ℕ → ℕ → List ℕ → ℕ → Bool
+unmarkedTarget marks stamp targets k = unmarked marks stamp (getD targets k 0)
+
+-- no link of i leads to a position at vertex x
+unfoldable pub unanswered : List ℕ → List ℕ → List ℕ → ℕ → ℕ → Bool
+unanswered w starts targets i x = not (among starts targets i (standsAt w x))

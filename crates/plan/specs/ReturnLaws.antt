@@ -1,0 +1,39 @@
+-- Refusal 16 by the index of links and the list of priorities is refusal 16 by the plan's words.
+use mathlib.Core.Path.{_≡_, refl, sym, ap, ap₂, _∙_}
+use mathlib.Core.Bool.{Bool, not}
+use mathlib.Core.List.{List}
+use Prim.Native.Nat.{ℕ, _<_}
+use lib.Dec.{eqb}
+use lib.ListN.{getD}
+use Rattle.theory.specs.Bools.{_&_}
+use Rattle.theory.specs.Range.{anyBelow, first}
+use Rattle.theory.specs.Game.{parity}
+use Rattle.table.specs.Table.{playerOf}
+use Rattle.table.specs.SearchLaws.{first-ext}
+use Rattle.plan.specs.PlanTable.{positionCount, linkCount, linkSource, linkTarget}
+use Rattle.plan.specs.Acceptance.{anyLink, hasLink, positionPriority, returns, returnsWrong, firstReturn}
+use Rattle.plan.specs.Index.{among, LinkIndex}
+use Rattle.plan.specs.IndexLaws.{among-any}
+use Rattle.plan.specs.Search.{linkBy, rankAt, wrongBy}
+use Rattle.plan.specs.SearchLaws.{returns-ext}
+
+module _ (w starts targets : List ℕ) (ix : LinkIndex w starts targets) where
+  -- some target in the group of i passes exactly if some link of i leads to such a position
+  pub among-link : (i : ℕ) → i < positionCount w → (q : ℕ → Bool) → among starts targets i q ≡ anyLink w i q
+  unfolding anyLink
+  among-link i h q = among-any ix i h q
+
+  linkBy-same : (i j : ℕ) → i < positionCount w → linkBy starts targets i j ≡ hasLink w i j
+  unfolding linkBy hasLink
+  linkBy-same i j h = among-link i h (λ k. eqb k j)
+
+  module _ (g rank : List ℕ) (player : ℕ) (ranked : (i : ℕ) → i < positionCount w → getD rank i 0 ≡ positionPriority g w i) where
+    wrongBy-same : (i : ℕ) → i < positionCount w → wrongBy starts targets rank (positionCount w) player i ≡ returnsWrong g player w i
+    unfolding wrongBy returnsWrong rankAt
+    wrongBy-same i h =
+        ap₂ _&_ (ap (λ (q : ℕ). not (parity (playerOf player) q)) (ranked i h))
+        (returns-ext (positionCount w) (linkBy starts targets) (hasLink w) linkBy-same (rankAt rank) (positionPriority g w) ranked i h)
+
+    pub first-return-same : first (wrongBy starts targets rank (positionCount w) player) 0 (positionCount w) ≡ firstReturn g player w
+    unfolding firstReturn
+    first-return-same = first-ext _ _ 0 (positionCount w) (λ i a h. wrongBy-same i h)

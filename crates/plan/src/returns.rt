@@ -1,0 +1,181 @@
+// Refusal 16: the search for a position of the wrong parity that returns. `rank` has the priority of each position.
+use crate::links::vertex_of;
+ghost use mathlib.Core.Path.{_≡_};
+ghost use Prim.Native.Nat.{ℕ, _+_, _≤_, _<_};
+ghost use lib.ListN.{length, getD};
+ghost use Rattle.theory.specs.Range.{first};
+ghost use Rattle.table.specs.Table.{vertexCount};
+ghost use Rattle.table.specs.WellFormed.{WellFormed};
+ghost use Rattle.plan.specs.PlanTable.{positionCount};
+ghost use Rattle.plan.specs.PlanFormed.{PlanFormed};
+ghost use Rattle.plan.specs.Index.{LinkIndex};
+ghost use Rattle.plan.specs.Acceptance.{returns, positionPriority, firstReturn};
+ghost use Rattle.plan.specs.Search.{Graph, linkBy, rankAt, Queued, Grown, follows, fresh, Visited, wrongBy};
+
+// Stamps position j and queues it, if its priority is at least `least` and it isn't stamped yet. Returns the queue's new end.
+fn visit(
+    rank: &[u16],
+    seen: &mut [u16],
+    queue: &mut [u16],
+    j: usize,
+    least: u16,
+    stamp: u16,
+    tail: usize,
+) -> usize
+    requires { ⌜ (j < length (now rank)) × (j < length (now seen)) × (tail < length (now queue)) × (j ≤ 65535) ⌝ }
+    ensures { λ r. ⌜ Visited (fresh (now (rank .entry)) (now (seen .entry)) least stamp j) stamp j (now (seen .entry)) (now (queue .entry)) tail (now (seen .exit)) (now (queue .exit)) r ⌝ }
+{
+    if rank[j] < least {
+        return tail;
+    }
+    if seen[j] == stamp {
+        return tail;
+    }
+    seen[j] = stamp;
+    queue[tail] = j as u16;
+    tail + 1
+}
+
+// Follows the links of position i: stamps and queues each of their targets that is new and of priority at least `least`.
+fn expand(
+    starts: &[u16],
+    targets: &[u16],
+    rank: &[u16],
+    seen: &mut [u16],
+    queue: &mut [u16],
+    p: usize,
+    i: usize,
+    least: u16,
+    stamp: u16,
+    tail: usize,
+) -> usize
+    requires { ⌜ Graph p (now starts) (now targets) × (i < p) × (p ≤ 4096) ⌝ }
+    requires { ⌜ (p ≤ length (now rank)) × (p ≤ length (now seen)) × (p < length (now queue)) ⌝ }
+    requires { ⌜ Queued p stamp (now seen) (now queue) tail ⌝ }
+    ensures { λ r. ⌜ Grown p stamp (follows (now (starts .entry)) (now (targets .entry)) (now (rank .entry)) least i) (now (seen .entry)) (now (queue .entry)) tail (now (seen .exit)) (now (queue .exit)) r ⌝ }
+{
+    let end = starts[i + 1] as usize;
+    let mut t = starts[i] as usize;
+    let mut last = tail;
+    while t < end {
+        last = visit(rank, seen, queue, targets[t] as usize, least, stamp, last);
+        t += 1;
+    }
+    last
+}
+
+// Whether position i is reached from itself by one link or more, through positions of priority at least its own: a breadth-first search.
+// Each of its stamps is i + 1, so that `seen` needs no clearing between searches.
+fn returns(
+    starts: &[u16],
+    targets: &[u16],
+    rank: &[u16],
+    seen: &mut [u16],
+    queue: &mut [u16],
+    p: usize,
+    i: usize,
+) -> bool
+    requires { ⌜ Graph p (now starts) (now targets) × (i < p) × (p ≤ 4096) ⌝ }
+    requires { ⌜ (p ≤ length (now rank)) × (p ≤ length (now seen)) × (p < length (now queue)) ⌝ }
+    requires { ⌜ ((j : ℕ) → getD (now seen) j 0 ≤ i) ⌝ }
+    ensures { λ r. ⌜ r ≡ returns p (linkBy (now (starts .entry)) (now (targets .entry))) (rankAt (now (rank .entry))) i ⌝ }
+    ensures { λ r. ⌜ ((j : ℕ) → getD (now (seen .exit)) j 0 ≤ i + 1) ⌝ }
+{
+    let least = rank[i];
+    let stamp = (i + 1) as u16;
+    let mut tail = expand(starts, targets, rank, seen, queue, p, i, least, stamp, 0);
+    let mut head = 0;
+    while head < tail {
+        if seen[i] == stamp {
+            return true;
+        }
+        let j = queue[head] as usize;
+        tail = expand(starts, targets, rank, seen, queue, p, j, least, stamp, tail);
+        head += 1;
+    }
+    seen[i] == stamp
+}
+
+// Whether position i has the wrong parity and returns. A position of the right parity starts no search.
+fn returns_wrong(
+    starts: &[u16],
+    targets: &[u16],
+    rank: &[u16],
+    seen: &mut [u16],
+    queue: &mut [u16],
+    p: usize,
+    player: u32,
+    i: usize,
+) -> bool
+    requires { ⌜ Graph p (now starts) (now targets) × (i < p) × (p ≤ 4096) ⌝ }
+    requires { ⌜ (p ≤ length (now rank)) × (p ≤ length (now seen)) × (p < length (now queue)) ⌝ }
+    requires { ⌜ ((j : ℕ) → getD (now seen) j 0 ≤ i) ⌝ }
+    requires { ⌜ player ≤ 1 ⌝ }
+    ensures { λ r. ⌜ r ≡ wrongBy (now (starts .entry)) (now (targets .entry)) (now (rank .entry)) p player i ⌝ }
+    ensures { λ r. ⌜ ((j : ℕ) → getD (now (seen .exit)) j 0 ≤ i + 1) ⌝ }
+{
+    if (rank[i] % 2) as u32 == player {
+        return false;
+    }
+    returns(starts, targets, rank, seen, queue, p, i)
+}
+
+// The lowest position of the wrong parity that returns; p where there is none. No more than p × l links are looked at.
+fn first_returning(
+    starts: &[u16],
+    targets: &[u16],
+    rank: &[u16],
+    seen: &mut [u16],
+    queue: &mut [u16],
+    p: usize,
+    player: u32,
+) -> usize
+    requires { ⌜ Graph p (now starts) (now targets) × (p ≤ 4096) ⌝ }
+    requires { ⌜ (p ≤ length (now rank)) × (p ≤ length (now seen)) × (p < length (now queue)) ⌝ }
+    requires { ⌜ ((j : ℕ) → getD (now seen) j 0 ≡ 0) ⌝ }
+    requires { ⌜ player ≤ 1 ⌝ }
+    ensures { λ r. ⌜ r ≡ first (wrongBy (now (starts .entry)) (now (targets .entry)) (now (rank .entry)) p player) 0 p ⌝ }
+{
+    let mut i = 0;
+    while i < p {
+        if returns_wrong(starts, targets, rank, seen, queue, p, player, i) {
+            return i;
+        }
+        i += 1;
+    }
+    i
+}
+
+// The priority of each position.
+fn fill_rank(game: &[u16], plan: &[u16], rank: &mut [u16])
+    requires { ⌜ WellFormed (now game) × PlanFormed (vertexCount (now game)) (now plan) ⌝ }
+    requires { ⌜ positionCount (now plan) ≤ length (now rank) ⌝ }
+    ensures { λ r. ⌜ ((i : ℕ) → i < positionCount (now (plan .entry)) → getD (now (rank .exit)) i 0 ≡ positionPriority (now (game .entry)) (now (plan .entry)) i) ⌝ }
+{
+    let p = plan[0] as usize;
+    let mut i = 0;
+    while i < p {
+        rank[i] = game[2 + vertex_of(plan, i)];
+        i += 1;
+    }
+}
+
+// 16: the lowest position of the wrong parity that returns; the number of positions where there is none.
+pub fn first_return(
+    game: &[u16],
+    player: u32,
+    plan: &[u16],
+    starts: &[u16],
+    targets: &[u16],
+) -> usize
+    requires { ⌜ WellFormed (now game) × PlanFormed (vertexCount (now game)) (now plan) × (player ≤ 1) ⌝ }
+    requires { ⌜ LinkIndex (now plan) (now starts) (now targets) ⌝ }
+    ensures { λ r. ⌜ r ≡ firstReturn (now (game .entry)) player (now (plan .entry)) ⌝ }
+{
+    let p = plan[0] as usize;
+    let mut rank = [0u16; 4096];
+    fill_rank(game, plan, &mut rank);
+    let mut seen = [0u16; 4096];
+    let mut queue = [0u16; 4097];
+    first_returning(starts, targets, &rank, &mut seen, &mut queue, p, player)
+}
