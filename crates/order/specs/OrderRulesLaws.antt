@@ -17,9 +17,9 @@ use Rattle.theory.specs.Order.{order, orderMarks, orderPasses}
 use Rattle.theory.specs.OrderLaws.{order-in, order-out, length-orderMarks, orderPasses-le}
 use Rattle.table.specs.Table.{vertexCount, gameOf}
 use Rattle.table.specs.Verdict.{Row, Answer, accepted, refused, Clean, after}
-use Rattle.table.specs.VerdictLaws.{judge-clean, judge-accepted, getD-written, getD-written-beyond, after-accepted, after-refused, length-after}
+use Rattle.table.specs.VerdictLaws.{judge-clean, judge-accepted, getD-written, getD-written-beyond, after-accepted, after-refused, length-after, clean-append, clean-split}
 use Rattle.table.specs.Reading.{gameRows, readAnswer}
-use Rattle.table.specs.ReadingLaws.{rows-render, well-clean, read-accepted}
+use Rattle.table.specs.ReadingLaws.{rows-render, well-clean, read-accepted, clean-well}
 use Rattle.table.specs.Rules.{FirstRule, Rendered, none, next}
 use Rattle.table.specs.RulesLaws.{renders-placed, judge-refused, judge-refuses, rendered-append}
 use Rattle.table.specs.WellFormed.{WellFormed}
@@ -28,20 +28,6 @@ use Rattle.order.specs.BytesLaws.{length-bytes, getD-bytes}
 use Rattle.order.specs.PairLaws.{game-n}
 use Rattle.order.specs.OrderCall.{orderRows, orderAnswer, OrderWritten}
 use Rattle.order.specs.OrderRules.{orderRules, OrderFits}
-
--- ---- rows of the reader, and then others
-
-pub clean-append : (rs ss : List Row) → Clean rs → Clean ss → Clean (rs ++ ss)
-clean-append [] ss c d = d
-clean-append (r ∷ rs) ss c d = (c .0, clean-append rs ss (c .1) d)
-
-pub clean-split : (rs ss : List Row) → Clean (rs ++ ss) → Clean rs × Clean ss
-clean-split [] ss c = (tt, c)
-clean-split (r ∷ rs) ss c = let x = clean-split rs ss (c .1) in ((c .0, x .0), x .1)
-
-pub clean-well : (g : List ℕ) → Clean (gameRows g) → WellFormed g
-unfolding readAnswer
-clean-well g c = read-accepted g _ (judge-clean (gameRows g) _ c) .0
 
 -- ---- refused exactly by the table
 

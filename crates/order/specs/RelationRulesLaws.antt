@@ -24,16 +24,16 @@ use Rattle.theory.specs.Order.{equalPriority, test, order}
 use Rattle.theory.specs.OrderLaws.{passes-in, passes-out}
 use Rattle.table.specs.Table.{vertexCount, gameOf}
 use Rattle.table.specs.Verdict.{accepted, refused}
-use Rattle.table.specs.VerdictLaws.{judge-clean, judge-accepted}
+use Rattle.table.specs.VerdictLaws.{judge-clean, judge-accepted, clean-append, clean-split}
 use Rattle.table.specs.Reading.{gameRows}
-use Rattle.table.specs.ReadingLaws.{rows-render, well-clean}
+use Rattle.table.specs.ReadingLaws.{rows-render, well-clean, clean-well}
 use Rattle.table.specs.Rules.{FirstRule, Rendered, none, next}
 use Rattle.table.specs.RulesLaws.{renders-placed, renders-first, judge-refused, judge-refuses, rendered-append}
 use Rattle.table.specs.WellFormed.{WellFormed}
 use Rattle.order.specs.Bytes.{isMark, relation}
 use Rattle.order.specs.PairLaws.{game-n}
 use Rattle.order.specs.OrderCall.{OrderWritten}
-use Rattle.order.specs.OrderRulesLaws.{clean-append, clean-split, clean-well, order-accepted, length-marks, written-marks, marked-below, below-marked}
+use Rattle.order.specs.OrderRulesLaws.{order-accepted, length-marks, written-marks, marked-below, below-marked}
 use Rattle.order.specs.RelationCall.{fails, firstHigh, firstFailing, relationRows, relationAnswer}
 use Rattle.order.specs.RelationRules.{Marked, Fails, relationRules, RelationPasses}
 

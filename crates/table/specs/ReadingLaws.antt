@@ -135,6 +135,10 @@ pub read-accepted : (g counts : List ℕ) → readAnswer g ≡ accepted counts �
 unfolding readAnswer
 read-accepted g counts e = let a = judge-accepted (gameRows g) _ counts e in (none-well g (clean-none (rows-render g) (a .0)), sym (a .1))
 
+pub clean-well : (g : List ℕ) → Clean (gameRows g) → WellFormed g
+unfolding readAnswer
+clean-well g c = read-accepted g _ (judge-clean (gameRows g) _ c) .0
+
 pub read-accepts : (g : List ℕ) → WellFormed g → readAnswer g ≡ accepted (vertexCount g ∷ tableEdges g ∷ [])
 unfolding readAnswer
 read-accepts g w = judge-clean (gameRows g) _ (well-clean g w)

@@ -65,6 +65,15 @@ judge-stays (r ∷ rs) ss counts given k p e = go (r .condition) e (judge-stays 
     go true e ih = e
     go false e ih = ih e
 
+-- rows are clean exactly if both parts are
+pub clean-append : (rs ss : List Row) → Clean rs → Clean ss → Clean (rs ++ ss)
+clean-append [] ss c d = d
+clean-append (r ∷ rs) ss c d = (c .0, clean-append rs ss (c .1) d)
+
+pub clean-split : (rs ss : List Row) → Clean (rs ++ ss) → Clean rs × Clean ss
+clean-split [] ss c = (tt, c)
+clean-split (r ∷ rs) ss c = let x = clean-split rs ss (c .1) in ((c .0, x .0), x .1)
+
 -- ---- lent memory: as long as before, the stated words first, old content beyond
 
 pub length-written : (new old : List ℕ) → length new ≤ length old → length (written new old) ≡ length old
