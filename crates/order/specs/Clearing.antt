@@ -2,11 +2,11 @@
 use mathlib.Core.Path.{_≡_}
 use mathlib.Core.Bool.{Bool, not}
 use mathlib.Core.List.{List}
-use Prim.Native.Nat.{ℕ, _+_, _*_, _<_}
+use Prim.Native.Nat.{ℕ, suc, _+_, _*_, _≤_}
 use lib.ListN.{set}
 use Rattle.theory.specs.Bools.{_&_, bit}
-use Rattle.theory.specs.Range.{count}
-use Rattle.theory.specs.Passes.{Marks, marked, Test, nextPass, pairStart, pairTest}
+use Rattle.theory.specs.Range.{first, count}
+use Rattle.theory.specs.Passes.{Marks, marked, Test, nextPass, pass, settled, rounds, pairStart, pairTest}
 use Rattle.theory.specs.Game.{even}
 use Rattle.theory.specs.Order.{equalPriority, test, orderMarks, orderPasses}
 use Rattle.table.specs.Table.{vertexCount, gameOf}
@@ -16,6 +16,10 @@ use Rattle.order.specs.Bytes.{bytes, isMark, marksOf, relation}
 -- how many marks the pass after m unmarks
 unfoldable pub cleared : ℕ → Test → Marks → ℕ
 cleared N ok m = count N (λ i. marked m i & not (ok (marked m) i))
+
+-- none of the first k passes was the last
+abbrev pub Unsettled : ℕ → Test → (ℕ → Bool) → ℕ → Type 0
+Unsettled N ok start k = (k ≤ N) × (rounds N ok start ≡ first (λ j. settled N ok (pass N ok start j)) k (suc N))
 
 -- the pairs of vertices, pass 0 and the test of the table's game
 abbrev pub pairCount : List ℕ → ℕ
@@ -27,12 +31,16 @@ equalPairs g = pairStart (vertexCount g) (equalPriority (gameOf g) (gameOf g))
 abbrev pub pairPasses : List ℕ → Test
 pairPasses g = pairTest (vertexCount g) (test even (gameOf g) (gameOf g))
 
--- what the pass does to the mark of pair i, under the marks in the buffer: it stays, or it is cleared
-abbrev pub stays : List ℕ → List ℕ → ℕ → Bool
-stays g marks i = let m = marksOf (pairCount g) marks in marked m i & pairPasses g (marked m) i
+-- the marks after pass k
+abbrev pub marksAfter : List ℕ → ℕ → Marks
+marksAfter g = pass (pairCount g) (pairPasses g) (equalPairs g)
 
-abbrev pub leaves : List ℕ → List ℕ → ℕ → Bool
-leaves g marks i = let m = marksOf (pairCount g) marks in marked m i & not (pairPasses g (marked m) i)
+-- what the pass does to the mark of pair i, under the marks in the buffer: it keeps it, or clears it
+abbrev pub keptAt : List ℕ → List ℕ → ℕ → Bool
+keptAt g marks i = let m = marksOf (pairCount g) marks in marked m i & pairPasses g (marked m) i
+
+abbrev pub clearedAt : List ℕ → List ℕ → ℕ → Bool
+clearedAt g marks i = let m = marksOf (pairCount g) marks in marked m i & not (pairPasses g (marked m) i)
 
 -- (v, w) is marked and passes the test, or is marked and fails it, under the marks in the buffer
 unfoldable pub keeps : List ℕ → List ℕ → ℕ → ℕ → Bool
@@ -56,8 +64,3 @@ pub record OrderDone (g oldMarks newMarks oldSpare newSpare : List ℕ) (c : ℕ
   pub marks : newMarks ≡ written (bytes (orderMarks (gameOf g))) oldMarks
   pub spare : newSpare ≡ written (bytes (orderMarks (gameOf g))) oldSpare
   pub count : c ≡ orderPasses (gameOf g)
-
--- pair (v, w) is number k
-pub record PairAt (n k v w : ℕ) : Type 0 where
-  pub number : v * n + w ≡ k
-  pub column : w < n

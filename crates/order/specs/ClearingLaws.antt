@@ -3,17 +3,16 @@ use mathlib.Core.Path.{_≡_, refl, sym, ap₂, _∙_}
 use mathlib.Core.Logic.{_⊎_, inl, inr}
 use mathlib.Core.Bool.{Bool, false, not, So}
 use mathlib.Core.List.{List}
-use Prim.Native.Nat.{ℕ, suc, _+_, _*_, _≤_, _<_}
+use Prim.Native.Nat.{ℕ, suc, _+_, _*_, _<_}
 use native.Mathlib.Omega.{arith}
 use native.Mathlib.Numerals.{add-one}
-use native.Mathlib.Nat.{zero-mul}
 use lib.Arith.{digits-lt, digits-div, digits-mod}
 use lib.ListN.{length, drop}
 use Rattle.theory.specs.Bools.{_&_}
 use Rattle.theory.specs.BoolsLaws.{decide, clash, So-ext, So-not, and-in, and-out, not-in, not-out, imp-in, imp-out}
-use Rattle.theory.specs.Range.{first, count, tabulate}
+use Rattle.theory.specs.Range.{count, tabulate}
 use Rattle.theory.specs.RangeLaws.{all-in, all-out, first-step, first-hit, first-ge}
-use Rattle.theory.specs.CountLaws.{count-lt, row-lt}
+use Rattle.theory.specs.CountLaws.{count-lt}
 use Rattle.theory.specs.ListLaws.{getD-tabulate, tabulate-by}
 use Rattle.theory.specs.Passes.{Marks, marked, Test, nextPass, pass, settled, rounds, passCount, finalMarks, Rel, relOf, pairStart, pairTest}
 use Rattle.theory.specs.PassesLaws.{length-pass, rounds-le}
@@ -26,8 +25,9 @@ use Rattle.order.specs.CountingLaws.{count-none}
 use Rattle.table.specs.Verdict.{written}
 use Rattle.order.specs.Bytes.{bytes, isMark, marksOf, relation}
 use Rattle.order.specs.BytesLaws.{length-bytes, marks-written, written-over, drop-written}
-use Rattle.order.specs.PairLaws.{game-n}
-use Rattle.order.specs.Clearing.{cleared, pairCount, equalPairs, pairPasses, stays, leaves, keeps, clears, PairAt, PassDone}
+use Rattle.order.specs.IndexLaws.{game-n}
+use Rattle.order.specs.RowOrder.{PairAt}
+use Rattle.order.specs.Clearing.{cleared, Unsettled, pairCount, equalPairs, pairPasses, marksAfter, keptAt, clearedAt, keeps, clears, PassDone}
 
 -- ---- a pass that clears nothing is the last
 
@@ -47,7 +47,7 @@ module _ (N : ℕ) (ok : Test) (m : Marks) where
       let b = and-out t in
       clash (imp-out (all-out s .at i h) (b .0)) (not-out (b .1))))))
 
-  -- the last pass leaves the marks as they are
+  -- the last pass clearedAt the marks as they are
   pub settled-same : length m ≡ N → So (settled N ok m) → nextPass N ok m ≡ m
   unfolding nextPass settled
   settled-same e s =
@@ -56,20 +56,16 @@ module _ (N : ℕ) (ok : Test) (m : Marks) where
 -- ---- the passes go on until one clears nothing
 
 module _ (N : ℕ) (ok : Test) (start : ℕ → Bool) where
-  -- k passes were not the last
-  abbrev pub Unsettled : ℕ → Type 0
-  Unsettled k = (k ≤ N) × (rounds N ok start ≡ first (λ j. settled N ok (pass N ok start j)) k (suc N))
-
-  pub unsettled-start : Unsettled 0
+  pub unsettled-start : Unsettled N ok start 0
   unfolding rounds
   unsettled-start = (omega arith, refl)
 
-  pub unsettled-more : (k : ℕ) → Unsettled k → (cleared N ok (pass N ok start k) ≡ 0 → ⊥) → Unsettled (k + 1)
+  pub unsettled-more : (k : ℕ) → Unsettled N ok start k → (cleared N ok (pass N ok start k) ≡ 0 → ⊥) → Unsettled N ok start (k + 1)
   unsettled-more k u f =
       let e = u .1 ∙ first-step _ k (suc N) (omega arith) (cleared-some N ok (pass N ok start k) f) in
       (omega (arith, rounds-le N ok start, first-ge (λ j. settled N ok (pass N ok start j)) (k + 1) (suc N), e), e)
 
-  module _ (k : ℕ) (u : Unsettled k) (e : cleared N ok (pass N ok start k) ≡ 0) where
+  module _ (k : ℕ) (u : Unsettled N ok start k) (e : cleared N ok (pass N ok start k) ≡ 0) where
     last-round : rounds N ok start ≡ k
     last-round = u .1 ∙ first-hit _ k (suc N) (omega arith) (cleared-none N ok (pass N ok start k) e)
 
@@ -99,18 +95,6 @@ pub test-ext : (a : Player) (g h : Game) (H K : Rel) (v w : ℕ) → ((x y : ℕ
 test-ext a g h H K v w e =
     So-ext (test-mono a g h H K v w (λ x y hx hy t. sym (e x y hx hy) ∙ t)) (test-mono a g h K H v w (λ x y hx hy t. e x y hx hy ∙ t))
 
--- ---- pairs in row order
-
-pub pair-start : (n : ℕ) → 0 < n → PairAt n 0 0 0
-pair-start n h = record { number = omega (arith, zero-mul n); column = h }
-
-module _ (n k v w : ℕ) (p : PairAt n k v w) where
-  pub pair-row : k < n * n → v < n
-  pair-row h = rw (digits-div v (p .column)) at (row-lt n n (v * n + w) (rw (p .number) h))
-
-  pub pair-next : (v′ w′ : ℕ) → PairAt n (v * n + w + 1) v′ w′ → PairAt n (k + 1) v′ w′
-  pair-next v′ w′ q = rw (p .number) at q
-
 -- ---- pass 0 and a later pass, pair by pair
 
 pub equal-of : (g : List ℕ) (k v w : ℕ) → PairAt (vertexCount g) k v w → equalPairs g k ≡ equalPriority (gameOf g) (gameOf g) v w
@@ -130,23 +114,19 @@ module _ (g marks : List ℕ) where
         (test-ext even (gameOf g) (gameOf g) _ _ v w
         (λ x y hx hy. mark-of (x * vertexCount g + y) (digits-lt (rw (game-n g) at hx) (rw (game-n g) at hy))))
 
-    pub stays-of : stays g marks k ≡ keeps g marks v w
+    pub kept-at : keptAt g marks k ≡ keeps g marks v w
     unfolding keeps
-    stays-of = ap₂ _&_ (rw (p .number) (mark-of k h)) test-of
+    kept-at = ap₂ _&_ (rw (p .number) (mark-of k h)) test-of
 
-    pub leaves-of : leaves g marks k ≡ clears g marks v w
+    pub cleared-at : clearedAt g marks k ≡ clears g marks v w
     unfolding clears
-    leaves-of = ap₂ (λ a b. a & not b) (rw (p .number) (mark-of k h)) test-of
+    cleared-at = ap₂ (λ a b. a & not b) (rw (p .number) (mark-of k h)) test-of
 
 -- ---- the passes of a table's game, between two buffers
 
 module _ (g : List ℕ) where
-  -- the marks after pass k
-  abbrev pub marksAfter : ℕ → Marks
-  marksAfter = pass (pairCount g) (pairPasses g) (equalPairs g)
-
-  length-after-pass : (k : ℕ) → length (bytes (marksAfter k)) ≡ pairCount g
-  length-after-pass k = length-bytes (marksAfter k) ∙ length-pass (pairCount g) (pairPasses g) (equalPairs g) k
+  length-after-pass : (k : ℕ) → length (bytes (marksAfter g k)) ≡ pairCount g
+  length-after-pass k = length-bytes (marksAfter g k) ∙ length-pass (pairCount g) (pairPasses g) (equalPairs g) k
 
   -- after pass 0
   module _ (old new : List ℕ) (h : new ≡ written (bytes (tabulate (pairCount g) (equalPairs g))) old) where
@@ -154,49 +134,49 @@ module _ (g : List ℕ) where
     unfolding pass
     start-beyond = rw h (drop-written (pairCount g) _ old (length-after-pass 0))
 
-    pub start-holds : new ≡ written (bytes (marksAfter 0)) new
+    pub start-holds : new ≡ written (bytes (marksAfter g 0)) new
     unfolding pass
     start-holds = h ∙ written-over (pairCount g) _ old new (length-after-pass 0) (sym start-beyond)
 
   -- a buffer that is written keeps what lies beyond
-  pub pass-beyond : (k : ℕ) (old new : List ℕ) → new ≡ written (bytes (marksAfter k)) old → drop (pairCount g) new ≡ drop (pairCount g) old
+  pub pass-beyond : (k : ℕ) (old new : List ℕ) → new ≡ written (bytes (marksAfter g k)) old → drop (pairCount g) new ≡ drop (pairCount g) old
   pass-beyond k old new h = rw h (drop-written (pairCount g) _ old (length-after-pass k))
 
   -- it holds pass k over any list with the same content beyond
-  pub holds-over : (k : ℕ) (base old new : List ℕ) → drop (pairCount g) base ≡ drop (pairCount g) old → new ≡ written (bytes (marksAfter k)) base
-      → new ≡ written (bytes (marksAfter k)) old
+  pub holds-over : (k : ℕ) (base old new : List ℕ) → drop (pairCount g) base ≡ drop (pairCount g) old → new ≡ written (bytes (marksAfter g k)) base
+      → new ≡ written (bytes (marksAfter g k)) old
   holds-over k base old new d h = h ∙ written-over (pairCount g) _ base old (length-after-pass k) d
 
   -- a pass from a buffer that holds pass k
-  module _ (k : ℕ) (base marks old new : List ℕ) (c : ℕ) (holds : marks ≡ written (bytes (marksAfter k)) base) (done : PassDone g marks old new c) where
-    read-marks : marksOf (pairCount g) marks ≡ marksAfter k
-    read-marks = rw holds (marks-written (pairCount g) (marksAfter k) base (length-pass (pairCount g) (pairPasses g) (equalPairs g) k))
+  module _ (k : ℕ) (base marks old new : List ℕ) (c : ℕ) (holds : marks ≡ written (bytes (marksAfter g k)) base) (done : PassDone g marks old new c) where
+    read-marks : marksOf (pairCount g) marks ≡ marksAfter g k
+    read-marks = rw holds (marks-written (pairCount g) (marksAfter g k) base (length-pass (pairCount g) (pairPasses g) (equalPairs g) k))
 
-    pub pass-written : new ≡ written (bytes (marksAfter (k + 1))) old
+    pub pass-written : new ≡ written (bytes (marksAfter g (k + 1))) old
     unfolding pass
     pass-written = rw (add-one k, ← read-marks) (done .spare)
 
-    pub pass-cleared : c ≡ cleared (pairCount g) (pairPasses g) (marksAfter k)
+    pub pass-cleared : c ≡ cleared (pairCount g) (pairPasses g) (marksAfter g k)
     pass-cleared = rw (← read-marks) (done .count)
 
   -- pass k is settled: it is the order, and the pass after it is the last
-  module _ (k : ℕ) (u : Unsettled (pairCount g) (pairPasses g) (equalPairs g) k) (e : cleared (pairCount g) (pairPasses g) (marksAfter k) ≡ 0) where
+  module _ (k : ℕ) (u : Unsettled (pairCount g) (pairPasses g) (equalPairs g) k) (e : cleared (pairCount g) (pairPasses g) (marksAfter g k) ≡ 0) where
     pub order-count : k + 1 ≡ orderPasses (gameOf g)
     unfolding orderPasses gameOf
     order-count = last-count (pairCount g) (pairPasses g) (equalPairs g) k u e
 
-    order-before : marksAfter k ≡ orderMarks (gameOf g)
+    order-before : marksAfter g k ≡ orderMarks (gameOf g)
     unfolding orderMarks marksBetween gameOf
     order-before = last-marks (pairCount g) (pairPasses g) (equalPairs g) k u e
 
-    order-after : marksAfter (k + 1) ≡ orderMarks (gameOf g)
+    order-after : marksAfter g (k + 1) ≡ orderMarks (gameOf g)
     unfolding orderMarks marksBetween gameOf pass
     order-after = rw (add-one k) (last-next (pairCount g) (pairPasses g) (equalPairs g) k u e)
 
     -- the buffer that the last pass read, and the one that it wrote
     module _ (base old new : List ℕ) (beyond : drop (pairCount g) base ≡ drop (pairCount g) old) where
-      pub order-read : new ≡ written (bytes (marksAfter k)) base → new ≡ written (bytes (orderMarks (gameOf g))) old
+      pub order-read : new ≡ written (bytes (marksAfter g k)) base → new ≡ written (bytes (orderMarks (gameOf g))) old
       order-read h = rw (← order-before) (holds-over k base old new beyond h)
 
-      pub order-wrote : new ≡ written (bytes (marksAfter (k + 1))) base → new ≡ written (bytes (orderMarks (gameOf g))) old
+      pub order-wrote : new ≡ written (bytes (marksAfter g (k + 1))) base → new ≡ written (bytes (orderMarks (gameOf g))) old
       order-wrote h = rw (← order-after) (holds-over (k + 1) base old new beyond h)

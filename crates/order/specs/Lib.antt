@@ -2,12 +2,16 @@ pub mod Index
 pub mod Places
 pub mod PlacesLaws
 pub mod CountingLaws
+pub mod Runs
 pub mod Bytes
 pub mod BytesLaws
-pub mod Runs
 pub mod Search
 pub mod SearchLaws
+pub mod IndexLaws
+pub mod Ready
 pub mod PairLaws
+pub mod RowOrder
+pub mod RowOrderLaws
 pub mod Clearing
 pub mod ClearingLaws
 pub mod Handed
@@ -15,6 +19,8 @@ pub mod OrderCall
 pub mod OrderCallLaws
 pub mod RelationCall
 pub mod RelationCallLaws
+pub mod Failing
+pub mod FailingLaws
 pub mod OrderRules
 pub mod OrderRulesLaws
 pub mod RelationRules

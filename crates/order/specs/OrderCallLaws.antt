@@ -45,7 +45,8 @@ module _ (g marks spare : List ℕ) where
           → OrderWritten g marks newMarks spare newSpare (accepted (passes ∷ []))
       unfolding judge
       order-done k newMarks newSpare passes d =
-          let a : orderAnswer g marks spare ≡ accepted (orderPasses (gameOf g) ∷ []) = marks-fit ∙ judge-next _ [] (orderPasses (gameOf g) ∷ []) (le-ltb (length spare) (pairCount g) k) in
+          let a : orderAnswer g marks spare ≡ accepted (orderPasses (gameOf g) ∷ []) =
+          marks-fit ∙ judge-next _ [] (orderPasses (gameOf g) ∷ []) (le-ltb (length spare) (pairCount g) k) in
           record {
             verdict = rw (d .count) (sym a);
             marks = d .marks ∙ sym (after-accepted _ marks a);

@@ -3,7 +3,7 @@
 use mathlib.Core.Path.{_≡_, refl, sym, ap, subst, _∙_}
 use mathlib.Core.Logic.{_↔_}
 use mathlib.Core.Bool.{Bool, true, false, So}
-use mathlib.Core.List.{List, [], _∷_, _++_}
+use mathlib.Core.List.{List, [], _∷_}
 use Prim.Native.Nat.{ℕ, suc, _+_, _*_, _≤_, _<_}
 use native.Mathlib.Omega.{arith}
 use lib.Arith.{digits-lt}
@@ -16,16 +16,15 @@ use Rattle.theory.specs.Simulation.{Below}
 use Rattle.theory.specs.Order.{order, orderMarks, orderPasses}
 use Rattle.theory.specs.OrderLaws.{order-in, order-out, length-orderMarks, orderPasses-le}
 use Rattle.table.specs.Table.{vertexCount, gameOf}
-use Rattle.table.specs.Verdict.{Row, Answer, accepted, refused, Clean, after}
+use Rattle.table.specs.Verdict.{Answer, accepted, refused, after}
 use Rattle.table.specs.VerdictLaws.{judge-clean, judge-accepted, getD-written, getD-written-beyond, after-accepted, after-refused, length-after, clean-append, clean-split}
-use Rattle.table.specs.Reading.{gameRows, readAnswer}
-use Rattle.table.specs.ReadingLaws.{rows-render, well-clean, read-accepted, clean-well}
+use Rattle.table.specs.Reading.{gameRows}
+use Rattle.table.specs.ReadingLaws.{rows-render, well-clean, clean-well}
 use Rattle.table.specs.Rules.{FirstRule, Rendered, none, next}
 use Rattle.table.specs.RulesLaws.{renders-placed, judge-refused, judge-refuses, rendered-append}
-use Rattle.table.specs.WellFormed.{WellFormed}
 use Rattle.order.specs.Bytes.{bytes}
 use Rattle.order.specs.BytesLaws.{length-bytes, getD-bytes}
-use Rattle.order.specs.PairLaws.{game-n}
+use Rattle.order.specs.IndexLaws.{game-n}
 use Rattle.order.specs.OrderCall.{orderRows, orderAnswer, OrderWritten}
 use Rattle.order.specs.OrderRules.{orderRules, OrderFits}
 

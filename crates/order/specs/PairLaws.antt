@@ -1,16 +1,13 @@
 -- The pair test by searches over an index: each of document 01's four rows is one search for a successor that decides it.
-use mathlib.Core.Path.{_≡_, refl, sym, ap, _∙_, fun-ext}
-use mathlib.Core.Bool.{Bool, true, false, not, So, Bool·beq}
+use mathlib.Core.Path.{_≡_, refl, ap, _∙_, fun-ext}
+use mathlib.Core.Bool.{Bool, true, false, not, Bool·beq}
 use mathlib.Core.List.{List}
 use Prim.Native.Nat.{ℕ, _+_, _*_, _≤_, _<_}
-use native.Mathlib.Omega.{arith}
 use native.Mathlib.Nat.{mul-one, add-comm, lt-of-lt-of-le}
 use lib.Arith.{digits-lt}
 use lib.ListN.{length, getD}
-use borrow.Author.Tests.{lt-ltb, ltb-true}
 use Rattle.theory.specs.BoolsLaws.{So-ext, So-not, clash, not-in, not-out, imp-fails}
-use Rattle.theory.specs.Range.{first}
-use Rattle.theory.specs.RangeLaws.{all-fails, first-passes, first-least, first-ge}
+use Rattle.theory.specs.RangeLaws.{all-fails}
 use Rattle.theory.specs.Passes.{relOf}
 use Rattle.theory.specs.Game.{even, same, Game, Succ}
 use Rattle.theory.specs.Order.{allNext, anyNext, moves, test}
@@ -19,11 +16,8 @@ use Rattle.table.specs.Table.{vertexCount, ownerAt, gameOf}
 use Rattle.table.specs.TableLaws.{own-even}
 use Rattle.order.specs.Bytes.{isMark, relation}
 use Rattle.order.specs.Index.{Index}
-use Rattle.order.specs.Search.{someFrom, hasMark, searchEnds, Reaches}
-
-pub game-n : (g : List ℕ) → gameOf g .n ≡ vertexCount g
-unfolding gameOf
-game-n g = refl
+use Rattle.order.specs.IndexLaws.{game-n, some-next, target-inside}
+use Rattle.order.specs.Search.{hasMark, searchEnds, searched, Reaches}
 
 -- ---- tests of Bools
 
@@ -44,18 +38,6 @@ beq-false {b} {c} e = same b ∙ ap not e
 not-not : (b : Bool) → not (not b) ≡ b
 not-not true = refl
 not-not false = refl
-
--- ---- a search of the places from a on, below e
-
-some-in : (p : ℕ → Bool) (a e k : ℕ) → a ≤ k → k < e → So (p k) → So (someFrom p a e)
-unfolding someFrom
-some-in p a e k h l t = lt-ltb (first p a e) e (omega (arith, first-least p a e k h t))
-
-some-out : (p : ℕ → Bool) (a e : ℕ) → So (someFrom p a e) → (k : ℕ) × (a ≤ k) × (k < e) × So (p k)
-unfolding someFrom
-some-out p a e t =
-    let l = ltb-true (first p a e) e t in
-    (first p a e, first-ge p a e, l, first-passes p a e (omega (arith, first-ge p a e)) l)
 
 -- ---- each and some successor
 
@@ -82,32 +64,14 @@ module _ (G : Game) (v : ℕ) where
 
 -- ---- searches over an index
 
--- some place of v at which the search over the places of w ends as `found`
-abbrev pub searched : List ℕ → List ℕ → List ℕ → ℕ → ℕ → ℕ → ℕ → Bool → Bool → Bool
-searched offsets targets marks v w across down wanted found =
-    someFrom (searchEnds marks targets (getD offsets w 0) (getD offsets (w + 1) 0) across down wanted found) (getD offsets v 0) (getD offsets (v + 1) 0)
-
 module _ {G : Game} {offsets targets : List ℕ} (index : Index G offsets targets) where
-  -- a search over the places of v is one over its successors
-  some-next : (v : ℕ) → v < G .n → (p q : ℕ → Bool) → ((k : ℕ) → p k ≡ q (getD targets k 0))
-      → someFrom p (getD offsets v 0) (getD offsets (v + 1) 0) ≡ anyNext G v q
-  some-next v h p q e =
-      So-ext
-      (λ t.
-      let r = some-out p (getD offsets v 0) (getD offsets (v + 1) 0) t in
-      anyNext-in G v q (getD targets (r .0) 0) (index .sound v (r .0) h (record { from = r .1; below = r .2 })) (sym (e (r .0)) ∙ r .3))
-      (λ t.
-      let r = anyNext-out G v q t in
-      let k = index .whole v (r .0) h (r .1) in
-      some-in p _ _ (k .0) (k .1 .from) (k .1 .below) (e (k .0) ∙ ap q (k .2) ∙ r .2))
-
   -- a search in a search
   search-next : (marks : List ℕ) (across down : ℕ) (wanted found : Bool) (v w : ℕ) → v < G .n → w < G .n
       → searched offsets targets marks v w across down wanted found
       ≡ anyNext G v (λ x. Bool·beq (anyNext G w (λ y. Bool·beq (isMark marks (x * across + y * down)) wanted)) found)
   unfolding searchEnds hasMark
   search-next marks across down wanted found v w hv hw =
-      some-next v hv _ _ (λ k. ap (λ (b : Bool). Bool·beq b found) (some-next w hw _ _ (λ l. refl)))
+      some-next index v hv _ _ (λ k. ap (λ (b : Bool). Bool·beq b found) (some-next index w hw _ _ (λ l. refl)))
 
 -- ---- the four rows
 
@@ -123,18 +87,6 @@ row-gap n marks x y = rw (mul-one y) (beq-false {b = isMark marks (x * n + y)} r
 column-cell : (n : ℕ) (marks : List ℕ) (x y : ℕ) → Bool·beq (isMark marks (x * 1 + y * n)) true ≡ relation n marks y x
 unfolding relation relOf
 column-cell n marks x y = rw (mul-one x, add-comm x (y * n)) (beq-true refl)
-
-module _ (g offsets targets : List ℕ) (index : Index (gameOf g) offsets targets) (v : ℕ) (h : v < vertexCount g) where
-  pub places-inside : v + 1 < length offsets
-  unfolding gameOf
-  places-inside = omega (arith, index .size)
-
-  pub places-within : getD offsets (v + 1) 0 ≤ length targets
-  places-within = index .within v (rw (game-n g) h)
-
-  target-inside : (k : ℕ) → getD offsets v 0 ≤ k → k < getD offsets (v + 1) 0 → getD targets k 0 < vertexCount g
-  unfolding gameOf
-  target-inside k a b = index .sound v k h (record { from = a; below = b }) .inside
 
 module _ (g offsets targets marks : List ℕ) (index : Index (gameOf g) offsets targets) (v w : ℕ) (hv : v < vertexCount g) (hw : w < vertexCount g) where
   -- every byte that the searches read is there

@@ -1,17 +1,12 @@
--- Laws of the relation acceptor: its search in row order, its promise at each way out, and what it passes.
-use mathlib.Core.Path.{_≡_, sym, ap, _∙_}
-use mathlib.Core.Bool.{Bool, false, So}
+-- Laws of the relation acceptor: its verdict at each way out.
+use mathlib.Core.Path.{_≡_, sym, _∙_}
 use mathlib.Core.List.{List, [], _∷_}
-use Prim.Native.Nat.{ℕ, _+_, _*_, _/_, _%_, _≤_, _<_}
+use Prim.Native.Nat.{ℕ, _≤_, _<_}
 use native.Mathlib.Omega.{arith}
-use native.Mathlib.Nat.{zero-mul, add-mul, add-assoc, mul-le-mul-right}
-use lib.Arith.{digits-lt, digits-div, digits-mod}
 use lib.Dec.{ltb}
 use lib.ListN.{length, drop}
 use borrow.Author.Tests.{lt-ltb, le-ltb}
-use Rattle.theory.specs.Range.{first}
-use Rattle.theory.specs.RangeLaws.{first-step, first-hit, first-end, first-le}
-use Rattle.table.specs.Table.{vertexCount}
+use Rattle.theory.specs.RangeLaws.{first-le}
 use Rattle.table.specs.Verdict.{Row, accepted, refused, judge}
 use Rattle.table.specs.VerdictLaws.{judge-hit, judge-next}
 use Rattle.table.specs.Reading.{row, readAnswer, readingAnswer}
@@ -21,45 +16,7 @@ use Rattle.table.specs.declared.Refusal.{Refusal}
 use Rattle.table.specs.declared.Reading.the-variants.{Accepted, Refused}
 use Rattle.order.specs.Clearing.{pairCount}
 use Rattle.order.specs.OrderCall.{memoryRow}
-use Rattle.order.specs.RelationCall.{fails, firstHigh, firstFailing, relationRows, relationAnswer}
-
--- ---- the search for the first failing pair
-
-module _ (g marks : List ℕ) where
-  -- pair i fails
-  abbrev failsAt : ℕ → Bool
-  failsAt i = fails g marks (i / vertexCount g) (i % vertexCount g)
-
-  -- the search from pair (v, w) on
-  unfoldable pub failingFrom : ℕ → ℕ → ℕ
-  failingFrom v w = first (λ i. fails g marks (i / vertexCount g) (i % vertexCount g)) (v * vertexCount g + w) (pairCount g)
-
-  pub failing-start : firstFailing g marks ≡ failingFrom 0 0
-  unfolding firstFailing failingFrom
-  failing-start = rw (zero-mul (vertexCount g))
-
-  module _ (v w : ℕ) where
-    fails-at : w < vertexCount g → failsAt (v * vertexCount g + w) ≡ fails g marks v w
-    fails-at h = rw (digits-div v h, digits-mod v h)
-
-    pub failing-step : v < vertexCount g → w < vertexCount g → fails g marks v w ≡ false → failingFrom v w ≡ failingFrom v (w + 1)
-    unfolding failingFrom
-    failing-step hv hw f =
-        first-step failsAt (v * vertexCount g + w) (pairCount g) (digits-lt hv hw) (fails-at hw ∙ f)
-        ∙ ap (λ (k : ℕ). first failsAt k (pairCount g)) (add-assoc (v * vertexCount g) w 1)
-
-    pub failing-hit : v < vertexCount g → w < vertexCount g → So (fails g marks v w) → failingFrom v w ≡ v * vertexCount g + w
-    unfolding failingFrom
-    failing-hit hv hw t = first-hit failsAt (v * vertexCount g + w) (pairCount g) (digits-lt hv hw) (fails-at hw ∙ t)
-
-    -- the end of a row, and of the last
-    pub failing-row : w ≡ vertexCount g → failingFrom v w ≡ failingFrom (v + 1) 0
-    unfolding failingFrom
-    failing-row e = ap (λ (k : ℕ). first failsAt k (pairCount g)) (omega (arith, add-mul v 1 (vertexCount g)))
-
-    pub failing-end : vertexCount g ≤ v → failingFrom v w ≡ v * vertexCount g + w
-    unfolding failingFrom
-    failing-end h = first-end failsAt (v * vertexCount g + w) (pairCount g) (omega (arith, mul-le-mul-right (vertexCount g) h))
+use Rattle.order.specs.RelationCall.{firstHigh, firstFailing, relationRows, relationAnswer}
 
 pub firstFailing-le : (g marks : List ℕ) → firstFailing g marks ≤ pairCount g
 unfolding firstFailing

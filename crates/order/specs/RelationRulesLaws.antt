@@ -31,7 +31,7 @@ use Rattle.table.specs.Rules.{FirstRule, Rendered, none, next}
 use Rattle.table.specs.RulesLaws.{renders-placed, renders-first, judge-refused, judge-refuses, rendered-append}
 use Rattle.table.specs.WellFormed.{WellFormed}
 use Rattle.order.specs.Bytes.{isMark, relation}
-use Rattle.order.specs.PairLaws.{game-n}
+use Rattle.order.specs.IndexLaws.{game-n}
 use Rattle.order.specs.OrderCall.{OrderWritten}
 use Rattle.order.specs.OrderRulesLaws.{order-accepted, length-marks, written-marks, marked-below, below-marked}
 use Rattle.order.specs.RelationCall.{fails, firstHigh, firstFailing, relationRows, relationAnswer}
@@ -80,8 +80,12 @@ relation-rows-render g marks =
     let n = vertexCount g in
     rendered-append (rows-render g)
     (next (renders-placed 21 (n * n) _ _ (ltb-true (length marks) (n * n), lt-ltb (length marks) (n * n)))
-    (next (renders-first 9 (λ i. ltb 1 (getD marks i 0)) (λ i. 1 < getD marks i 0) 0 (n * n) (λ i. i) (omega arith) (λ i. (ltb-true 1 (getD marks i 0), lt-ltb 1 (getD marks i 0))))
-    (next (renders-first 10 (λ i. fails g marks (i / n) (i % n)) (λ i. Fails g marks (i / n) (i % n)) 0 (n * n) (λ i. i) (omega arith) (λ i. fails-is g marks (i / n) (i % n)))
+    (next
+    (renders-first 9 (λ i. ltb 1 (getD marks i 0)) (λ i. 1 < getD marks i 0) 0 (n * n) (λ i. i) (omega arith)
+    (λ i. (ltb-true 1 (getD marks i 0), lt-ltb 1 (getD marks i 0))))
+    (next
+    (renders-first 10 (λ i. fails g marks (i / n) (i % n)) (λ i. Fails g marks (i / n) (i % n)) 0 (n * n) (λ i. i) (omega arith)
+    (λ i. fails-is g marks (i / n) (i % n)))
     none)))
 
 pub relation-refused : (g marks : List ℕ) (k p : ℕ) → (relationAnswer g marks ≡ refused k p) ↔ FirstRule (relationRules g marks) k p

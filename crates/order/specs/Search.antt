@@ -21,6 +21,11 @@ unfoldable pub searchEnds : List ℕ → List ℕ → ℕ → ℕ → ℕ → �
 searchEnds marks targets a e across down wanted found i =
     Bool·beq (someFrom (hasMark marks targets (getD targets i 0 * across) down wanted) a e) found
 
+-- some place of v at which the search over the places of w ends as `found`
+abbrev pub searched : List ℕ → List ℕ → List ℕ → ℕ → ℕ → ℕ → ℕ → Bool → Bool → Bool
+searched offsets targets marks v w across down wanted found =
+    someFrom (searchEnds marks targets (getD offsets w 0) (getD offsets (w + 1) 0) across down wanted found) (getD offsets v 0) (getD offsets (v + 1) 0)
+
 -- the byte of every such x and y is there
 abbrev pub Reaches : List ℕ → List ℕ → ℕ → ℕ → ℕ → ℕ → ℕ → ℕ → Type 0
 Reaches marks targets a e a′ e′ across down =

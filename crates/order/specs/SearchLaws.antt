@@ -2,8 +2,10 @@
 use mathlib.Core.Path.{_≡_}
 use mathlib.Core.Bool.{Bool, true, false, So}
 use Prim.Native.Nat.{ℕ, _+_, _≤_, _<_}
-use borrow.Author.Tests.{lt-ltb, le-ltb}
-use Rattle.theory.specs.RangeLaws.{first-step, first-hit, first-end}
+use native.Mathlib.Omega.{arith}
+use borrow.Author.Tests.{ltb-true, lt-ltb, le-ltb}
+use Rattle.theory.specs.Range.{first}
+use Rattle.theory.specs.RangeLaws.{first-step, first-hit, first-end, first-ge, first-least, first-passes}
 use Rattle.order.specs.Search.{someFrom}
 
 module _ (p : ℕ → Bool) (k e : ℕ) where
@@ -18,3 +20,15 @@ module _ (p : ℕ → Bool) (k e : ℕ) where
   pub some-end : e ≤ k → someFrom p k e ≡ false
   unfolding someFrom
   some-end l = rw (first-end p k e l) (le-ltb k e l)
+
+-- ---- what it finds
+
+pub some-in : (p : ℕ → Bool) (a e k : ℕ) → a ≤ k → k < e → So (p k) → So (someFrom p a e)
+unfolding someFrom
+some-in p a e k h l t = lt-ltb (first p a e) e (omega (arith, first-least p a e k h t))
+
+pub some-out : (p : ℕ → Bool) (a e : ℕ) → So (someFrom p a e) → (k : ℕ) × (a ≤ k) × (k < e) × So (p k)
+unfolding someFrom
+some-out p a e t =
+    let l = ltb-true (first p a e) e t in
+    (first p a e, first-ge p a e, l, first-passes p a e (omega (arith, first-ge p a e)) l)

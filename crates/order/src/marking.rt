@@ -13,7 +13,7 @@ ghost use Rattle.table.specs.Table.{vertexCount, gameOf};
 ghost use Rattle.table.specs.Verdict.{written};
 ghost use Rattle.table.specs.WellFormed.{WellFormed};
 ghost use Rattle.order.specs.Bytes.{bytes};
-ghost use Rattle.order.specs.Index.{Index};
+ghost use Rattle.order.specs.Ready.{PairReady, PassReady};
 ghost use Rattle.order.specs.Clearing.{pairCount, equalPairs, PairDone, PassDone, OrderDone};
 
 // The mark of (v, w) in pass 0.
@@ -52,10 +52,8 @@ fn pass_pair(
     v: usize,
     w: usize,
 ) -> u32
-    requires { ⌜ WellFormed (now game) ⌝ }
-    requires { ⌜ Index (gameOf (now game)) (now offsets) (now targets) ⌝ }
-    requires { ⌜ (v < vertexCount (now game)) × (w < vertexCount (now game)) ⌝ }
-    requires { ⌜ (pairCount (now game) ≤ length (now marks)) × (pairCount (now game) ≤ length (now spare)) ⌝ }
+    requires { ⌜ PairReady (now game) (now offsets) (now targets) (now marks) v w ⌝ }
+    requires { ⌜ pairCount (now game) ≤ length (now spare) ⌝ }
     ensures { λ r. ⌜ PairDone (now (game .entry)) (now (marks .entry)) (now (spare .entry)) (now (spare .exit)) v w r ⌝ }
 {
     let k = v * (game[0] as usize) + w;
@@ -73,9 +71,7 @@ fn pass_pair(
 
 // A pass from marks to spare; how many marks it clears.
 fn pass(game: &[u16], offsets: &[u16], targets: &[u16], marks: &[u8], spare: &mut [u8]) -> u32
-    requires { ⌜ WellFormed (now game) ⌝ }
-    requires { ⌜ Index (gameOf (now game)) (now offsets) (now targets) ⌝ }
-    requires { ⌜ (pairCount (now game) ≤ length (now marks)) × (pairCount (now game) ≤ length (now spare)) ⌝ }
+    requires { ⌜ PassReady (now game) (now offsets) (now targets) (now marks) (now spare) ⌝ }
     ensures { λ r. ⌜ PassDone (now (game .entry)) (now (marks .entry)) (now (spare .entry)) (now (spare .exit)) r ⌝ }
 {
     let n = game[0] as usize;
@@ -99,9 +95,7 @@ pub fn settle(
     marks: &mut [u8],
     spare: &mut [u8],
 ) -> u32
-    requires { ⌜ WellFormed (now game) ⌝ }
-    requires { ⌜ Index (gameOf (now game)) (now offsets) (now targets) ⌝ }
-    requires { ⌜ (pairCount (now game) ≤ length (now marks)) × (pairCount (now game) ≤ length (now spare)) ⌝ }
+    requires { ⌜ PassReady (now game) (now offsets) (now targets) (now marks) (now spare) ⌝ }
     ensures { λ r. ⌜ OrderDone (now (game .entry)) (now (marks .entry)) (now (marks .exit)) (now (spare .entry)) (now (spare .exit)) r ⌝ }
 {
     mark_equal(game, marks);

@@ -9,8 +9,8 @@ ghost use Rattle.theory.specs.Order.{equalPriority, test};
 ghost use Rattle.table.specs.Table.{vertexCount, gameOf};
 ghost use Rattle.table.specs.WellFormed.{WellFormed};
 ghost use Rattle.order.specs.Bytes.{relation};
-ghost use Rattle.order.specs.Clearing.{PairAt};
-ghost use Rattle.order.specs.Index.{Index};
+ghost use Rattle.order.specs.RowOrder.{PairAt};
+ghost use Rattle.order.specs.Ready.{PairReady};
 ghost use Rattle.order.specs.Search.{someFrom, hasMark, searchEnds, Reaches};
 
 // A pair of vertices.
@@ -105,10 +105,7 @@ pub fn pair_passes(
     v: usize,
     w: usize,
 ) -> bool
-    requires { ⌜ WellFormed (now game) ⌝ }
-    requires { ⌜ Index (gameOf (now game)) (now offsets) (now targets) ⌝ }
-    requires { ⌜ (v < vertexCount (now game)) × (w < vertexCount (now game)) ⌝ }
-    requires { ⌜ vertexCount (now game) * vertexCount (now game) ≤ length (now marks) ⌝ }
+    requires { ⌜ PairReady (now game) (now offsets) (now targets) (now marks) v w ⌝ }
     ensures { λ r. ⌜ r ≡ test even (gameOf (now (game .entry))) (gameOf (now (game .entry))) (relation (vertexCount (now (game .entry))) (now (marks .entry))) v w ⌝ }
 {
     let n = game[0] as usize;

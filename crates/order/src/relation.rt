@@ -10,6 +10,7 @@ ghost use Rattle.table.specs.Table.{vertexCount, gameOf};
 ghost use Rattle.table.specs.WellFormed.{WellFormed};
 ghost use Rattle.order.specs.Index.{Index};
 ghost use Rattle.order.specs.Clearing.{pairCount};
+ghost use Rattle.order.specs.Ready.{PairReady};
 ghost use Rattle.order.specs.RelationCall.{fails, firstHigh, firstFailing};
 
 // The first of `size` bytes above 1, or `size`.
@@ -36,10 +37,7 @@ fn pair_fails(
     v: usize,
     w: usize,
 ) -> bool
-    requires { ⌜ WellFormed (now game) ⌝ }
-    requires { ⌜ Index (gameOf (now game)) (now offsets) (now targets) ⌝ }
-    requires { ⌜ (v < vertexCount (now game)) × (w < vertexCount (now game)) ⌝ }
-    requires { ⌜ pairCount (now game) ≤ length (now marks) ⌝ }
+    requires { ⌜ PairReady (now game) (now offsets) (now targets) (now marks) v w ⌝ }
     ensures { λ r. ⌜ r ≡ fails (now (game .entry)) (now (marks .entry)) v w ⌝ }
 {
     let k = v * (game[0] as usize) + w;

@@ -1,12 +1,12 @@
 -- The plan acceptor's table of refusals, 11 to 16, after the reader's. The player is a number, 0 Even and 1 Odd.
 use mathlib.Core.Bool.{Bool, true, not, cond}
 use mathlib.Core.List.{List, [], _∷_, _++_}
-use Prim.Native.Nat.{ℕ, zero, suc, _+_, _*_}
+use Prim.Native.Nat.{ℕ, zero, suc, _+_}
 use lib.Dec.{eqb, ltb, leb}
 use lib.ListN.{length, getD}
 use Rattle.theory.specs.Bools.{_&_, _or_, imp}
 use Rattle.theory.specs.Range.{allBelow, anyBelow, first}
-use Rattle.theory.specs.Game.{parity, Game, own}
+use Rattle.theory.specs.Game.{parity, own}
 use Rattle.table.specs.Table.{vertexCount, priorityAt, playerOf, gameOf}
 use Rattle.table.specs.Verdict.{Row, Answer, judge}
 use Rattle.table.specs.Reading.{row, gameRows}

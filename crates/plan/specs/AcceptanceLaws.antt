@@ -1,37 +1,33 @@
 -- Laws of the plan acceptor: it refuses k at p exactly as document 01's table says, and accepts exactly the winning plans within the limits.
-use mathlib.Core.Path.{_≡_, refl, sym, ap, _∙_, subst}
-use mathlib.Core.Logic.{_⊎_, inl, inr, _↔_, _≢_, ⊎-elim}
-use mathlib.Core.Bool.{Bool, true, false, not, cond, So}
+use mathlib.Core.Path.{_≡_, refl, sym, _∙_}
+use mathlib.Core.Logic.{_⊎_, inl, inr, _↔_, ⊎-elim}
+use mathlib.Core.Bool.{Bool, true, false, cond, So}
 use mathlib.Core.List.{List, [], _∷_, _++_, append-assoc}
-use Prim.Native.Nat.{ℕ, suc, _+_, _*_, _≤_, _<_}
+use Prim.Native.Nat.{ℕ, _+_, _≤_, _<_}
 use native.Mathlib.Decide.{decLt}
 use native.Mathlib.Omega.{arith}
-use lib.Dec.{eqb, ltb, leb}
+use lib.Dec.{eqb}
 use lib.ListN.{length, getD, take, drop}
 use borrow.Author.Tests.{ltb-true, ltb-false, lt-ltb, le-ltb, leb-true, le-leb, eqb-true, eqb-false, eq-eqb, ne-eqb}
-use Rattle.theory.specs.Bools.{_&_, _or_, imp}
-use Rattle.theory.specs.BoolsLaws.{decide, clash, So-not, and-in, and-out, not-in, not-out, or-left, or-right, or-out, imp-in, imp-out, imp-fails}
-use Rattle.theory.specs.Range.{allBelow, first}
-use Rattle.theory.specs.RangeLaws.{all-in, all-out, all-fails, first-before, first-le}
-use Rattle.theory.specs.Game.{Game, own, Succ, parity}
-use Rattle.theory.specs.Plan.{Plan, linked, Walk, Winning, Wins}
-use Rattle.theory.specs.Returns.{WrongWalk, Return}
-use Rattle.theory.specs.ReturnsLaws.{wrongWalk-return, closed-in, closed-out}
+use Rattle.theory.specs.BoolsLaws.{clash, So-not, not-in, not-out, or-left, or-right, or-out, imp-in, imp-out, imp-fails}
+use Rattle.theory.specs.RangeLaws.{all-in, all-out, all-fails}
+use Rattle.theory.specs.Game.{own, Succ}
+use Rattle.theory.specs.Plan.{linked}
+use Rattle.theory.specs.Returns.{WrongWalk}
+use Rattle.theory.specs.ReturnsLaws.{wrongWalk-return}
 use Rattle.table.specs.Table.{vertexCount, playerOf, gameOf}
-use Rattle.table.specs.TableLaws.{edge-target, edge-succ}
 use Rattle.table.specs.Verdict.{Row, Answer, accepted, refused, judge, Clean}
-use Rattle.table.specs.VerdictLaws.{judge-clean, judge-accepted, judge-past, judge-stays, clean-split}
+use Rattle.table.specs.VerdictLaws.{judge-clean, judge-accepted, judge-past, judge-stays}
 use Rattle.table.specs.Reading.{gameRows, readAnswer}
-use Rattle.table.specs.ReadingLaws.{rows-render, well-clean, read-accepted}
+use Rattle.table.specs.ReadingLaws.{rows-render, read-accepted}
 use Rattle.table.specs.ReadingRules.{gameRules}
 use Rattle.table.specs.Rules.{Rule, FirstRule, here, later, NoRule, no-rule, fails, Rendered, none, next}
 use Rattle.table.specs.RulesLaws.{renders-placed, renders-first, judge-refused, judge-refuses, rendered-append, clean-none, none-clean}
-use Rattle.table.specs.WellFormed.{WellFormed}
 use Rattle.plan.specs.PlanTable.{positionCount, linkCount, vertexAt, linkSource, linkTarget, planLength, planOf}
-use Rattle.plan.specs.PlanTableLaws.{planOf-length, planOf-vertex, planOf-links, planOf-link, Link, link-in, link-out, anyLink-in, anyLink-out}
-use Rattle.plan.specs.PlanFormed.{PlanSized, PlanFormed}
-use Rattle.plan.specs.PlanFormedLaws.{size-good, good-size, words-good}
-use Rattle.plan.specs.Acceptance.{badSize, beyond, firstBeyond, strays, firstStray, anyLink, answers, lacksLink, firstLackingLink, returns, positionPriority, hasLink, returnsWrong, firstReturn, planRows, planAnswer}
+use Rattle.plan.specs.PlanTableLaws.{planOf-links, planOf-link, link-out, anyLink-in, anyLink-out}
+use Rattle.plan.specs.PlanFormed.{PlanFormed, WordsPass}
+use Rattle.plan.specs.PlanFormedLaws.{size-good, words-good}
+use Rattle.plan.specs.Acceptance.{badSize, beyond, firstBeyond, strays, firstStray, anyLink, answers, lacksLink, firstLackingLink, positionPriority, hasLink, returnsWrong, firstReturn, planRows, planAnswer}
 use Rattle.plan.specs.AcceptanceRules.{BadSize, Beyond, Strays, LacksMove, LacksAnswer, planRules}
 use Rattle.plan.specs.ReachLaws.{return-in, return-out}
 
@@ -167,11 +163,13 @@ links-render g player w f =
     (next (renders-first 16 (returnsWrong g player w) _ 0 (positionCount w) (λ i. i) (omega arith) (is-wrong g player w f))
     none))
 
--- a plan that passes 1 to 13
-pub record WordsPass (g : List ℕ) (player : ℕ) (w : List ℕ) : Type 0 where
-  pub game : WellFormed g
-  pub number : player ≤ 1
-  pub formed : PlanFormed (vertexCount g) w
+pub clean-split : (rs ss : List Row) → Clean (rs ++ ss) → Clean rs × Clean ss
+clean-split [] ss c = (tt, c)
+clean-split (r ∷ rs) ss c = let x = clean-split rs ss (c .1) in ((c .0, x .0), x .1)
+
+pub clean-append : (rs ss : List Row) → Clean rs → Clean ss → Clean (rs ++ ss)
+clean-append [] ss c d = d
+clean-append (r ∷ rs) ss c d = (c .0, clean-append rs ss (c .1) d)
 
 pub clean-words : (g : List ℕ) (player : ℕ) (w : List ℕ) → Clean (wordRows g player w) → WordsPass g player w
 unfolding planRows readAnswer

@@ -5,8 +5,8 @@ use mathlib.Core.Bool.{false, So}
 use mathlib.Core.List.{List, [], _∷_}
 use Prim.Native.Nat.{ℕ, _+_, _≤_, _<_}
 use lib.ListN.{length, getD}
-use Rattle.theory.specs.Game.{Game, own, Succ}
-use Rattle.theory.specs.Plan.{Plan, linked}
+use Rattle.theory.specs.Game.{own, Succ}
+use Rattle.theory.specs.Plan.{linked}
 use Rattle.theory.specs.Returns.{WrongWalk}
 use Rattle.table.specs.Table.{vertexCount, playerOf, gameOf}
 use Rattle.table.specs.Rules.{Rule, placed, firstSuch}

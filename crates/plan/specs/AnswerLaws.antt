@@ -1,6 +1,6 @@
 -- Refusal 15 by the two indexes is refusal 15 by the words of game and plan.
-use mathlib.Core.Path.{_≡_, refl, sym, ap, _∙_, subst}
-use mathlib.Core.Bool.{Bool, true, false, not, cond, So}
+use mathlib.Core.Path.{_≡_, refl, sym, _∙_}
+use mathlib.Core.Bool.{true, false, not, So}
 use mathlib.Core.List.{List}
 use Prim.Native.Nat.{ℕ, _+_, _≤_, _<_}
 use native.Mathlib.Decide.{ℕ-discrete}
@@ -8,17 +8,15 @@ use native.Mathlib.Omega.{arith}
 use lib.Dec.{eqb}
 use lib.ListN.{getD}
 use borrow.Author.Tests.{eqb-true, eq-eqb, ne-eqb}
-use Rattle.theory.specs.Bools.{_&_, imp}
-use Rattle.theory.specs.BoolsLaws.{clash, So-ext, So-not, and-in, and-out, not-in, not-out, imp-in, imp-out, imp-fails}
-use Rattle.theory.specs.Range.{allBelow, anyBelow}
-use Rattle.theory.specs.RangeLaws.{all-in, all-out, all-fails, any-in, any-out}
-use Rattle.theory.specs.Game.{even, odd, own}
+use Rattle.theory.specs.BoolsLaws.{clash, So-ext, So-not, and-in, and-out, not-in, not-out, imp-out, imp-fails}
+use Rattle.theory.specs.RangeLaws.{all-out, all-fails, any-in, any-out}
+use Rattle.theory.specs.Game.{own}
 use Rattle.table.specs.Table.{vertexCount, tableEdges, ownerAt, sourceAt, targetAt, playerOf, gameOf}
 use Rattle.table.specs.WellFormed.{WellFormed}
 use Rattle.table.specs.TableLaws.{player-zero, player-one, own-even, own-one, edge-in, edge-out}
 use Rattle.plan.specs.PlanTable.{positionCount, vertexAt}
 use Rattle.plan.specs.PlanFormed.{PlanFormed}
-use Rattle.plan.specs.Acceptance.{anyLink, answers, lacksLink}
+use Rattle.plan.specs.Acceptance.{answers, lacksLink}
 use Rattle.plan.specs.Index.{anyFrom, among, LinkIndex, EdgeIndex}
 use Rattle.plan.specs.IndexLaws.{from-in, from-none, among-any}
 use Rattle.plan.specs.Marks.{standsAt, unanswered}

@@ -1,13 +1,13 @@
 -- Laws of the matrix of edges.
 use mathlib.Core.Path.{_≡_, refl, sym, ap, _∙_}
-use mathlib.Core.Bool.{Bool, true, false, not, cond, So}
+use mathlib.Core.Bool.{Bool, true, false, not, cond}
 use mathlib.Core.List.{List}
 use Prim.Native.Nat.{ℕ, _+_, _*_, _/_, _%_, _≤_, _<_}
 use native.Mathlib.Nat.{mul-le-mul}
 use native.Mathlib.Omega.{arith}
 use lib.Arith.{digits-lt, digits-div, digits-mod}
 use lib.Dec.{eqb}
-use lib.ListN.{length, getD}
+use lib.ListN.{length}
 use borrow.Author.Tests.{eqb-true, eq-eqb}
 use Rattle.theory.specs.Bools.{_&_, bit}
 use Rattle.theory.specs.BoolsLaws.{So-ext, and-in, and-out}
@@ -16,7 +16,7 @@ use Rattle.table.specs.Table.{vertexCount, tableEdges, sourceAt, targetAt, isEd
 use Rattle.table.specs.WellFormed.{WellFormed}
 use Rattle.table.specs.Parts.{edgeNumber, Flagged}
 use Rattle.table.specs.SearchLaws.{any-ext, first-ext}
-use Rattle.plan.specs.PlanTable.{positionCount, linkCount, vertexAt, linkSource, linkTarget}
+use Rattle.plan.specs.PlanTable.{linkCount, vertexAt, linkSource, linkTarget}
 use Rattle.plan.specs.PlanFormed.{PlanFormed}
 use Rattle.plan.specs.Acceptance.{strays, firstStray}
 use Rattle.plan.specs.Edges.{Matrix, straysBy}

@@ -1,20 +1,20 @@
 -- Laws of the plan of a table: its positions stand at the listed vertices, and its links are those that the table lists.
-use mathlib.Core.Path.{_≡_, refl, sym, ap, _∙_, fun-ext}
+use mathlib.Core.Path.{_≡_, refl, ap, fun-ext}
 use mathlib.Core.Logic.{_⊎_, inl, inr}
 use mathlib.Core.Bool.{Bool, So, false≢true}
-use mathlib.Core.List.{List, [], _∷_}
+use mathlib.Core.List.{List}
 use Prim.Native.Nat.{ℕ, zero, suc, _<_}
 use native.Mathlib.Nat.{not-suc-le-zero, le-of-suc-le-suc}
 use native.Mathlib.Omega.{arith}
 use lib.Dec.{eqb}
 use lib.ListN.{length, getD}
 use borrow.Author.Tests.{eqb-true, eq-eqb}
-use Rattle.theory.specs.Bools.{_&_, _or_}
+use Rattle.theory.specs.Bools.{_&_}
 use Rattle.theory.specs.BoolsLaws.{So-ext, and-in, and-out, or-left, or-right, or-out}
-use Rattle.theory.specs.Range.{anyBelow, tabulate}
+use Rattle.theory.specs.Range.{tabulate}
 use Rattle.theory.specs.RangeLaws.{any-in, any-out}
 use Rattle.theory.specs.ListLaws.{length-tabulate, getD-tabulate}
-use Rattle.theory.specs.Plan.{Plan, linked}
+use Rattle.theory.specs.Plan.{linked}
 use Rattle.plan.specs.PlanTable.{positionCount, linkCount, vertexAt, linkSource, linkTarget, planOf}
 use Rattle.plan.specs.Acceptance.{anyLink, hasLink}
 

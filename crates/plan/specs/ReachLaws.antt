@@ -1,17 +1,17 @@
 -- The computed `reaches` covers walks of any length: a walk over more than p of p positions passes one of them twice, and the part
 -- between the two visits can be left out.
-use mathlib.Core.Path.{_≡_, refl, sym, ap, _∙_, subst}
+use mathlib.Core.Path.{refl, subst}
 use mathlib.Core.Logic.{_⊎_, inl, inr}
 use mathlib.Core.Bool.{Bool, not, So}
 use mathlib.Core.List.{List, [], _∷_, _++_}
-use Prim.Native.Nat.{ℕ, zero, suc, _+_, _-_, _≤_, _<_}
+use Prim.Native.Nat.{ℕ, zero, suc, _+_, _≤_, _<_}
 use native.Mathlib.Nat.{not-suc-le-zero, le-of-suc-le-suc}
 use native.Mathlib.Decide.{decLe}
 use native.Mathlib.Omega.{arith}
 use lib.Dec.{leb}
 use borrow.Author.Tests.{leb-true, le-leb}
 use lib.ListN.{length, getD, take, drop, length-append, length-take, length-drop}
-use Rattle.theory.specs.Bools.{_&_, _or_}
+use Rattle.theory.specs.Bools.{_&_}
 use Rattle.theory.specs.BoolsLaws.{and-in, and-out, or-left, or-right, or-out, not-in, not-out}
 use Rattle.theory.specs.Range.{anyBelow}
 use Rattle.theory.specs.RangeLaws.{any-in, any-out}

@@ -1,17 +1,17 @@
 -- Refusal 16 by the index of links and the list of priorities is refusal 16 by the plan's words.
-use mathlib.Core.Path.{_≡_, refl, sym, ap, ap₂, _∙_}
+use mathlib.Core.Path.{_≡_, ap, ap₂}
 use mathlib.Core.Bool.{Bool, not}
 use mathlib.Core.List.{List}
 use Prim.Native.Nat.{ℕ, _<_}
 use lib.Dec.{eqb}
 use lib.ListN.{getD}
 use Rattle.theory.specs.Bools.{_&_}
-use Rattle.theory.specs.Range.{anyBelow, first}
+use Rattle.theory.specs.Range.{first}
 use Rattle.theory.specs.Game.{parity}
 use Rattle.table.specs.Table.{playerOf}
 use Rattle.table.specs.SearchLaws.{first-ext}
-use Rattle.plan.specs.PlanTable.{positionCount, linkCount, linkSource, linkTarget}
-use Rattle.plan.specs.Acceptance.{anyLink, hasLink, positionPriority, returns, returnsWrong, firstReturn}
+use Rattle.plan.specs.PlanTable.{positionCount}
+use Rattle.plan.specs.Acceptance.{anyLink, hasLink, positionPriority, returnsWrong, firstReturn}
 use Rattle.plan.specs.Index.{among, LinkIndex}
 use Rattle.plan.specs.IndexLaws.{among-any}
 use Rattle.plan.specs.Search.{linkBy, rankAt, wrongBy}

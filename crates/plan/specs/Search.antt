@@ -21,6 +21,14 @@ pub record Graph (p : ℕ) (starts targets : List ℕ) : Type 0 where
   pub bound : (i : ℕ) → i ≤ p → getD starts i 0 ≤ length targets
   pub inside : (i t : ℕ) → i < p → getD starts i 0 ≤ t → t < getD starts (i + 1) 0 → getD targets t 0 < p
 
+-- a graph of p positions with their priorities, and room for the search
+pub record Workspace (p : ℕ) (starts targets rank seen queue : List ℕ) : Type 0 where
+  pub graph : Graph p starts targets
+  pub few : p ≤ 4096
+  pub ranks : p ≤ length rank
+  pub stamps : p ≤ length seen
+  pub entries : p < length queue
+
 -- an indexed link leads from i to j
 unfoldable pub linkBy : List ℕ → List ℕ → ℕ → ℕ → Bool
 linkBy starts targets i j = among starts targets i (λ k. eqb k j)

@@ -1,7 +1,7 @@
 -- Laws of the search for returns.
 use mathlib.Core.Path.{_≡_, refl, sym, ap, ap₂, _∙_, subst}
 use mathlib.Core.Logic.{_⊎_, inl, inr}
-use mathlib.Core.Bool.{Bool, true, false, not, cond, So}
+use mathlib.Core.Bool.{Bool, true, false, not, So}
 use mathlib.Core.List.{List, [], _∷_}
 use Prim.Native.Nat.{ℕ, zero, suc, _+_, _%_, _≤_, _<_}
 use native.Mathlib.Nat.{not-suc-le-zero, lt-irrefl}
@@ -11,12 +11,12 @@ use native.Mathlib.Omega.{arith}
 use lib.Dec.{eqb, leb}
 use lib.ListN.{length, getD, set}
 use lib.Seq.{getD-set-same, getD-set-other}
-use borrow.Author.Tests.{eqb-true, eqb-false, eq-eqb, ne-eqb, le-leb, lt-leb}
+use borrow.Author.Tests.{eqb-true, eq-eqb, ne-eqb, le-leb, lt-leb}
 use Rattle.theory.specs.Bools.{_&_, _or_, bit}
-use Rattle.theory.specs.BoolsLaws.{decide, clash, So-ext, So-not, and-in, and-out, and-fails, not-in, not-out}
-use Rattle.theory.specs.Range.{anyBelow, count}
+use Rattle.theory.specs.BoolsLaws.{decide, clash, So-ext, and-in, and-out, and-fails, not-in, not-out}
+use Rattle.theory.specs.Range.{count}
 use Rattle.theory.specs.CountLaws.{count-le}
-use Rattle.theory.specs.Game.{Player, even, odd, parity}
+use Rattle.theory.specs.Game.{parity}
 use Rattle.theory.specs.Plan.{Walk}
 use Rattle.table.specs.Table.{playerOf}
 use Rattle.table.specs.SearchLaws.{any-ext}

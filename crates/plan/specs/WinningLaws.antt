@@ -1,35 +1,35 @@
 -- The plan acceptor passes exactly the plans within the limits that win from the vertex of position 0.
 use mathlib.Core.Path.{_≡_, refl, sym, ap, ap₂, _∙_, subst₂}
-use mathlib.Core.Logic.{_⊎_, inl, inr, _↔_}
-use mathlib.Core.Bool.{Bool, true, false, not, cond, So}
+use mathlib.Core.Logic.{_⊎_, inl, inr}
+use mathlib.Core.Bool.{Bool, true, false, not, So}
 use mathlib.Core.List.{List, [], _∷_, _++_}
-use Prim.Native.Nat.{ℕ, _+_, _≤_, _<_, min}
+use Prim.Native.Nat.{ℕ, _≤_, _<_}
 use native.Mathlib.Decide.{decLt}
 use native.Mathlib.Omega.{arith}
 use lib.Dec.{ltb}
-use lib.ListN.{length, getD, take, drop}
+use lib.ListN.{getD, drop}
 use borrow.Author.Tests.{ltb-false, le-ltb, not-false}
 use Rattle.theory.specs.Bools.{_&_}
-use Rattle.theory.specs.BoolsLaws.{clash, So-not, not-in, not-out}
+use Rattle.theory.specs.BoolsLaws.{clash, So-not}
 use Rattle.theory.specs.Range.{first}
 use Rattle.theory.specs.RangeLaws.{first-before, first-passes}
-use Rattle.theory.specs.Game.{Game, own, Succ, parity}
-use Rattle.theory.specs.Plan.{Plan, linked, Walk, Winning, Wins}
+use Rattle.theory.specs.Game.{own, Succ, parity}
+use Rattle.theory.specs.Plan.{linked, Walk, Wins}
 use Rattle.theory.specs.Returns.{Return}
 use Rattle.theory.specs.ReturnsLaws.{closed-in, closed-out}
 use Rattle.table.specs.Table.{vertexCount, playerOf, gameOf}
-use Rattle.table.specs.Verdict.{accepted, judge, Clean}
-use Rattle.table.specs.VerdictLaws.{judge-clean, judge-accepted, clean-split, clean-append}
+use Rattle.table.specs.Verdict.{accepted, Clean}
+use Rattle.table.specs.VerdictLaws.{judge-clean, judge-accepted}
 use Rattle.table.specs.Reading.{gameRows}
 use Rattle.table.specs.ReadingLaws.{well-clean}
 use Rattle.table.specs.WellFormed.{WellFormed}
-use Rattle.plan.specs.PlanTable.{positionCount, linkCount, vertexAt, linkSource, linkTarget, planLength, planOf}
-use Rattle.plan.specs.PlanTableLaws.{planOf-length, planOf-vertex, planOf-link, Link, link-in, link-out, anyLink-in, anyLink-out}
-use Rattle.plan.specs.PlanFormed.{PlanSized, PlanFormed}
+use Rattle.plan.specs.PlanTable.{positionCount, linkCount, vertexAt, linkSource, linkTarget, planOf}
+use Rattle.plan.specs.PlanTableLaws.{planOf-length, planOf-vertex, planOf-link, link-in, link-out, anyLink-out}
+use Rattle.plan.specs.PlanFormed.{PlanSized, PlanFormed, WordsPass}
 use Rattle.plan.specs.PlanFormedLaws.{good-size, good-words}
 use Rattle.plan.specs.Acceptance.{strays, firstStray, anyLink, answers, lacksLink, firstLackingLink, returns, positionPriority, hasLink, returnsWrong, firstReturn, planRows, planAnswer}
 use Rattle.plan.specs.AcceptanceRules.{LacksMove, LacksAnswer}
-use Rattle.plan.specs.AcceptanceLaws.{Answered, answers-out, lacks-out, link-inside, wordRows, WordsPass, clean-words, split-rows}
+use Rattle.plan.specs.AcceptanceLaws.{answers-out, lacks-out, link-inside, wordRows, clean-words, clean-split, clean-append, split-rows}
 use Rattle.plan.specs.ReachLaws.{return-in, return-out}
 use Rattle.plan.specs.SearchLaws.{returns-ext}
 

@@ -4,10 +4,8 @@ use crate::links::vertex_of;
 ghost use mathlib.Core.Path.{_≡_};
 ghost use Prim.Native.Nat.{ℕ, _+_, _≤_, _<_};
 ghost use lib.ListN.{length, getD};
-ghost use Rattle.table.specs.Table.{vertexCount};
-ghost use Rattle.table.specs.WellFormed.{WellFormed};
 ghost use Rattle.plan.specs.PlanTable.{positionCount, vertexAt};
-ghost use Rattle.plan.specs.PlanFormed.{PlanFormed};
+ghost use Rattle.plan.specs.PlanFormed.{PlanFormed, WordsPass};
 ghost use Rattle.plan.specs.Acceptance.{lacksLink, firstLackingLink};
 ghost use Rattle.plan.specs.Index.{among, LinkIndex, EdgeIndex};
 ghost use Rattle.plan.specs.Search.{Graph};
@@ -94,7 +92,7 @@ fn lacks_link(
     marks: &mut [u16],
     i: usize,
 ) -> bool
-    requires { ⌜ WellFormed (now game) × PlanFormed (vertexCount (now game)) (now plan) × (player ≤ 1) ⌝ }
+    requires { ⌜ WordsPass (now game) player (now plan) ⌝ }
     requires { ⌜ LinkIndex (now plan) (now starts) (now targets) × EdgeIndex (now game) (now «edge_starts») (now «edge_targets») ⌝ }
     requires { ⌜ (256 ≤ length (now marks)) × (i < positionCount (now plan)) ⌝ }
     requires { ⌜ ((x : ℕ) → getD (now marks) x 0 ≤ i) ⌝ }
@@ -129,7 +127,7 @@ fn first_lacking_by(
     edge_targets: &[u16],
     marks: &mut [u16],
 ) -> usize
-    requires { ⌜ WellFormed (now game) × PlanFormed (vertexCount (now game)) (now plan) × (player ≤ 1) ⌝ }
+    requires { ⌜ WordsPass (now game) player (now plan) ⌝ }
     requires { ⌜ LinkIndex (now plan) (now starts) (now targets) × EdgeIndex (now game) (now «edge_starts») (now «edge_targets») ⌝ }
     requires { ⌜ 256 ≤ length (now marks) ⌝ }
     requires { ⌜ ((x : ℕ) → getD (now marks) x 0 ≡ 0) ⌝ }
@@ -165,7 +163,7 @@ pub fn first_lacking(
     starts: &[u16],
     targets: &[u16],
 ) -> usize
-    requires { ⌜ WellFormed (now game) × PlanFormed (vertexCount (now game)) (now plan) × (player ≤ 1) ⌝ }
+    requires { ⌜ WordsPass (now game) player (now plan) ⌝ }
     requires { ⌜ LinkIndex (now plan) (now starts) (now targets) ⌝ }
     ensures { λ r. ⌜ r ≡ firstLackingLink (now (game .entry)) player (now (plan .entry)) ⌝ }
 {

@@ -1,22 +1,19 @@
 // The plan acceptor. A plan is document 01's term for a finite-memory strategy, given as a graph of positions and links.
-pub mod answers;
-pub mod index;
-pub mod links;
-pub mod returns;
+mod answers;
+mod index;
+mod links;
+mod returns;
 
 use table::Acceptance;
 use table::Reading;
-use table::Refusal;
 use table::acceptor::refused;
 ghost use mathlib.Core.Path.{_≡_};
 ghost use mathlib.Core.List.{[]};
-ghost use Prim.Native.Nat.{_≤_};
 ghost use lib.ListN.{drop};
-ghost use Rattle.table.specs.Table.{vertexCount};
 ghost use Rattle.table.specs.Verdict.{judge};
 ghost use Rattle.table.specs.Acceptance.{acceptanceAnswer};
 ghost use Rattle.table.specs.WellFormed.{WellFormed};
-ghost use Rattle.plan.specs.PlanFormed.{PlanFormed};
+ghost use Rattle.plan.specs.PlanFormed.{WordsPass};
 ghost use Rattle.plan.specs.Index.{LinkIndex};
 ghost use Rattle.plan.specs.Acceptance.{badSize, planRows, planAnswer};
 
@@ -80,7 +77,7 @@ fn bad_size(plan: &[u16]) -> bool
 
 // 15 and 16, over an index of the links.
 fn judge_positions(game: &[u16], player: u32, plan: &[u16]) -> Acceptance
-    requires { ⌜ WellFormed (now game) × PlanFormed (vertexCount (now game)) (now plan) × (player ≤ 1) ⌝ }
+    requires { ⌜ WordsPass (now game) player (now plan) ⌝ }
     ensures { λ r. ⌜ acceptanceAnswer r ≡ judge (drop 4 (planRows (now (game .entry)) player (now (plan .entry)))) [] ⌝ }
 {
     let p = plan[0] as usize;
@@ -98,7 +95,7 @@ fn judge_indexed(
     starts: &[u16],
     targets: &[u16],
 ) -> Acceptance
-    requires { ⌜ WellFormed (now game) × PlanFormed (vertexCount (now game)) (now plan) × (player ≤ 1) ⌝ }
+    requires { ⌜ WordsPass (now game) player (now plan) ⌝ }
     requires { ⌜ LinkIndex (now plan) (now starts) (now targets) ⌝ }
     ensures { λ r. ⌜ acceptanceAnswer r ≡ judge (drop 4 (planRows (now (game .entry)) player (now (plan .entry)))) [] ⌝ }
 {

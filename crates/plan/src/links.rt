@@ -1,9 +1,9 @@
 // Refusals 13 and 14: the words of a plan, and its links along edges.
 ghost use mathlib.Core.Path.{_≡_};
 ghost use mathlib.Core.Bool.{cond};
-ghost use Prim.Native.Nat.{ℕ, _+_, _*_, _≤_, _<_};
+ghost use Prim.Native.Nat.{_+_, _*_, _≤_, _<_};
 ghost use lib.Dec.{ltb};
-ghost use lib.ListN.{length, getD};
+ghost use lib.ListN.{length};
 ghost use Rattle.theory.specs.Range.{first};
 ghost use Rattle.table.specs.Table.{vertexCount, tableEdges};
 ghost use Rattle.table.specs.WellFormed.{WellFormed};

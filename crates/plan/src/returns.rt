@@ -7,10 +7,10 @@ ghost use Rattle.theory.specs.Range.{first};
 ghost use Rattle.table.specs.Table.{vertexCount};
 ghost use Rattle.table.specs.WellFormed.{WellFormed};
 ghost use Rattle.plan.specs.PlanTable.{positionCount};
-ghost use Rattle.plan.specs.PlanFormed.{PlanFormed};
+ghost use Rattle.plan.specs.PlanFormed.{PlanFormed, WordsPass};
 ghost use Rattle.plan.specs.Index.{LinkIndex};
 ghost use Rattle.plan.specs.Acceptance.{returns, positionPriority, firstReturn};
-ghost use Rattle.plan.specs.Search.{Graph, linkBy, rankAt, Queued, Grown, follows, fresh, Visited, wrongBy};
+ghost use Rattle.plan.specs.Search.{Workspace, linkBy, rankAt, Queued, Grown, follows, fresh, Visited, wrongBy};
 
 // Stamps position j and queues it, if its priority is at least `least` and it isn't stamped yet. Returns the queue's new end.
 fn visit(
@@ -49,8 +49,7 @@ fn expand(
     stamp: u16,
     tail: usize,
 ) -> usize
-    requires { ⌜ Graph p (now starts) (now targets) × (i < p) × (p ≤ 4096) ⌝ }
-    requires { ⌜ (p ≤ length (now rank)) × (p ≤ length (now seen)) × (p < length (now queue)) ⌝ }
+    requires { ⌜ Workspace p (now starts) (now targets) (now rank) (now seen) (now queue) × (i < p) ⌝ }
     requires { ⌜ Queued p stamp (now seen) (now queue) tail ⌝ }
     ensures { λ r. ⌜ Grown p stamp (follows (now (starts .entry)) (now (targets .entry)) (now (rank .entry)) least i) (now (seen .entry)) (now (queue .entry)) tail (now (seen .exit)) (now (queue .exit)) r ⌝ }
 {
@@ -75,8 +74,7 @@ fn returns(
     p: usize,
     i: usize,
 ) -> bool
-    requires { ⌜ Graph p (now starts) (now targets) × (i < p) × (p ≤ 4096) ⌝ }
-    requires { ⌜ (p ≤ length (now rank)) × (p ≤ length (now seen)) × (p < length (now queue)) ⌝ }
+    requires { ⌜ Workspace p (now starts) (now targets) (now rank) (now seen) (now queue) × (i < p) ⌝ }
     requires { ⌜ ((j : ℕ) → getD (now seen) j 0 ≤ i) ⌝ }
     ensures { λ r. ⌜ r ≡ returns p (linkBy (now (starts .entry)) (now (targets .entry))) (rankAt (now (rank .entry))) i ⌝ }
     ensures { λ r. ⌜ ((j : ℕ) → getD (now (seen .exit)) j 0 ≤ i + 1) ⌝ }
@@ -107,10 +105,8 @@ fn returns_wrong(
     player: u32,
     i: usize,
 ) -> bool
-    requires { ⌜ Graph p (now starts) (now targets) × (i < p) × (p ≤ 4096) ⌝ }
-    requires { ⌜ (p ≤ length (now rank)) × (p ≤ length (now seen)) × (p < length (now queue)) ⌝ }
+    requires { ⌜ Workspace p (now starts) (now targets) (now rank) (now seen) (now queue) × (i < p) × (player ≤ 1) ⌝ }
     requires { ⌜ ((j : ℕ) → getD (now seen) j 0 ≤ i) ⌝ }
-    requires { ⌜ player ≤ 1 ⌝ }
     ensures { λ r. ⌜ r ≡ wrongBy (now (starts .entry)) (now (targets .entry)) (now (rank .entry)) p player i ⌝ }
     ensures { λ r. ⌜ ((j : ℕ) → getD (now (seen .exit)) j 0 ≤ i + 1) ⌝ }
 {
@@ -130,10 +126,8 @@ fn first_returning(
     p: usize,
     player: u32,
 ) -> usize
-    requires { ⌜ Graph p (now starts) (now targets) × (p ≤ 4096) ⌝ }
-    requires { ⌜ (p ≤ length (now rank)) × (p ≤ length (now seen)) × (p < length (now queue)) ⌝ }
+    requires { ⌜ Workspace p (now starts) (now targets) (now rank) (now seen) (now queue) × (player ≤ 1) ⌝ }
     requires { ⌜ ((j : ℕ) → getD (now seen) j 0 ≡ 0) ⌝ }
-    requires { ⌜ player ≤ 1 ⌝ }
     ensures { λ r. ⌜ r ≡ first (wrongBy (now (starts .entry)) (now (targets .entry)) (now (rank .entry)) p player) 0 p ⌝ }
 {
     let mut i = 0;
@@ -153,10 +147,10 @@ fn fill_rank(game: &[u16], plan: &[u16], rank: &mut [u16])
     ensures { λ r. ⌜ ((i : ℕ) → i < positionCount (now (plan .entry)) → getD (now (rank .exit)) i 0 ≡ positionPriority (now (game .entry)) (now (plan .entry)) i) ⌝ }
 {
     let p = plan[0] as usize;
-    let mut i = 0;
-    while i < p {
-        rank[i] = game[2 + vertex_of(plan, i)];
-        i += 1;
+    let mut j = 0;
+    while j < p {
+        rank[j] = game[2 + vertex_of(plan, j)];
+        j += 1;
     }
 }
 
@@ -168,7 +162,7 @@ pub fn first_return(
     starts: &[u16],
     targets: &[u16],
 ) -> usize
-    requires { ⌜ WellFormed (now game) × PlanFormed (vertexCount (now game)) (now plan) × (player ≤ 1) ⌝ }
+    requires { ⌜ WordsPass (now game) player (now plan) ⌝ }
     requires { ⌜ LinkIndex (now plan) (now starts) (now targets) ⌝ }
     ensures { λ r. ⌜ r ≡ firstReturn (now (game .entry)) player (now (plan .entry)) ⌝ }
 {

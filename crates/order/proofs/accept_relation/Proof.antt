@@ -1,3 +1,4 @@
+-- Each way out is a row of the call's table of refusals, or none of them.
 use borrow.Author.Needs.{needs}
 use native.Mathlib.Omega.{arith}
 use native.Mathlib.Nat.{mul-le-mul}
@@ -14,11 +15,14 @@ use Rattle.order.specs.RelationCallLaws.{firstFailing-le, relation-hande
 use Rattle.order.proofs.accept_relation.Statement.{statement}
 use Rattle.order.proofs.accept_relation.Tie as tie
 
+abbrev start : tie.After-read → tie.Start
+start c = c .before .before .before
+
 -- the reader accepted
-answer : (c : tie.After-reading) → readingAnswer (Accepted (c .reading .given .0 .0)) ≡ readAnswer (c .before .before .before .before .before .args .game .now)
+answer : (c : tie.After-reading) → readingAnswer (Accepted (c .reading .given .0 .0)) ≡ readAnswer (start (c .before .before) .args .game .now)
 answer c = rw (c .reading .given .1) at (c .before .before .read .ensures)
 
-sized : (c : tie.After-reading) → WellSized (c .before .before .before .before .before .args .game .now) (c .reading .given .0 .0)
+sized : (c : tie.After-reading) → WellSized (start (c .before .before) .args .game .now) (c .reading .given .0 .0)
 sized c = reading-accepted _ _ (answer c)
 
 size : (c : tie.After-reading) → c .reading .given .0 .0 .vertices * c .reading .given .0 .0 .vertices ≤ 65536
@@ -27,25 +31,28 @@ size c =
     omega (arith, mul-le-mul w w)
 
 -- the marks are long enough
-fit : (c : tie.Else1) → let s = c .before .before .before .before .before .before .before .args in pairCount (s .game .now) ≤ length (s .marks .now)
+fit : (c : tie.Else1) → let s = start (c .before .before .before .before) .args in pairCount (s .game .now) ≤ length (s .marks .now)
 fit c = rw (sized (c .before .before) .vertices) at (c .if1 .left)
 
 -- none is above 1
-high : (c : tie.After-first-high) → let s = c .before .before .before .before .before .before .before .before .args in c .first-high .result ≡ firstHigh (s .marks .now) (pairCount (s .game .now))
+high : (c : tie.After-first-high)
+    → let s = start (c .before .before .before .before .before) .args in c .first-high .result ≡ firstHigh (s .marks .now) (pairCount (s .game .now))
 high c = rw (sized (c .before .before .before) .vertices) at (c .first-high .ensures)
 
-low : (c : tie.Else2) → let s = c .before .before .before .before .before .before .before .before .before .args in pairCount (s .game .now) ≤ firstHigh (s .marks .now) (pairCount (s .game .now))
+low : (c : tie.Else2)
+    → let s = start (c .before .before .before .before .before .before) .args in pairCount (s .game .now) ≤ firstHigh (s .marks .now) (pairCount (s .game .now))
 low c = rw (high (c .before), sized (c .before .before .before .before) .vertices) at (c .if2 .left)
 
 -- the failing pair's number
 place : (c : tie.After-failing-pair)
-    → let s = c .before .before .before .before .before .before .before .before .before .before .args in
+    → let s = start (c .before .before .before .before .before .before .before) .args in
     c .failing-pair .result .v * c .before .before .before .before .before .reading .given .0 .0 .vertices + c .failing-pair .result .w ≡ firstFailing (s .game .now) (s .marks .now)
 place c = rw (sized (c .before .before .before .before .before) .vertices) (c .failing-pair .ensures)
 
-limit : (c : tie.After-failing-pair) → let s = c .before .before .before .before .before .before .before .before .before .before .args in firstFailing (s .game .now) (s .marks .now) ≤ 65536
+limit : (c : tie.After-failing-pair)
+    → let s = start (c .before .before .before .before .before .before .before) .args in firstFailing (s .game .now) (s .marks .now) ≤ 65536
 limit c =
-    let s = c .before .before .before .before .before .before .before .before .before .before .args in
+    let s = start (c .before .before .before .before .before .before .before) .args in
     let w = sized (c .before .before .before .before .before) .well .vertices in
     omega (arith, firstFailing-le (s .game .now) (s .marks .now), mul-le-mul w w)
 

@@ -1,3 +1,4 @@
+-- Arrays of 257 and 4,096 words hold the index of any well-formed table.
 use borrow.Author.Needs.{needs}
 use native.Mathlib.Omega.{arith}
 use Rattle.order.specs.CountingLaws.{zeros}

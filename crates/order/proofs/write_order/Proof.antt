@@ -1,3 +1,4 @@
+-- Each way out is a row of the call's table of refusals, or what the passes left.
 use borrow.Author.Needs.{needs}
 use native.Mathlib.Omega.{arith}
 use native.Mathlib.Nat.{mul-le-mul}
@@ -11,11 +12,14 @@ use Rattle.order.specs.OrderCallLaws.{order-handed, order-short-marks, o
 use Rattle.order.proofs.write_order.Statement.{statement}
 use Rattle.order.proofs.write_order.Tie as tie
 
+abbrev start : tie.After-read → tie.Start
+start c = c .before .before .before .before
+
 -- the reader accepted
-answer : (c : tie.After-reading) → readingAnswer (Accepted (c .reading .given .0 .0)) ≡ readAnswer (c .before .before .before .before .before .before .args .game .now)
+answer : (c : tie.After-reading) → readingAnswer (Accepted (c .reading .given .0 .0)) ≡ readAnswer (start (c .before .before) .args .game .now)
 answer c = rw (c .reading .given .1) at (c .before .before .read .ensures)
 
-sized : (c : tie.After-reading) → WellSized (c .before .before .before .before .before .before .args .game .now) (c .reading .given .0 .0)
+sized : (c : tie.After-reading) → WellSized (start (c .before .before) .args .game .now) (c .reading .given .0 .0)
 sized c = reading-accepted _ _ (answer c)
 
 read-requires : tie.Need-read-requires

@@ -1,18 +1,13 @@
+-- A refusal of the reader stands before every row of the plan, and past an accepted game these rows decide.
 use borrow.Author.Needs.{needs}
 use mathlib.Core.Path.{_≡_, sym, _∙_}
 use Rattle.table.specs.Reading.{readAnswer, readingAnswer}
 use Rattle.table.specs.ReadingLaws.{reading-accepted, reading-past, reading-stays}
 use Rattle.table.specs.declared.Reading.the-variants.{Accepted, Refused}
 use Rattle.plan.specs.Acceptance.{planAnswer}
--- uses end
 use Rattle.plan.proofs.accept_plan.Statement.{statement}
 use Rattle.plan.proofs.accept_plan.Tie as tie
-use Rattle.plan.proofs.accept_plan.Reads as reads
-use Rattle.plan.proofs.accept_plan.Lts as lts
-use Rattle.plan.proofs.judge_plan.Reads as judge-plan-reads
-use Rattle.table.proofs.read.Reads as read-reads
 
---{
 -- the reader accepted
 accepted : (c : tie.After-enum-told) → readingAnswer (Accepted (c .enum-told .given .0 .0)) ≡ readAnswer (c .before .before .before .before .before .args .game .now)
 accepted c = rw (c .enum-told .given .1) at (c .before .before .read .ensures)
@@ -21,29 +16,22 @@ accepted c = rw (c .enum-told .given .1) at (c .before .before .read .ensures)
 refused : (c : tie.After-reading) → readingAnswer (Refused (c .reading .given .0 .0)) ≡ readAnswer (c .before .before .before .before .before .args .game .now)
 refused c = rw (c .reading .given .1) at (c .before .before .read .ensures)
 
---}
--- src/lib.rt:32:9
 read-requires : tie.Need-read-requires
 read-requires c κs = search needs
 
--- src/lib.rt:33:26
 enum-known-reading : tie.Need-enum-known-reading
 enum-known-reading c = search needs
 
--- src/lib.rt:34:9
 enum-told : tie.Need-enum-told
 enum-told c = search needs
 
--- src/lib.rt:34:9
 judge-plan-requires : tie.Need-judge-plan-requires
 judge-plan-requires c κs = reading-accepted _ _ (accepted c) .well
 
--- src/lib.rt:34:9
 returns : tie.Need-returns
 unfolding planAnswer
 returns c = c .judge-plan .ensures ∙ sym (reading-past _ _ (accepted (c .before)) _ _)
 
--- src/lib.rt:29:1
 returns-2 : tie.Need-returns-2
 unfolding planAnswer
 returns-2 c = sym (reading-stays _ _ (refused (c .before)) _ _)

@@ -1,64 +1,49 @@
+-- The five conditions of 12, one after the other.
 use borrow.Author.Needs.{needs}
 use native.Mathlib.Omega.{arith}
-use mathlib.Core.Path.{_≡_, refl, sym, ap, _∙_, subst}
 use borrow.Author.Tests.{lt-ltb, le-ltb, eq-eqb, ne-eqb}
 use Rattle.theory.specs.Bools.{_or_}
 use Rattle.plan.specs.Acceptance.{badSize}
--- uses end
 use Rattle.plan.proofs.bad_size.Statement.{statement}
 use Rattle.plan.proofs.bad_size.Tie as tie
-use Rattle.plan.proofs.bad_size.Reads as reads
-use Rattle.plan.proofs.bad_size.Lts as lts
 
--- src/lib.rt:69:9
 returns : tie.Need-returns
 unfolding badSize _or_
 returns c = rw (lt-ltb _ _ (c .if1 .taken))
 
--- src/lib.rt:71:13
 shared-slice-read-p : tie.Need-shared-slice-read-p
 shared-slice-read-p c = search needs
 
--- src/lib.rt:71:13
 cast-p : tie.Need-cast-p
 cast-p c = omega (arith, c .shared-slice-known .given 0)
 
--- src/lib.rt:72:13
 shared-slice-read-l : tie.Need-shared-slice-read-l
 shared-slice-read-l c = search needs
 
--- src/lib.rt:72:13
 cast-l : tie.Need-cast-l
 cast-l c = omega (arith, c .shared-slice-known2 .given 1)
 
--- src/lib.rt:74:9
 returns-2 : tie.Need-returns-2
 unfolding badSize _or_
 returns-2 c = rw (le-ltb _ _ (c .before .before .before .if1 .left), eq-eqb _ _ (c .if2 .taken))
 
--- src/lib.rt:77:9
 returns-3 : tie.Need-returns-3
 unfolding badSize _or_
 returns-3 c = rw (le-ltb _ _ (c .before .before .before .before .if1 .left), ne-eqb _ _ (c .before .if2 .left), lt-ltb _ _ (c .if3 .taken))
 
--- src/lib.rt:80:9
 returns-4 : tie.Need-returns-4
 unfolding badSize _or_
 returns-4 c = rw (le-ltb _ _ (c .before .before .before .before .before .if1 .left), ne-eqb _ _ (c .before .before .if2 .left), le-ltb _ _ (c .before .if3 .left), lt-ltb _ _ (c .if4 .taken))
 
--- src/lib.rt:82:12
 add-result : tie.Need-add-result
 add-result c = search needs
 
--- src/lib.rt:82:20
 mul-result : tie.Need-mul-result
 mul-result c = search needs
 
--- src/lib.rt:82:12
 add-result-2 : tie.Need-add-result-2
 add-result-2 c = search needs
 
--- src/lib.rt:64:1
 returns-5 : tie.Need-returns-5
 unfolding badSize _or_
 returns-5 c = rw (le-ltb _ _ (c .before .before .before .before .before .if1 .left), ne-eqb _ _ (c .before .before .if2 .left), le-ltb _ _ (c .before .if3 .left), le-ltb _ _ (c .if4 .left))

@@ -1,48 +1,36 @@
+-- Rows 15 and 16.
 use borrow.Author.Needs.{needs}
-use mathlib.Core.Path.{_≡_, refl, sym, ap, _∙_, subst}
+use mathlib.Core.Path.{sym, _∙_}
 use borrow.Author.Tests.{lt-ltb, le-ltb}
 use Rattle.table.specs.VerdictLaws.{judge-hit, judge-next, judge-clean}
 use Rattle.plan.specs.Acceptance.{planRows}
--- uses end
 use Rattle.plan.proofs.judge_indexed.Statement.{statement}
 use Rattle.plan.proofs.judge_indexed.Tie as tie
-use Rattle.plan.proofs.judge_indexed.Reads as reads
-use Rattle.plan.proofs.judge_indexed.Lts as lts
-use Rattle.plan.proofs.answers.first_lacking.Reads as first-lacking-reads
-use Rattle.plan.proofs.returns.first_return.Reads as first-return-reads
 
--- src/lib.rt:103:13
 shared-slice-read-p : tie.Need-shared-slice-read-p
 shared-slice-read-p c = search needs
 
--- src/lib.rt:103:13
 cast-p : tie.Need-cast-p
 cast-p c = search needs
 
--- src/lib.rt:104:9
 first-lacking-requires : tie.Need-first-lacking-requires
 first-lacking-requires c κs = search needs
 
--- src/lib.rt:106:9
 refused-requires : tie.Need-refused-requires
 refused-requires c κs = search needs
 
--- src/lib.rt:106:9
 returns : tie.Need-returns
 unfolding planRows
 returns c =
     let f = c .before .before .first-lacking .ensures in
     rw (c .refused .ensures, f) (sym (judge-hit _ _ _ (lt-ltb _ _ (rw f at (c .before .if1 .taken)))))
 
--- src/lib.rt:108:9
 first-return-requires : tie.Need-first-return-requires
 first-return-requires c κs = search needs
 
--- src/lib.rt:110:9
 refused-requires-2 : tie.Need-refused-requires-2
 refused-requires-2 c κs = search needs
 
--- src/lib.rt:110:9
 returns-2 : tie.Need-returns-2
 unfolding planRows
 returns-2 c =
@@ -50,7 +38,6 @@ returns-2 c =
     let h = c .before .before .first-return .ensures in
     rw (c .refused2 .ensures, h) (sym (judge-next _ _ _ (le-ltb _ _ (rw f at (c .before .before .before .if1 .left))) ∙ judge-hit _ _ _ (lt-ltb _ _ (rw h at (c .before .if2 .taken)))))
 
--- src/lib.rt:98:1
 returns-3 : tie.Need-returns-3
 unfolding planRows
 returns-3 c =

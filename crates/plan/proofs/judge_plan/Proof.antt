@@ -1,6 +1,7 @@
+-- Each row is looked at in order; past 12 the plan is well sized, past 13 well formed.
 use borrow.Author.Needs.{needs}
 use native.Mathlib.Omega.{arith}
-use mathlib.Core.Path.{_≡_, refl, sym, ap, _∙_, subst}
+use mathlib.Core.Path.{_≡_, sym, _∙_}
 use mathlib.Core.List.{[]}
 use lib.ListN.{getD, drop}
 use borrow.Author.Tests.{lt-ltb, le-ltb}
@@ -12,17 +13,9 @@ use Rattle.plan.specs.PlanTable.{positionCount, linkCount, planLength}
 use Rattle.plan.specs.PlanFormed.{PlanSized, PlanFormed}
 use Rattle.plan.specs.PlanFormedLaws.{size-good, words-good}
 use Rattle.plan.specs.Acceptance.{firstBeyond, planRows}
--- uses end
 use Rattle.plan.proofs.judge_plan.Statement.{statement}
 use Rattle.plan.proofs.judge_plan.Tie as tie
-use Rattle.plan.proofs.judge_plan.Reads as reads
-use Rattle.plan.proofs.judge_plan.Lts as lts
-use Rattle.plan.proofs.bad_size.Reads as bad-size-reads
-use Rattle.plan.proofs.judge_positions.Reads as judge-positions-reads
-use Rattle.plan.proofs.links.first_beyond.Reads as first-beyond-reads
-use Rattle.plan.proofs.links.first_stray.Reads as first-stray-reads
 
---{
 -- past 12
 sized : (c : tie.Else2) → PlanSized (c .before .before .before .before .before .args .plan .now)
 sized c = size-good _ (sym (c .before .bad-size .ensures) ∙ c .if2 .left)
@@ -44,48 +37,37 @@ past-words : (c : tie.Else3) → let e = c .before .before .before .before .befo
 unfolding planRows
 past-words c = past-size (c .before .before .before) ∙ judge-next _ _ _ (le-ltb _ _ (no-beyond c))
 
---}
--- src/lib.rt:45:9
 refused-requires : tie.Need-refused-requires
 refused-requires c κs = search needs
 
--- src/lib.rt:45:9
 returns : tie.Need-returns
 unfolding planRows
 returns c = rw (c .refused .ensures) (sym (judge-hit _ _ _ (lt-ltb _ _ (c .before .if1 .taken))))
 
--- src/lib.rt:47:8
 bad-size-requires : tie.Need-bad-size-requires
 bad-size-requires c κs = search needs
 
--- src/lib.rt:48:9
 refused-requires-2 : tie.Need-refused-requires-2
 refused-requires-2 c κs = search needs
 
--- src/lib.rt:48:9
 returns-2 : tie.Need-returns-2
 unfolding planRows
 returns-2 c =
     rw (c .refused2 .ensures)
     (sym (judge-next _ _ _ (le-ltb _ _ (c .before .before .before .if1 .left)) ∙ judge-hit _ _ _ (sym (c .before .before .bad-size .ensures) ∙ c .before .if2 .taken)))
 
--- src/lib.rt:50:13
 shared-slice-read-n : tie.Need-shared-slice-read-n
 shared-slice-read-n c = search needs
 
--- src/lib.rt:50:13
 cast-n : tie.Need-cast-n
 cast-n c = search needs
 
--- src/lib.rt:51:9
 first-beyond-requires : tie.Need-first-beyond-requires
 first-beyond-requires c κs = sized (c .before)
 
--- src/lib.rt:53:9
 refused-requires-3 : tie.Need-refused-requires-3
 refused-requires-3 c κs = search needs
 
--- src/lib.rt:53:9
 returns-3 : tie.Need-returns-3
 unfolding planRows
 returns-3 c =
@@ -94,34 +76,27 @@ returns-3 c =
     let t : firstBeyond (vertexCount (e .game .now)) (e .plan .now) < planLength (positionCount (e .plan .now)) (linkCount (e .plan .now)) = omega (arith, c .before .if3 .taken, h, sized (c .before .before .before .before) .size) in
     rw (c .refused3 .ensures, h) (sym (past-size (c .before .before .before .before) ∙ judge-hit _ _ _ (lt-ltb _ _ t)))
 
--- src/lib.rt:55:13
 shared-slice-read-l : tie.Need-shared-slice-read-l
 shared-slice-read-l c = omega (arith, sized (c .before .before .before .before) .size, sized (c .before .before .before .before) .some)
 
--- src/lib.rt:55:13
 cast-l : tie.Need-cast-l
 cast-l c = omega (arith, sized (c .before .before .before .before) .links)
 
--- src/lib.rt:56:9
 first-stray-requires : tie.Need-first-stray-requires
 first-stray-requires c κs = (c .before .before .before .before .before .before .before .before .before .pre, formed (c .before))
 
--- src/lib.rt:58:9
 refused-requires-4 : tie.Need-refused-requires-4
 refused-requires-4 c κs = search needs
 
--- src/lib.rt:58:9
 returns-4 : tie.Need-returns-4
 unfolding planRows
 returns-4 c =
     let h = c .before .before .first-stray .ensures in
     rw (c .refused4 .ensures, h) (sym (past-words (c .before .before .before .before) ∙ judge-hit _ _ _ (lt-ltb _ _ (rw h at (c .before .if4 .taken)))))
 
--- src/lib.rt:60:5
 judge-positions-requires : tie.Need-judge-positions-requires
-judge-positions-requires c κs = (c .before .before .before .before .before .before .before .before .before .before .before .pre, formed (c .before .before .before), c .before .before .before .before .before .before .before .before .if1 .left)
+judge-positions-requires c κs = record { game = c .before .before .before .before .before .before .before .before .before .before .before .pre; number = c .before .before .before .before .before .before .before .before .if1 .left; formed = formed (c .before .before .before) }
 
--- src/lib.rt:40:1
 returns-5 : tie.Need-returns-5
 unfolding planRows
 returns-5 c =

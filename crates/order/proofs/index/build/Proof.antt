@@ -1,3 +1,4 @@
+-- Each loop leaves what the next one asks.
 use borrow.Author.Needs.{needs}
 use native.Mathlib.Omega.{arith}
 use Rattle.order.specs.PlacesLaws.{counted-start, summed-start, placing-start}

@@ -1,3 +1,4 @@
+-- Invariant: entry v + 1 counts the edges before j that leave v.
 use borrow.Author.Needs.{needs}
 use Rattle.table.specs.Table.{vertexCount, tableEdges, sourceAt}
 use Rattle.theory.specs.CountLaws.{count-le}

@@ -1,3 +1,4 @@
+-- Invariant: entry v + 1 is the next free place of v, and the targets of the edges before j are at their places.
 use borrow.Author.Needs.{needs}
 use native.Mathlib.Omega.{arith}
 use mathlib.Core.Path.{_≡_}
@@ -10,7 +11,12 @@ use Rattle.order.proofs.index.place_targets.Statement.{statement}
 use Rattle.order.proofs.index.place_targets.Tie as tie
 
 abbrev Inv-loop : tie.InvT-loop
-Inv-loop game offsets₀ targets₀ m sources ends j₀ offsets targets j = (j ≤ m) × (length offsets ≡ length offsets₀) × (length targets ≡ length targets₀) × Counted game (start game) j offsets × Placed game j targets
+Inv-loop game offsets₀ targets₀ m sources ends j₀ offsets targets j =
+    (j ≤ m)
+    × (length offsets ≡ length offsets₀)
+    × (length targets ≡ length targets₀)
+    × Counted game (start game) j offsets
+    × Placed game j targets
 
 abbrev μ-loop : tie.MeasureT-loop
 μ-loop game offsets₀ targets₀ m sources ends j₀ offsets targets j = m - j

@@ -1,3 +1,4 @@
+-- Invariant: below v the entries are first places, from v on degrees, and the total is the first place of v.
 use borrow.Author.Needs.{needs}
 use native.Mathlib.Omega.{arith}
 use mathlib.Core.Path.{_≡_, sym}

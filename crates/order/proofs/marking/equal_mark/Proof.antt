@@ -1,3 +1,4 @@
+-- A test as a byte.
 use borrow.Author.Needs.{needs}
 use Rattle.theory.specs.Bools.{bit}
 use Rattle.order.proofs.marking.equal_mark.Statement.{statement}

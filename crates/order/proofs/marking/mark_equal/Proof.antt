@@ -1,3 +1,4 @@
+-- Invariant: the first k bytes are those of pass 0, and `at` is pair k.
 use borrow.Author.Needs.{needs}
 use native.Mathlib.Omega.{arith}
 use mathlib.Core.Path.{_≡_}
@@ -8,13 +9,19 @@ use Rattle.table.specs.Table.{vertexCount}
 use Rattle.table.specs.Verdict.{written}
 use Rattle.order.specs.Bytes.{bytes}
 use Rattle.order.specs.BytesLaws.{fill-none, fill-more}
-use Rattle.order.specs.Clearing.{pairCount, equalPairs, PairAt}
-use Rattle.order.specs.ClearingLaws.{pair-start, pair-row, pair-next, equal-of}
+use Rattle.order.specs.RowOrder.{PairAt}
+use Rattle.order.specs.Clearing.{pairCount, equalPairs}
+use Rattle.order.specs.ClearingLaws.{equal-of}
+use Rattle.order.specs.RowOrderLaws.{pair-start, pair-row, pair-next}
 use Rattle.order.proofs.marking.mark_equal.Statement.{statement}
 use Rattle.order.proofs.marking.mark_equal.Tie as tie
 
 abbrev Inv-loop : tie.InvT-loop
-Inv-loop game marks₀ n size at₀ k₀ marks at k = (k ≤ size) × (length marks ≡ length marks₀) × PairAt n k (at .v) (at .w) × (marks ≡ written (bytes (tabulate k (equalPairs game))) marks₀)
+Inv-loop game marks₀ n size at₀ k₀ marks at k =
+    (k ≤ size)
+    × (length marks ≡ length marks₀)
+    × PairAt n k (at .v) (at .w)
+    × (marks ≡ written (bytes (tabulate k (equalPairs game))) marks₀)
 
 abbrev μ-loop : tie.MeasureT-loop
 μ-loop game marks₀ n size at₀ k₀ marks at k = size - k

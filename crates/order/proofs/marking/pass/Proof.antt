@@ -1,3 +1,4 @@
+-- Invariant: the first i bytes are those of the pass, `cleared` counts what they lost, and `at` is pair i.
 use borrow.Author.Needs.{needs}
 use native.Mathlib.Omega.{arith}
 use native.Mathlib.Nat.{mul-le-mul}
@@ -12,32 +13,41 @@ use Rattle.table.specs.Verdict.{written}
 use Rattle.order.specs.CountingLaws.{count-step}
 use Rattle.order.specs.Bytes.{bytes}
 use Rattle.order.specs.BytesLaws.{fill-none, fill-more}
-use Rattle.order.specs.Clearing.{pairCount, cleared, stays, leaves, PairAt}
-use Rattle.order.specs.ClearingLaws.{pair-start, pair-row, pair-next, stays-of, leaves-of}
+use Rattle.order.specs.RowOrder.{PairAt}
+use Rattle.order.specs.Clearing.{pairCount, cleared, keptAt, clearedAt}
+use Rattle.order.specs.ClearingLaws.{kept-at, cleared-at}
+use Rattle.order.specs.RowOrderLaws.{pair-start, pair-row, pair-next}
 use Rattle.order.proofs.marking.pass.Statement.{statement}
 use Rattle.order.proofs.marking.pass.Tie as tie
 
 abbrev Inv-loop : tie.InvT-loop
 Inv-loop game offsets targets marks spare₀ n pairs cleared₀ at₀ i₀ spare cleared at i =
-    (i ≤ pairs) × (length spare ≡ length spare₀) × PairAt n i (at .v) (at .w) × (cleared ≡ count i (leaves game marks)) × (spare ≡ written (bytes (tabulate i (stays game marks))) spare₀)
+    (i ≤ pairs)
+    × (length spare ≡ length spare₀)
+    × PairAt n i (at .v) (at .w)
+    × (cleared ≡ count i (clearedAt game marks))
+    × (spare ≡ written (bytes (tabulate i (keptAt game marks))) spare₀)
 
 abbrev μ-loop : tie.MeasureT-loop
 μ-loop game offsets targets marks spare₀ n pairs cleared₀ at₀ i₀ spare cleared at i = pairs - i
 
-row : (c : tie.In-loop Inv-loop μ-loop) → c .before .loop .at .v < vertexCount (c .before .before .before .before .before .before .before .before .args .game .now)
+abbrev start : tie.After-shared-slice-known5 Inv-loop μ-loop → tie.Start Inv-loop μ-loop
+start c = c .before .before .before .before .before .before
+
+row : (c : tie.In-loop Inv-loop μ-loop) → c .before .loop .at .v < vertexCount (start (c .before .before) .args .game .now)
 row c = pair-row _ _ _ _ (c .before .loop .inv .2) (c .loop-test .taken)
 
 -- the count after this turn
 total : (c : tie.After-pass-pair Inv-loop μ-loop)
-    → let s = c .before .before .before .before .before .before .before .before .before .before .args in
+    → let s = start (c .before .before .before .before) .args in
     let a = c .before .before .before .loop in
-    a .cleared + c .pass-pair .result ≡ count (a .i + 1) (leaves (s .game .now) (s .marks .now))
+    a .cleared + c .pass-pair .result ≡ count (a .i + 1) (clearedAt (s .game .now) (s .marks .now))
 total c =
-    let s = c .before .before .before .before .before .before .before .before .before .before .args in
+    let s = start (c .before .before .before .before) .args in
     let a = c .before .before .before .loop in
     rw (
-      count-step (a .i) (leaves (s .game .now) (s .marks .now)),
-      leaves-of (s .game .now) (s .marks .now) (a .i) (a .at .v) (a .at .w) (a .inv .2) (c .before .before .loop-test .taken),
+      count-step (a .i) (clearedAt (s .game .now) (s .marks .now)),
+      cleared-at (s .game .now) (s .marks .now) (a .i) (a .at .v) (a .at .w) (a .inv .2) (c .before .before .loop-test .taken),
       a .inv .3,
       c .pass-pair .ensures .count,
     )
@@ -53,19 +63,20 @@ mul-pairs c = search needs
 
 loop-holds : tie.Need-loop-holds Inv-loop μ-loop
 unfolding count
-loop-holds c = (search needs, search needs, pair-start _ (c .before .before .before .before .before .before .pre .0 .some), refl, fill-none _ _)
+loop-holds c = (search needs, search needs, pair-start _ (c .before .before .before .before .before .before .pre .game .some), refl, fill-none _ _)
 
 pass-pair-requires : tie.Need-pass-pair-requires Inv-loop μ-loop
 pass-pair-requires c κs =
-    let p = c .before .before .before .before .before .before .before .before .before .pre in
-    (p .0, (p .1 .0, ((row (c .before), c .before .before .loop .inv .2 .column), omega arith)))
+    let l = c .before .before in
+    let p = start (l .before) .pre in
+    (record { game = p .game; index = p .index; row = row (c .before); column = l .loop .inv .2 .column; fits = p .marksFit }, omega arith)
 
 add-cleared : tie.Need-add-cleared Inv-loop μ-loop
 add-cleared c =
-    let a = c .before .before .before .before .before .loop in
-    let g = c .before .before .before .before .before .before .before .before .before .before .before .before .args .game .now in
-    let w = c .before .before .before .before .before .before .before .before .before .before .before .before .pre .0 .vertices in
-    omega (arith, total (c .before .before), count-le (a .i + 1) (leaves g (c .before .before .before .before .before .before .before .before .before .before .before .before .args .marks .now)), mul-le-mul w w)
+    let l = c .before .before .before .before .before in
+    let s = start (l .before) in
+    let w = s .pre .game .vertices in
+    omega (arith, total (c .before .before), count-le (l .loop .i + 1) (clearedAt (s .args .game .now) (s .args .marks .now)), mul-le-mul w w)
 
 next-pair-requires : tie.Need-next-pair-requires Inv-loop μ-loop
 next-pair-requires c κs = (row (c .before .before .before .before), c .before .before .before .before .before .loop .inv .2 .column)
@@ -79,15 +90,15 @@ loop-less c = search needs
 loop-again : tie.Need-loop-again Inv-loop μ-loop
 loop-again c =
     let a = c .before .before .before .before .before .before .loop in
-    let s = c .before .before .before .before .before .before .before .before .before .before .before .before .before .args in
+    let s = start (c .before .before .before .before .before .before .before) .args in
     let g = s .game .now in
     let done = c .before .before .before .pass-pair .ensures in (
       search needs,
       c .before .before .before .pass-pair .kept .1 .1 .1 .1 .0 ∙ a .inv .1,
       pair-next _ _ _ _ (a .inv .2) _ _ (c .next-pair .ensures),
       total (c .before .before .before),
-      rw (done .spare, a .inv .2 .number, ← stays-of g (s .marks .now) (a .i) (a .at .v) (a .at .w) (a .inv .2) (c .before .before .before .before .before .loop-test .taken), a .inv .4)
-          (fill-more (stays g (s .marks .now)) (a .i) _ (omega arith)),
+      rw (done .spare, a .inv .2 .number, ← kept-at g (s .marks .now) (a .i) (a .at .v) (a .at .w) (a .inv .2) (c .before .before .before .before .before .loop-test .taken), a .inv .4)
+          (fill-more (keptAt g (s .marks .now)) (a .i) _ (omega arith)),
     )
 
 same-length : tie.Need-same-length Inv-loop μ-loop
@@ -96,7 +107,7 @@ same-length c = search needs
 returns : tie.Need-returns Inv-loop μ-loop
 unfolding nextPass cleared
 returns c =
-    let e : c .before .loop .i ≡ pairCount (c .before .before .before .before .before .before .before .before .args .game .now) = omega arith in
+    let e : c .before .loop .i ≡ pairCount (start (c .before .before) .args .game .now) = omega arith in
     record { spare = rw e at (c .before .loop .inv .4); count = rw e at (c .before .loop .inv .3) }
 
 pub pass-spec : {M : Type 1} → statement M

@@ -1,3 +1,4 @@
+-- The three ways out: the pair is not marked, it is cleared, it stays.
 use borrow.Author.Needs.{needs}
 use native.Mathlib.Omega.{arith}
 use borrow.Author.Tests.{eq-eqb, ne-eqb, not-true, not-false}
@@ -11,7 +12,7 @@ use Rattle.order.proofs.marking.pass_pair.Statement.{statement}
 use Rattle.order.proofs.marking.pass_pair.Tie as tie
 
 cell : (c : tie.Start) → let a = c .args in a .v * vertexCount (a .game .now) + a .w < pairCount (a .game .now)
-cell c = digits-lt (c .pre .1 .1 .0 .0) (c .pre .1 .1 .0 .1)
+cell c = digits-lt (c .pre .0 .row) (c .pre .0 .column)
 
 shared-slice-read-k : tie.Need-shared-slice-read-k
 shared-slice-read-k c = search needs

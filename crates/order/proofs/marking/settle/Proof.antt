@@ -1,3 +1,5 @@
+-- Invariant: the marks are those after `passes` passes, of which none was the last; beyond n × n both buffers are as at the start.
+-- Measure: what is left of n × n, since every pass but the last clears a mark.
 use borrow.Author.Needs.{needs}
 use native.Mathlib.Omega.{arith}
 use native.Mathlib.Nat.{mul-le-mul}
@@ -6,8 +8,8 @@ use Prim.Native.Nat.{_+_, _-_, _≤_}
 use lib.ListN.{length, drop}
 use Rattle.table.specs.Verdict.{written}
 use Rattle.order.specs.Bytes.{bytes}
-use Rattle.order.specs.Clearing.{pairCount, pairPasses, equalPairs}
-use Rattle.order.specs.ClearingLaws.{Unsettled, unsettled-start, unsettled-more, marksAfter, pass-written, pass-cleared, order-count, start-beyond, start-holds, pass-beyond, holds-over, order-read, order-wrote}
+use Rattle.order.specs.Clearing.{Unsettled, pairCount, pairPasses, equalPairs, marksAfter}
+use Rattle.order.specs.ClearingLaws.{unsettled-start, unsettled-more, pass-written, pass-cleared, order-count, start-beyond, start-holds, pass-beyond, holds-over, order-read, order-wrote}
 use Rattle.order.proofs.marking.settle.Statement.{statement}
 use Rattle.order.proofs.marking.settle.Tie as tie
 
@@ -22,15 +24,22 @@ Inv-loop game offsets targets marks₀ spare₀ passes₀ marks spare passes =
 abbrev μ-loop : tie.MeasureT-loop
 μ-loop game offsets targets marks₀ spare₀ passes₀ marks spare passes = pairCount game - passes
 
--- the first pass of this turn was not the last
-more : (c : tie.Else1 Inv-loop μ-loop)
-    → let g = c .before .before .before .before .before .before .before .before .before .before .before .before .before .before .before .before .args .game .now in Unsettled (pairCount g) (pairPasses g) (equalPairs g) (c .before .before .before .before .before .before .loop .passes + 1)
-more c =
-    let a = c .before .before .before .before .before .before .loop in
-    unsettled-more _ _ _ (a .passes) (a .inv .0) (λ z. c .if1 .left (pass-cleared (c .before .before .before .before .before .before .before .before .before .before .before .before .before .before .before .before .args .game .now) (a .passes) _ _ _ _ _ (a .inv .3) (c .before .before .before .pass .ensures) ∙ z))
+abbrev start : tie.At-loop Inv-loop μ-loop → tie.Start Inv-loop μ-loop
+start c = c .before .before .before .before .before .before .before .before .before .before
 
-room : (c : tie.Else1 Inv-loop μ-loop) → c .before .before .before .before .before .before .loop .passes + 1 ≤ 65536
-room c = let w = c .before .before .before .before .before .before .before .before .before .before .before .before .before .before .before .before .pre .0 .vertices in omega (arith, more c, mul-le-mul w w)
+-- where the first pass of this turn was not the last: the loop's head, and one pass more
+abbrev head : tie.Else1 Inv-loop μ-loop → tie.At-loop Inv-loop μ-loop
+head c = c .before .before .before .before .before .before
+
+more : (c : tie.Else1 Inv-loop μ-loop)
+    → let g = start (head c) .args .game .now in Unsettled (pairCount g) (pairPasses g) (equalPairs g) (head c .loop .passes + 1)
+more c =
+    let g = start (head c) .args .game .now in
+    let a = head c .loop in
+    unsettled-more _ _ _ (a .passes) (a .inv .0) (λ z. c .if1 .left (pass-cleared g (a .passes) _ _ _ _ _ (a .inv .3) (c .before .before .before .pass .ensures) ∙ z))
+
+room : (c : tie.Else1 Inv-loop μ-loop) → head c .loop .passes + 1 ≤ 65536
+room c = let w = start (head c) .pre .game .vertices in omega (arith, more c, mul-le-mul w w)
 
 mark-equal-requires : tie.Need-mark-equal-requires Inv-loop μ-loop
 mark-equal-requires c κs = search needs
@@ -43,12 +52,12 @@ loop-holds c =
 
 pass-requires : tie.Need-pass-requires Inv-loop μ-loop
 pass-requires c κs =
-    let p = c .before .before .before .before .before .before .before .before .before .before .before .before .pre in
-    (p .0, (p .1 .0, omega arith))
+    let p = start (c .before .before) .pre in
+    record { game = p .game; index = p .index; marksFit = omega arith; spareFit = omega arith }
 
 add-result : tie.Need-add-result Inv-loop μ-loop
 add-result c =
-    let w = c .before .before .before .before .before .before .before .before .before .before .before .before .before .before .before .before .pre .0 .vertices in
+    let w = start (c .before .before .before .before .before .before) .pre .game .vertices in
     omega (arith, mul-le-mul w w)
 
 same-length : tie.Need-same-length Inv-loop μ-loop
@@ -60,8 +69,7 @@ same-length-2 c = search needs
 returns : tie.Need-returns Inv-loop μ-loop
 returns c =
     let l = c .before .before .before .before .before .before in
-    let s = l .before .before .before .before .before .before .before .before .before .before in
-    let g = s .args .game .now in
+    let g = start l .args .game .now in
     let p = c .before .before .before .pass in
     let a = l .loop in
     let z = sym (pass-cleared g (a .passes) _ _ _ _ _ (a .inv .3) (p .ensures)) ∙ c .if1 .taken in
@@ -73,8 +81,8 @@ returns c =
 
 pass-requires-2 : tie.Need-pass-requires-2 Inv-loop μ-loop
 pass-requires-2 c κs =
-    let p = c .before .before .before .before .before .before .before .before .before .before .before .before .before .before .before .before .before .before .pre in
-    (p .0, (p .1 .0, omega arith))
+    let p = start (head (c .before .before)) .pre in
+    record { game = p .game; index = p .index; marksFit = omega arith; spareFit = omega arith }
 
 add-result-2 : tie.Need-add-result-2 Inv-loop μ-loop
 add-result-2 c = omega (arith, room (c .before .before .before .before .before .before))
@@ -88,9 +96,8 @@ same-length-4 c = search needs
 returns-2 : tie.Need-returns-2 Inv-loop μ-loop
 returns-2 c =
     let o = c .before .before .before .before .before .before in
-    let l = o .before .before .before .before .before .before in
-    let s = l .before .before .before .before .before .before .before .before .before .before in
-    let g = s .args .game .now in
+    let l = head o in
+    let g = start l .args .game .now in
     let a = l .loop in
     let k = a .passes in
     let h = pass-written g k _ _ _ _ _ (a .inv .3) (o .before .before .before .pass .ensures) in
@@ -113,9 +120,8 @@ loop-less c = omega (arith, more (c .before .before .before .before .before .bef
 loop-again : tie.Need-loop-again Inv-loop μ-loop
 loop-again c =
     let o = c .before .before .before .before .before .before in
-    let l = o .before .before .before .before .before .before in
-    let s = l .before .before .before .before .before .before .before .before .before .before in
-    let g = s .args .game .now in
+    let l = head o in
+    let g = start l .args .game .now in
     let a = l .loop in
     let k = a .passes in
     let h = pass-written g k _ _ _ _ _ (a .inv .3) (o .before .before .before .pass .ensures) in

@@ -1,3 +1,4 @@
+-- Invariant: the search from k on answers as the whole search.
 use borrow.Author.Needs.{needs}
 use Rattle.order.specs.Bytes.{isMark}
 use Rattle.order.specs.Search.{someFrom, hasMark}

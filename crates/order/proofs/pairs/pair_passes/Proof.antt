@@ -1,31 +1,35 @@
+-- Each arm knows both owners, so its search decides that row of the test.
 use borrow.Author.Needs.{needs}
 use Prim.Native.Nat.{_≤_}
 use lib.ListN.{length}
 use Rattle.table.specs.Table.{vertexCount, ownerAt}
 use Rattle.order.specs.Search.{Reaches}
 use native.Mathlib.Omega.{arith}
-use Rattle.order.specs.PairLaws.{places-inside, places-within, reaches-rows, reaches-columns, row-even-even, row-even-odd, row-odd-even, row-odd-odd}
+use Rattle.order.specs.IndexLaws.{places-inside, places-within}
+use Rattle.order.specs.PairLaws.{reaches-rows, reaches-columns, row-even-even, row-even-odd, row-odd-even, row-odd-odd}
 use Rattle.order.proofs.pairs.pair_passes.Statement.{statement}
 use Rattle.order.proofs.pairs.pair_passes.Tie as tie
 
+abbrev start : tie.After-shared-slice-known5 → tie.Start
+start c = c .before .before .before .before .before
+
 -- owners are 0 or 1
-owners : (c : tie.After-run-of2)
-    → let s = c .before .before .before .before .before .before .before in (ownerAt (s .args .game .now) (s .args .v) ≤ 1) × (ownerAt (s .args .game .now) (s .args .w) ≤ 1)
-owners c = let p = c .before .before .before .before .before .before .before .pre in (p .0 .owners _ (p .1 .1 .0 .0), p .0 .owners _ (p .1 .1 .0 .1))
+owners : (c : tie.After-run-of2) → let s = start (c .before .before) .args in (ownerAt (s .game .now) (s .v) ≤ 1) × (ownerAt (s .game .now) (s .w) ≤ 1)
+owners c = let p = start (c .before .before) .pre in (p .game .owners _ (p .row), p .game .owners _ (p .column))
 
 -- what the searches over v′ and w′ ask
 rows : (c : tie.After-shared-slice-known7)
-    → let s = c .before .before .before .before .before .before .before .before .before .args in
+    → let s = start (c .before .before .before .before) .args in
     let vs = c .before .before .before .run-of .result in
     let ws = c .before .before .run-of2 .result in
     ((vs .end ≤ length (s .targets .now)) × (ws .end ≤ length (s .targets .now)) × (vertexCount (s .game .now) ≤ 256))
     × Reaches (s .marks .now) (s .targets .now) (vs .from) (vs .end) (ws .from) (ws .end) (vertexCount (s .game .now)) 1
 rows c =
-    let s = c .before .before .before .before .before .before .before .before .before in
+    let s = start (c .before .before .before .before) in
     let p = s .pre in
     rw (c .before .before .run-of2 .ensures, c .before .before .before .run-of .ensures) (
-      (places-within _ _ _ (p .1 .0) _ (p .1 .1 .0 .0), places-within _ _ _ (p .1 .0) _ (p .1 .1 .0 .1), p .0 .vertices),
-      reaches-rows _ _ _ (s .args .marks .now) (p .1 .0) _ _ (p .1 .1 .0 .0) (p .1 .1 .0 .1) (p .1 .1 .1),
+      (places-within _ _ _ (p .index) _ (p .row), places-within _ _ _ (p .index) _ (p .column), p .game .vertices),
+      reaches-rows _ _ _ (s .args .marks .now) (p .index) _ _ (p .row) (p .column) (p .fits),
     )
 
 shared-slice-read-n : tie.Need-shared-slice-read-n
@@ -35,10 +39,10 @@ cast-n : tie.Need-cast-n
 cast-n c = search needs
 
 run-of-requires : tie.Need-run-of-requires
-run-of-requires c κs = let p = c .before .before .before .before .before .pre in places-inside _ _ _ (p .1 .0) _ (p .1 .1 .0 .0)
+run-of-requires c κs = let p = start c .pre in places-inside _ _ _ (p .index) _ (p .row)
 
 run-of-requires-2 : tie.Need-run-of-requires-2
-run-of-requires-2 c κs = let p = c .before .before .before .before .before .before .pre in places-inside _ _ _ (p .1 .0) _ (p .1 .1 .0 .1)
+run-of-requires-2 c κs = let p = start (c .before) .pre in places-inside _ _ _ (p .index) _ (p .column)
 
 add-owners : tie.Need-add-owners
 add-owners c = search needs
@@ -81,40 +85,40 @@ some-ends-requires-3 c κs = rows (c .before)
 
 some-ends-requires-4 : tie.Need-some-ends-requires-4
 some-ends-requires-4 c κs =
-    let s = c .before .before .before .before .before .before .before .before .before .before in
+    let s = start (c .before .before .before .before .before) in
     let p = s .pre in
     rw (c .before .before .before .run-of2 .ensures, c .before .before .before .before .run-of .ensures) (
-      (places-within _ _ _ (p .1 .0) _ (p .1 .1 .0 .1), places-within _ _ _ (p .1 .0) _ (p .1 .1 .0 .0), omega arith),
-      reaches-columns _ _ _ (s .args .marks .now) (p .1 .0) _ _ (p .1 .1 .0 .0) (p .1 .1 .0 .1) (p .1 .1 .1),
+      (places-within _ _ _ (p .index) _ (p .column), places-within _ _ _ (p .index) _ (p .row), omega arith),
+      reaches-columns _ _ _ (s .args .marks .now) (p .index) _ _ (p .row) (p .column) (p .fits),
     )
 
 returns : tie.Need-returns
 returns c =
-    let m = c .before .before in
-    let p = m .before .before .before .before .before .before .before .before .before .pre in
-    rw (c .some-ends .ensures, m .before .before .run-of2 .ensures, m .before .before .before .run-of .ensures)
-    (row-even-even _ _ _ _ (p .1 .0) _ _ (p .1 .1 .0 .0) (p .1 .1 .0 .1) (omega (arith, owners (m .before .before))) (omega (arith, owners (m .before .before))))
+    let r = c .before .before .before .before in
+    let p = start (r .before .before) .pre in
+    rw (c .some-ends .ensures, r .run-of2 .ensures, r .before .run-of .ensures)
+    (row-even-even _ _ _ _ (p .index) _ _ (p .row) (p .column) (omega (arith, owners r)) (omega (arith, owners r)))
 
 returns-2 : tie.Need-returns-2
 returns-2 c =
-    let m = c .before .before in
-    let p = m .before .before .before .before .before .before .before .before .before .pre in
-    rw (c .some-ends2 .ensures, m .before .before .run-of2 .ensures, m .before .before .before .run-of .ensures)
-    (row-even-odd _ _ _ _ (p .1 .0) _ _ (p .1 .1 .0 .0) (p .1 .1 .0 .1) (omega (arith, owners (m .before .before))) (omega (arith, owners (m .before .before))))
+    let r = c .before .before .before .before in
+    let p = start (r .before .before) .pre in
+    rw (c .some-ends2 .ensures, r .run-of2 .ensures, r .before .run-of .ensures)
+    (row-even-odd _ _ _ _ (p .index) _ _ (p .row) (p .column) (omega (arith, owners r)) (omega (arith, owners r)))
 
 returns-3 : tie.Need-returns-3
 returns-3 c =
-    let m = c .before .before in
-    let p = m .before .before .before .before .before .before .before .before .before .pre in
-    rw (c .some-ends3 .ensures, m .before .before .run-of2 .ensures, m .before .before .before .run-of .ensures)
-    (row-odd-even _ _ _ _ (p .1 .0) _ _ (p .1 .1 .0 .0) (p .1 .1 .0 .1) (omega (arith, owners (m .before .before))) (omega (arith, owners (m .before .before))))
+    let r = c .before .before .before .before in
+    let p = start (r .before .before) .pre in
+    rw (c .some-ends3 .ensures, r .run-of2 .ensures, r .before .run-of .ensures)
+    (row-odd-even _ _ _ _ (p .index) _ _ (p .row) (p .column) (omega (arith, owners r)) (omega (arith, owners r)))
 
 returns-4 : tie.Need-returns-4
 returns-4 c =
-    let m = c .before .before in
-    let p = m .before .before .before .before .before .before .before .before .before .pre in
-    rw (c .some-ends4 .ensures, m .before .before .run-of2 .ensures, m .before .before .before .run-of .ensures)
-    (row-odd-odd _ _ _ _ (p .1 .0) _ _ (p .1 .1 .0 .0) (p .1 .1 .0 .1) (omega (arith, owners (m .before .before))) (omega (arith, owners (m .before .before))))
+    let r = c .before .before .before .before in
+    let p = start (r .before .before) .pre in
+    rw (c .some-ends4 .ensures, r .run-of2 .ensures, r .before .run-of .ensures)
+    (row-odd-odd _ _ _ _ (p .index) _ _ (p .row) (p .column) (omega (arith, owners r)) (omega (arith, owners r)))
 
 pub pair-passes-spec : {M : Type 1} → statement M
 pair-passes-spec =

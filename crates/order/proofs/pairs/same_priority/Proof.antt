@@ -1,3 +1,4 @@
+-- The two words are the priorities of the game.
 use borrow.Author.Needs.{needs}
 use mathlib.Core.Path.{refl}
 use Rattle.theory.specs.Order.{equalPriority}

@@ -1,3 +1,4 @@
+-- Invariant: the search from i on answers as the whole search.
 use borrow.Author.Needs.{needs}
 use native.Mathlib.Omega.{arith}
 use native.Mathlib.Nat.{mul-le-mul}
@@ -10,7 +11,9 @@ use Rattle.order.proofs.pairs.some_ends.Statement.{statement}
 use Rattle.order.proofs.pairs.some_ends.Tie as tie
 
 abbrev Inv-loop : tie.InvT-loop
-Inv-loop marks targets ys across down wanted found end i₀ i = let p = searchEnds marks targets (ys .from) (ys .end) across down wanted found in (i₀ ≤ i) × (someFrom p i₀ end ≡ someFrom p i end)
+Inv-loop marks targets ys across down wanted found end i₀ i =
+    let p = searchEnds marks targets (ys .from) (ys .end) across down wanted found in
+    (i₀ ≤ i) × (someFrom p i₀ end ≡ someFrom p i end)
 
 abbrev μ-loop : tie.MeasureT-loop
 μ-loop marks targets ys across down wanted found end i₀ i = end - i

@@ -1,9 +1,11 @@
+-- Invariants: the search from (v, 0), and from (v, w), on finds what the whole search finds.
 use borrow.Author.Needs.{needs}
 use native.Mathlib.Omega.{arith}
 use mathlib.Core.Path.{_≡_, sym, _∙_}
 use Prim.Native.Nat.{_-_, _≤_}
 use Rattle.order.specs.RelationCall.{firstFailing}
-use Rattle.order.specs.RelationCallLaws.{failingFrom, failing-start, failing-step, failing-hit, failing-row, failing-end}
+use Rattle.order.specs.Failing.{failingFrom}
+use Rattle.order.specs.FailingLaws.{failing-start, failing-step, failing-hit, failing-row, failing-end}
 use Rattle.order.proofs.relation.first_failing.Statement.{statement}
 use Rattle.order.proofs.relation.first_failing.Tie as tie
 
@@ -34,7 +36,7 @@ loop-holds c = search needs
 pair-fails-requires : tie.Need-pair-fails-requires Inv-loop μ-loop Inv-rows μ-rows
 pair-fails-requires c κs =
     let p = c .before .before .before .before .before .before .before .before .before .pre in
-    (p .0, (p .1 .0, ((c .before .before .if1 .left, c .loop-test .taken), p .1 .1)))
+    record { game = p .0; index = p .1 .0; row = c .before .before .if1 .left; column = c .loop-test .taken; fits = p .1 .1 }
 
 add-w : tie.Need-add-w Inv-loop μ-loop Inv-rows μ-rows
 add-w c = search needs

@@ -1,3 +1,4 @@
+-- Invariant: the search from i on finds what the whole search finds.
 use borrow.Author.Needs.{needs}
 use borrow.Author.Tests.{lt-ltb, le-ltb}
 use mathlib.Core.Path.{_≡_, sym, _∙_}

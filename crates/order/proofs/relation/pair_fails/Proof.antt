@@ -1,3 +1,4 @@
+-- The three ways out: not marked, unequal priorities, the test.
 use borrow.Author.Needs.{needs}
 use native.Mathlib.Omega.{arith}
 use borrow.Author.Tests.{eq-eqb, ne-eqb, not-true, not-false}
@@ -13,7 +14,7 @@ use Rattle.order.proofs.relation.pair_fails.Statement.{statement}
 use Rattle.order.proofs.relation.pair_fails.Tie as tie
 
 cell : (c : tie.Start) → let a = c .args in a .v * vertexCount (a .game .now) + a .w < pairCount (a .game .now)
-cell c = digits-lt (c .pre .1 .1 .0 .0) (c .pre .1 .1 .0 .1)
+cell c = digits-lt (c .pre .row) (c .pre .column)
 
 shared-slice-read-k : tie.Need-shared-slice-read-k
 shared-slice-read-k c = search needs

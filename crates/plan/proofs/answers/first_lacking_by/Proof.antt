@@ -1,17 +1,14 @@
+-- The rest of the search equals the whole; no stamp is above i.
 use borrow.Author.Needs.{needs}
 use native.Mathlib.Omega.{arith}
-use Prim.Native.Nat.{ℕ, suc, _≤_, _<_, _-_, _+_, _*_}
-use mathlib.Core.Path.{_≡_, refl, sym, ap, _∙_, subst}
+use Prim.Native.Nat.{ℕ, _≤_, _-_}
+use mathlib.Core.Path.{_≡_, refl, sym, _∙_}
 use lib.ListN.{length, getD}
 use Rattle.theory.specs.Range.{first}
 use Rattle.theory.specs.RangeLaws.{first-step, first-hit, first-end}
 use Rattle.plan.specs.Acceptance.{lacksLink, firstLackingLink}
--- uses end
 use Rattle.plan.proofs.answers.first_lacking_by.Statement.{statement}
 use Rattle.plan.proofs.answers.first_lacking_by.Tie as tie
-use Rattle.plan.proofs.answers.first_lacking_by.Reads as reads
-use Rattle.plan.proofs.answers.first_lacking_by.Lts as lts
-use Rattle.plan.proofs.answers.lacks_link.Reads as lacks-link-reads
 
 abbrev Inv-loop : tie.InvT-loop
 Inv-loop game player plan starts targets edge-starts edge-targets marks₀ p i₀ marks i = (i ≤ p) × (length marks ≡ length marks₀) × ((x : ℕ) → getD marks x 0 ≤ i) × (first (lacksLink game player plan) 0 p ≡ first (lacksLink game player plan) i p)
@@ -19,44 +16,35 @@ Inv-loop game player plan starts targets edge-starts edge-targets marks₀ p i�
 abbrev μ-loop : tie.MeasureT-loop
 μ-loop game player plan starts targets edge-starts edge-targets marks₀ p i₀ marks i = p - i
 
--- src/answers.rt:88:13
 shared-slice-read-p : tie.Need-shared-slice-read-p Inv-loop μ-loop
 shared-slice-read-p c = search needs
 
--- src/answers.rt:88:13
 cast-p : tie.Need-cast-p Inv-loop μ-loop
 cast-p c = search needs
 
--- src/answers.rt:90:5
 loop-holds : tie.Need-loop-holds Inv-loop μ-loop
 loop-holds c = (omega arith, refl, λ x. omega (arith, c .before .before .before .before .before .before .before .before .pre .1 .1 .1 x), refl)
 
--- src/answers.rt:91:12
 lacks-link-requires : tie.Need-lacks-link-requires Inv-loop μ-loop
 lacks-link-requires c κs =
     let e = c .before .before .before .before .before .before .before .before .before .before .before in
     let l = c .before .before .loop in
     (e .pre .0, (e .pre .1 .0, ((omega (arith, e .pre .1 .1 .0, l .inv .1), c .before .loop-test .taken), l .inv .2)))
 
--- src/answers.rt:92:13
 same-length : tie.Need-same-length Inv-loop μ-loop
 same-length c = search needs
 
--- src/answers.rt:92:13
 returns : tie.Need-returns Inv-loop μ-loop
 unfolding firstLackingLink
 returns c =
     sym (c .before .before .before .before .before .before .loop .inv .3 ∙ first-hit _ _ _ (c .before .before .before .before .before .loop-test .taken) (sym (c .before .before .before .lacks-link .ensures .0) ∙ c .if1 .taken))
 
--- src/answers.rt:94:9
 add-i : tie.Need-add-i Inv-loop μ-loop
 add-i c = search needs
 
--- src/answers.rt:90:5
 loop-less : tie.Need-loop-less Inv-loop μ-loop
 loop-less c = search needs
 
--- src/answers.rt:90:5
 loop-again : tie.Need-loop-again Inv-loop μ-loop
 loop-again c =
     let l = c .before .before .before .before .before .before .loop in
@@ -67,11 +55,9 @@ loop-again c =
       l .inv .3 ∙ first-step _ _ _ (c .before .before .before .before .before .loop-test .taken) (sym (r .ensures .0) ∙ c .if1 .left),
     )
 
--- src/answers.rt:81:1
 same-length-2 : tie.Need-same-length-2 Inv-loop μ-loop
 same-length-2 c = search needs
 
--- src/answers.rt:81:1
 returns-2 : tie.Need-returns-2 Inv-loop μ-loop
 unfolding firstLackingLink
 returns-2 c =

@@ -1,17 +1,14 @@
+-- The targets of the group before t have their vertices stamped.
 use borrow.Author.Needs.{needs}
 use native.Mathlib.Omega.{arith}
-use Prim.Native.Nat.{ℕ, suc, _≤_, _<_, _-_, _+_, _*_}
-use mathlib.Core.Path.{_≡_, refl, sym, ap, _∙_, subst}
-use lib.ListN.{length, getD, set, length-set}
+use Prim.Native.Nat.{_≤_, _<_, _-_, _+_}
+use mathlib.Core.Path.{_≡_, refl}
+use lib.ListN.{length, getD, length-set}
 use Rattle.plan.specs.Marks.{MarkedTo}
 use Rattle.plan.specs.SearchLaws.{Target, graph-target}
 use Rattle.plan.specs.MarksLaws.{marked-none, marked-more, marked-all}
--- uses end
 use Rattle.plan.proofs.answers.mark_answers.Statement.{statement}
 use Rattle.plan.proofs.answers.mark_answers.Tie as tie
-use Rattle.plan.proofs.answers.mark_answers.Reads as reads
-use Rattle.plan.proofs.answers.mark_answers.Lts as lts
-use Rattle.plan.proofs.links.vertex_of.Reads as vertex-of-reads
 
 abbrev Inv-loop : tie.InvT-loop
 Inv-loop plan starts targets marks₀ i stamp end t₀ marks t = (t₀ ≤ t) × (t ≤ end) × (length marks ≡ length marks₀) × MarkedTo plan targets t₀ t stamp marks₀ marks
@@ -19,7 +16,6 @@ Inv-loop plan starts targets marks₀ i stamp end t₀ marks t = (t₀ ≤ t) ×
 abbrev μ-loop : tie.MeasureT-loop
 μ-loop plan starts targets marks₀ i stamp end t₀ marks t = end - t
 
---{
 abbrev entry : tie.At-loop Inv-loop μ-loop → tie.Start Inv-loop μ-loop
 entry c = c .before .before .before .before .before .before .before
 
@@ -32,74 +28,56 @@ below c =
     let e = entry (c .before .before .before) in
     rw (c .before .before .before .loop .inv .2, c .vertex-of .ensures) (e .pre .0 .0 .vertices _ (turn (c .before .before) .below))
 
---}
--- src/answers.rt:21:22
 add-end : tie.Need-add-end Inv-loop μ-loop
 add-end c = search needs
 
--- src/answers.rt:21:15
 mul-end : tie.Need-mul-end Inv-loop μ-loop
 mul-end c = search needs
 
--- src/answers.rt:21:15
 shared-slice-read-end : tie.Need-shared-slice-read-end Inv-loop μ-loop
 shared-slice-read-end c = search needs
 
--- src/answers.rt:21:15
 cast-end : tie.Need-cast-end Inv-loop μ-loop
 cast-end c = omega (arith, c .shared-slice-known4 .given (c .before .before .before .before .before .args .i + 1))
 
--- src/answers.rt:22:17
 mul-t : tie.Need-mul-t Inv-loop μ-loop
 mul-t c = search needs
 
--- src/answers.rt:22:17
 shared-slice-read-t : tie.Need-shared-slice-read-t Inv-loop μ-loop
 shared-slice-read-t c = search needs
 
--- src/answers.rt:22:17
 cast-t : tie.Need-cast-t Inv-loop μ-loop
 cast-t c = omega (arith, c .shared-slice-known5 .given (c .before .before .before .before .before .before .args .i))
 
--- src/answers.rt:23:5
 loop-holds : tie.Need-loop-holds Inv-loop μ-loop
 loop-holds c =
     let e = c .before .before .before .before .before .before in
     (omega arith, e .pre .1 .order (e .args .i) (e .pre .0 .1), refl, marked-none _ _ _ _ _)
 
--- src/answers.rt:24:33
 mul-vertex-of : tie.Need-mul-vertex-of Inv-loop μ-loop
 mul-vertex-of c = omega (arith, turn c .inside)
 
--- src/answers.rt:24:33
 shared-slice-read-vertex-of : tie.Need-shared-slice-read-vertex-of Inv-loop μ-loop
 shared-slice-read-vertex-of c = turn (c .before) .inside
 
--- src/answers.rt:24:33
 cast-vertex-of : tie.Need-cast-vertex-of Inv-loop μ-loop
 cast-vertex-of c = omega (arith, turn (c .before) .below, entry (c .before .before) .pre .0 .0 .sized .positions)
 
--- src/answers.rt:24:13
 vertex-of-requires : tie.Need-vertex-of-requires Inv-loop μ-loop
 vertex-of-requires c κs = (entry (c .before .before) .pre .0 .0 .sized, turn (c .before) .below)
 
--- src/answers.rt:25:9
 mul-marks : tie.Need-mul-marks Inv-loop μ-loop
 mul-marks c = omega (arith, below c)
 
--- src/answers.rt:25:9
 slice-write-marks : tie.Need-slice-write-marks Inv-loop μ-loop
 slice-write-marks c = below c
 
--- src/answers.rt:26:9
 add-t : tie.Need-add-t Inv-loop μ-loop
 add-t c = omega (arith, turn (c .before .before) .inside)
 
--- src/answers.rt:23:5
 loop-less : tie.Need-loop-less Inv-loop μ-loop
 loop-less c = search needs
 
--- src/answers.rt:23:5
 loop-again : tie.Need-loop-again Inv-loop μ-loop
 loop-again c =
     let l = c .before .before .before .loop in (
@@ -109,11 +87,9 @@ loop-again c =
       marked-more _ _ _ _ _ _ _ (l .inv .0) (c .vertex-of .result) (c .vertex-of .ensures) (below c) (l .inv .3),
     )
 
--- src/answers.rt:16:1
 same-length : tie.Need-same-length Inv-loop μ-loop
 same-length c = search needs
 
--- src/answers.rt:16:1
 returns : tie.Need-returns Inv-loop μ-loop
 returns c =
     let l = c .before .loop in

@@ -1,18 +1,15 @@
+-- No target of the group before t lacks the stamp.
 use borrow.Author.Needs.{needs}
 use native.Mathlib.Omega.{arith}
-use Prim.Native.Nat.{ℕ, suc, _≤_, _<_, _-_, _+_, _*_}
-use mathlib.Core.Path.{_≡_, refl, sym, ap, _∙_, subst}
+use Prim.Native.Nat.{_≤_, _-_, _+_}
+use mathlib.Core.Path.{_≡_, sym}
 use mathlib.Core.Bool.{false}
-use lib.ListN.{length, getD, set, length-set}
 use Rattle.plan.specs.Index.{anyFrom}
 use Rattle.plan.specs.Marks.{unmarkedTarget}
 use Rattle.plan.specs.SearchLaws.{Target, graph-target}
 use Rattle.plan.specs.MarksLaws.{unmarked-none, unmarked-not, unmarked-here, unmarked-all}
--- uses end
 use Rattle.plan.proofs.answers.some_unmarked.Statement.{statement}
 use Rattle.plan.proofs.answers.some_unmarked.Tie as tie
-use Rattle.plan.proofs.answers.some_unmarked.Reads as reads
-use Rattle.plan.proofs.answers.some_unmarked.Lts as lts
 
 abbrev Inv-loop : tie.InvT-loop
 Inv-loop starts targets marks n v stamp end t₀ t = (t₀ ≤ t) × (t ≤ end) × (anyFrom t₀ t (unmarkedTarget marks stamp targets) ≡ false)
@@ -20,83 +17,64 @@ Inv-loop starts targets marks n v stamp end t₀ t = (t₀ ≤ t) × (t ≤ end)
 abbrev μ-loop : tie.MeasureT-loop
 μ-loop starts targets marks n v stamp end t₀ t = end - t
 
---{
 abbrev entry : tie.At-loop Inv-loop μ-loop → tie.Start Inv-loop μ-loop
 entry c = c .before .before .before
 
 turn : (c : tie.In-loop Inv-loop μ-loop) → let e = entry (c .before) in Target (e .args .n) (e .args .targets .now) (c .before .loop .t)
 turn c = let e = entry (c .before) in graph-target (e .pre .0) (e .args .v) (c .before .loop .t) (e .pre .1) (c .before .loop .inv .0) (c .loop-test .taken)
 
---}
--- src/answers.rt:35:22
 add-end : tie.Need-add-end Inv-loop μ-loop
 add-end c = search needs
 
--- src/answers.rt:35:15
 mul-end : tie.Need-mul-end Inv-loop μ-loop
 mul-end c = search needs
 
--- src/answers.rt:35:15
 shared-slice-read-end : tie.Need-shared-slice-read-end Inv-loop μ-loop
 shared-slice-read-end c = search needs
 
--- src/answers.rt:35:15
 cast-end : tie.Need-cast-end Inv-loop μ-loop
 cast-end c = omega (arith, c .shared-slice-known .given (c .before .args .v + 1))
 
--- src/answers.rt:36:17
 mul-t : tie.Need-mul-t Inv-loop μ-loop
 mul-t c = search needs
 
--- src/answers.rt:36:17
 shared-slice-read-t : tie.Need-shared-slice-read-t Inv-loop μ-loop
 shared-slice-read-t c = search needs
 
--- src/answers.rt:36:17
 cast-t : tie.Need-cast-t Inv-loop μ-loop
 cast-t c = omega (arith, c .shared-slice-known2 .given (c .before .before .args .v))
 
--- src/answers.rt:37:5
 loop-holds : tie.Need-loop-holds Inv-loop μ-loop
 loop-holds c =
     let e = c .before .before in
     (omega arith, e .pre .0 .order (e .args .v) (e .pre .1), unmarked-none (e .args .starts .now) (e .args .targets .now) (e .args .marks .now) (e .args .v) (e .args .stamp))
 
--- src/answers.rt:38:18
 mul-if1 : tie.Need-mul-if1 Inv-loop μ-loop
 mul-if1 c = omega (arith, turn c .inside)
 
--- src/answers.rt:38:18
 shared-slice-read-if1 : tie.Need-shared-slice-read-if1 Inv-loop μ-loop
 shared-slice-read-if1 c = turn (c .before) .inside
 
--- src/answers.rt:38:18
 cast-if1 : tie.Need-cast-if1 Inv-loop μ-loop
 cast-if1 c = omega (arith, turn (c .before) .below, entry (c .before .before) .pre .2)
 
--- src/answers.rt:38:12
 mul-if1-2 : tie.Need-mul-if1-2 Inv-loop μ-loop
 mul-if1-2 c = omega (arith, turn (c .before) .below, entry (c .before .before) .pre .2)
 
--- src/answers.rt:38:12
 shared-slice-read-if1-2 : tie.Need-shared-slice-read-if1-2 Inv-loop μ-loop
 shared-slice-read-if1-2 c = omega (arith, turn (c .before .before) .below, entry (c .before .before .before) .pre .3)
 
--- src/answers.rt:39:13
 returns : tie.Need-returns Inv-loop μ-loop
 returns c =
     let e = entry (c .before .before .before .before) in
     sym (unmarked-here (e .args .starts .now) (e .args .targets .now) (e .args .marks .now) (e .args .v) (e .args .stamp) (c .before .before .before .before .loop .t) (c .before .before .before .before .loop .inv .0) (c .before .before .before .loop-test .taken) (c .if1 .taken))
 
--- src/answers.rt:41:9
 add-t : tie.Need-add-t Inv-loop μ-loop
 add-t c = omega (arith, turn (c .before .before .before) .inside)
 
--- src/answers.rt:37:5
 loop-less : tie.Need-loop-less Inv-loop μ-loop
 loop-less c = search needs
 
--- src/answers.rt:37:5
 loop-again : tie.Need-loop-again Inv-loop μ-loop
 loop-again c =
     let e = entry (c .before .before .before .before) in
@@ -106,7 +84,6 @@ loop-again c =
       unmarked-not (e .args .starts .now) (e .args .targets .now) (e .args .marks .now) (e .args .v) (e .args .stamp) _ _ (c .if1 .left) (l .inv .2),
     )
 
--- src/answers.rt:31:1
 returns-2 : tie.Need-returns-2 Inv-loop μ-loop
 returns-2 c =
     let e = entry (c .before) in

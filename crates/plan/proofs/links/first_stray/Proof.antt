@@ -1,52 +1,38 @@
+-- By the matrix the straying links are those of the definition.
 use borrow.Author.Needs.{needs}
-use native.Mathlib.Omega.{arith}
 use native.Mathlib.Nat.{le-of-eq}
-use Prim.Native.Nat.{ℕ, suc, _≤_, _<_, _-_, _+_, _*_}
-use mathlib.Core.Path.{_≡_, refl, sym, ap, _∙_, subst}
-use lib.ListN.{length, getD, length-replicate}
+use Prim.Native.Nat.{ℕ, _≤_}
+use mathlib.Core.Path.{sym, _∙_}
+use lib.ListN.{length, length-replicate}
 use Rattle.table.specs.PartsLaws.{filled}
 use Rattle.plan.specs.EdgesLaws.{matrix, first-stray-same}
--- uses end
 use Rattle.plan.proofs.links.first_stray.Statement.{statement}
 use Rattle.plan.proofs.links.first_stray.Tie as tie
-use Rattle.plan.proofs.links.first_stray.Reads as reads
-use Rattle.plan.proofs.links.first_stray.Lts as lts
-use Rattle.plan.proofs.links.fill_edges.Reads as fill-edges-reads
-use Rattle.plan.proofs.links.first_straying.Reads as first-straying-reads
 
---{
 -- the matrix still has its length
 room : (c : tie.After-fill-edges) → 65536 ≤ length (c .fill-edges .last .1 .0)
 room c = le-of-eq (sym (c .fill-edges .kept .1 .0 ∙ length-replicate {A = ℕ} 65536 0))
 
---}
--- src/links.rt:91:13
 shared-slice-read-n : tie.Need-shared-slice-read-n
 shared-slice-read-n c = search needs
 
--- src/links.rt:91:13
 cast-n : tie.Need-cast-n
 cast-n c = search needs
 
--- src/links.rt:93:22
 slice-aggregate-fill-edges : tie.Need-slice-aggregate-fill-edges
 slice-aggregate-fill-edges c = search needs
 
--- src/links.rt:93:5
 fill-edges-requires : tie.Need-fill-edges-requires
 fill-edges-requires c κs = (c .before .before .before .before .pre .0, (le-of-eq (sym (length-replicate {A = ℕ} 65536 0)), filled 65536 0))
 
--- src/links.rt:94:20
 slice-aggregate-first-straying : tie.Need-slice-aggregate-first-straying
 slice-aggregate-first-straying c = search needs
 
--- src/links.rt:94:5
 first-straying-requires : tie.Need-first-straying-requires
 first-straying-requires c κs =
     let e = c .before .before .before .before .before .before .before in
     (e .pre .1, e .pre .0 .vertices, room (c .before .before))
 
--- src/links.rt:87:1
 returns : tie.Need-returns
 returns c =
     let e = c .before .before .before .before .before .before .before .before in

@@ -1,16 +1,13 @@
+-- The rest of the search equals the whole.
 use borrow.Author.Needs.{needs}
 use native.Mathlib.Omega.{arith}
-use Prim.Native.Nat.{ℕ, suc, _≤_, _<_, _-_, _+_, _*_}
-use mathlib.Core.Path.{_≡_, refl, sym, ap, _∙_, subst}
+use Prim.Native.Nat.{_≤_, _-_}
+use mathlib.Core.Path.{_≡_, sym, _∙_}
 use Rattle.theory.specs.Range.{first}
 use Rattle.theory.specs.RangeLaws.{first-step, first-hit, first-end}
 use Rattle.plan.specs.Edges.{straysBy}
--- uses end
 use Rattle.plan.proofs.links.first_straying.Statement.{statement}
 use Rattle.plan.proofs.links.first_straying.Tie as tie
-use Rattle.plan.proofs.links.first_straying.Reads as reads
-use Rattle.plan.proofs.links.first_straying.Lts as lts
-use Rattle.plan.proofs.links.strays.Reads as strays-reads
 
 abbrev Inv-loop : tie.InvT-loop
 Inv-loop edges plan n l k₀ k = (k ≤ l) × (first (straysBy edges n plan) 0 l ≡ first (straysBy edges n plan) k l)
@@ -18,39 +15,30 @@ Inv-loop edges plan n l k₀ k = (k ≤ l) × (first (straysBy edges n plan) 0 l
 abbrev μ-loop : tie.MeasureT-loop
 μ-loop edges plan n l k₀ k = l - k
 
--- src/links.rt:75:13
 shared-slice-read-l : tie.Need-shared-slice-read-l Inv-loop μ-loop
 shared-slice-read-l c = search needs
 
--- src/links.rt:75:13
 cast-l : tie.Need-cast-l Inv-loop μ-loop
 cast-l c = search needs
 
--- src/links.rt:77:5
 loop-holds : tie.Need-loop-holds Inv-loop μ-loop
 loop-holds c = search needs
 
--- src/links.rt:78:12
 strays-requires : tie.Need-strays-requires Inv-loop μ-loop
 strays-requires c κs = search needs
 
--- src/links.rt:79:13
 returns : tie.Need-returns Inv-loop μ-loop
 returns c = sym (c .before .before .before .loop .inv .1 ∙ first-hit _ _ _ (c .before .before .loop-test .taken) (sym (c .before .strays .ensures) ∙ c .if1 .taken))
 
--- src/links.rt:81:9
 add-k : tie.Need-add-k Inv-loop μ-loop
 add-k c = search needs
 
--- src/links.rt:77:5
 loop-less : tie.Need-loop-less Inv-loop μ-loop
 loop-less c = search needs
 
--- src/links.rt:77:5
 loop-again : tie.Need-loop-again Inv-loop μ-loop
 loop-again c = (omega (arith, c .before .before .loop-test .taken), c .before .before .before .loop .inv .1 ∙ first-step _ _ _ (c .before .before .loop-test .taken) (sym (c .before .strays .ensures) ∙ c .if1 .left))
 
--- src/links.rt:71:1
 returns-2 : tie.Need-returns-2 Inv-loop μ-loop
 returns-2 c = sym (c .before .loop .inv .1 ∙ first-end _ _ _ (c .loop-test .left))
 

@@ -1,19 +1,12 @@
+-- The byte at the pair of vertices, inside the matrix since both are below n.
 use borrow.Author.Needs.{needs}
 use native.Mathlib.Omega.{arith}
-use Prim.Native.Nat.{ℕ, suc, _≤_, _<_, _-_, _+_, _*_}
-use mathlib.Core.Path.{_≡_, refl, sym, ap, _∙_, subst}
+use Prim.Native.Nat.{_<_, _+_, _*_}
 use Rattle.plan.specs.Edges.{straysBy}
 use Rattle.plan.specs.EdgesLaws.{pair-lt}
--- uses end
 use Rattle.plan.proofs.links.strays.Statement.{statement}
 use Rattle.plan.proofs.links.strays.Tie as tie
-use Rattle.plan.proofs.links.strays.Reads as reads
-use Rattle.plan.proofs.links.strays.Lts as lts
-use Rattle.plan.proofs.links.source_of.Reads as source-of-reads
-use Rattle.plan.proofs.links.target_of.Reads as target-of-reads
-use Rattle.plan.proofs.links.vertex_of.Reads as vertex-of-reads
 
---{
 -- the byte of the pair of vertices
 place : (c : tie.After-vertex-of2) → c .before .before .vertex-of .result * c .before .before .before .before .before .before .args .n + c .vertex-of2 .result < 65536
 place c =
@@ -23,40 +16,31 @@ place c =
     (rw (c .before .before .vertex-of .ensures, c .before .before .before .source-of .ensures) (f .vertices _ (f .sources (e .args .k) (e .pre .2))))
     (rw (c .vertex-of2 .ensures, c .before .target-of .ensures) (f .vertices _ (f .targets (e .args .k) (e .pre .2))))
 
---}
--- src/links.rt:93:29
 source-of-requires : tie.Need-source-of-requires
 source-of-requires c κs = search needs
 
--- src/links.rt:93:9
 vertex-of-requires : tie.Need-vertex-of-requires
 vertex-of-requires c κs =
     let e = c .before .before .before in
     (e .pre .0 .sized, rw (c .source-of .ensures) (e .pre .0 .sources (e .args .k) (e .pre .2)))
 
--- src/links.rt:94:29
 target-of-requires : tie.Need-target-of-requires
 target-of-requires c κs = search needs
 
--- src/links.rt:94:9
 vertex-of-requires-2 : tie.Need-vertex-of-requires-2
 vertex-of-requires-2 c κs =
     let e = c .before .before .before .before .before in
     (e .pre .0 .sized, rw (c .target-of .ensures) (e .pre .0 .targets (e .args .k) (e .pre .2)))
 
--- src/links.rt:95:11
 mul-result : tie.Need-mul-result
 mul-result c = omega (arith, place c)
 
--- src/links.rt:95:11
 add-result : tie.Need-add-result
 add-result c = omega (arith, place c)
 
--- src/links.rt:95:5
 shared-slice-read-result : tie.Need-shared-slice-read-result
 shared-slice-read-result c = omega (arith, place (c .before), c .before .before .before .before .before .before .before .pre .3)
 
--- src/links.rt:89:1
 returns : tie.Need-returns
 unfolding straysBy
 returns c =

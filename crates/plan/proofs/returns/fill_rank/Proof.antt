@@ -1,75 +1,57 @@
+-- The positions before j have their priorities.
 use borrow.Author.Needs.{needs}
 use native.Mathlib.Omega.{arith}
-use native.Mathlib.Nat.{not-suc-le-zero}
-use Prim.Native.Nat.{ℕ, suc, _≤_, _<_, _-_, _+_, _*_}
-use mathlib.Core.Path.{_≡_, refl, sym, ap, _∙_, subst}
-use lib.ListN.{length, getD, set, length-set}
+use Prim.Native.Nat.{ℕ, _≤_, _<_, _-_, _+_}
+use mathlib.Core.Path.{_≡_}
+use lib.ListN.{length, getD, length-set}
 use Rattle.plan.specs.Acceptance.{positionPriority}
 use Rattle.plan.specs.IndexLaws.{after-set}
--- uses end
 use Rattle.plan.proofs.returns.fill_rank.Statement.{statement}
 use Rattle.plan.proofs.returns.fill_rank.Tie as tie
-use Rattle.plan.proofs.returns.fill_rank.Reads as reads
-use Rattle.plan.proofs.returns.fill_rank.Lts as lts
-use Rattle.plan.proofs.links.vertex_of.Reads as vertex-of-reads
 
 abbrev Inv-loop : tie.InvT-loop
-Inv-loop game plan rank₀ p i₀ rank i = (i ≤ p) × (length rank ≡ length rank₀) × ((j : ℕ) → j < i → getD rank j 0 ≡ positionPriority game plan j)
+Inv-loop game plan rank₀ p j₀ rank j = (j ≤ p) × (length rank ≡ length rank₀) × ((i : ℕ) → i < j → getD rank i 0 ≡ positionPriority game plan i)
 
 abbrev μ-loop : tie.MeasureT-loop
-μ-loop game plan rank₀ p i₀ rank i = p - i
+μ-loop game plan rank₀ p j₀ rank j = p - j
 
---{
 -- the vertex of a turn's position
 below : (c : tie.After-vertex-of Inv-loop μ-loop) → c .vertex-of .result < getD (c .before .before .before .before .before .before .before .args .game .now) 0 0
-below c = rw (c .vertex-of .ensures) (c .before .before .before .before .before .before .before .pre .0 .1 .vertices (c .before .before .loop .i) (c .before .loop-test .taken))
+below c = rw (c .vertex-of .ensures) (c .before .before .before .before .before .before .before .pre .0 .1 .vertices (c .before .before .loop .j) (c .before .loop-test .taken))
 
---}
--- src/returns.rt:112:13
 shared-slice-read-p : tie.Need-shared-slice-read-p Inv-loop μ-loop
 shared-slice-read-p c = search needs
 
--- src/returns.rt:112:13
 cast-p : tie.Need-cast-p Inv-loop μ-loop
 cast-p c = search needs
 
--- src/returns.rt:114:5
 loop-holds : tie.Need-loop-holds Inv-loop μ-loop
 loop-holds c = search needs
 
--- src/returns.rt:115:28
 vertex-of-requires : tie.Need-vertex-of-requires Inv-loop μ-loop
 vertex-of-requires c κs = search needs
 
--- src/returns.rt:115:24
 add-rank : tie.Need-add-rank Inv-loop μ-loop
 add-rank c = omega (arith, below c, c .before .before .before .before .before .before .before .pre .0 .0 .vertices)
 
--- src/returns.rt:115:19
 mul-rank : tie.Need-mul-rank Inv-loop μ-loop
 mul-rank c = omega (arith, below c, c .before .before .before .before .before .before .before .pre .0 .0 .vertices)
 
--- src/returns.rt:115:19
 shared-slice-read-rank : tie.Need-shared-slice-read-rank Inv-loop μ-loop
 shared-slice-read-rank c = omega (arith, below (c .before), c .before .before .before .before .before .before .before .before .pre .0 .0 .size)
 
--- src/returns.rt:115:9
 mul-rank-2 : tie.Need-mul-rank-2 Inv-loop μ-loop
 mul-rank-2 c = search needs
 
--- src/returns.rt:115:9
 slice-write-rank : tie.Need-slice-write-rank Inv-loop μ-loop
 slice-write-rank c = search needs
 
--- src/returns.rt:116:9
-add-i : tie.Need-add-i Inv-loop μ-loop
-add-i c = search needs
+add-j : tie.Need-add-j Inv-loop μ-loop
+add-j c = search needs
 
--- src/returns.rt:114:5
 loop-less : tie.Need-loop-less Inv-loop μ-loop
 loop-less c = search needs
 
--- src/returns.rt:114:5
 loop-again : tie.Need-loop-again Inv-loop μ-loop
 unfolding positionPriority
 loop-again c =
@@ -77,17 +59,15 @@ loop-again c =
     let e = c .before .before .before .before .before .before .before .before in (
       omega (arith, c .before .before .loop-test .taken),
       simp length-set (l .inv .1),
-      λ j h. after-set (λ (j x : ℕ). j < l .i + 1 → x ≡ positionPriority (e .args .game .now) (e .args .plan .now) j) (l .rank) (l .i) _
+      λ j h. after-set (λ (j x : ℕ). j < l .j + 1 → x ≡ positionPriority (e .args .game .now) (e .args .plan .now) j) (l .rank) (l .j) _
           (omega (arith, l .inv .1, e .pre .1, c .before .before .loop-test .taken))
           (λ k. rw (c .before .vertex-of .ensures))
           (λ j d k. l .inv .2 j (omega arith)) j h,
     )
 
--- src/returns.rt:107:1
 same-length : tie.Need-same-length Inv-loop μ-loop
 same-length c = search needs
 
--- src/returns.rt:107:1
 returns : tie.Need-returns Inv-loop μ-loop
 returns c = λ i h. c .before .loop .inv .2 i (omega (arith, c .loop-test .left))
 
@@ -106,7 +86,7 @@ fill-rank-spec =
     shared-slice-read-rank
     mul-rank-2
     slice-write-rank
-    add-i
+    add-j
     loop-less
     loop-again
     same-length

@@ -1,17 +1,14 @@
+-- The rest of the search equals the whole; no stamp is above i.
 use borrow.Author.Needs.{needs}
 use native.Mathlib.Omega.{arith}
-use Prim.Native.Nat.{ℕ, suc, _≤_, _<_, _-_, _+_}
-use mathlib.Core.Path.{_≡_, refl, sym, ap, _∙_, subst}
+use Prim.Native.Nat.{ℕ, _≤_, _-_}
+use mathlib.Core.Path.{_≡_, refl, sym, _∙_}
 use lib.ListN.{length, getD}
 use Rattle.theory.specs.Range.{first}
 use Rattle.theory.specs.RangeLaws.{first-step, first-hit, first-end}
-use Rattle.plan.specs.Search.{Graph, wrongBy}
--- uses end
+use Rattle.plan.specs.Search.{wrongBy}
 use Rattle.plan.proofs.returns.first_returning.Statement.{statement}
 use Rattle.plan.proofs.returns.first_returning.Tie as tie
-use Rattle.plan.proofs.returns.first_returning.Reads as reads
-use Rattle.plan.proofs.returns.first_returning.Lts as lts
-use Rattle.plan.proofs.returns.returns_wrong.Reads as returns-wrong-reads
 
 abbrev Inv-loop : tie.InvT-loop
 Inv-loop starts targets rank seen₀ queue₀ p player i₀ seen queue i = (i ≤ p) × (length seen ≡ length seen₀) × (length queue ≡ length queue₀) × ((j : ℕ) → getD seen j 0 ≤ i) × (first (wrongBy starts targets rank p player) 0 p ≡ first (wrongBy starts targets rank p player) i p)
@@ -19,42 +16,32 @@ Inv-loop starts targets rank seen₀ queue₀ p player i₀ seen queue i = (i �
 abbrev μ-loop : tie.MeasureT-loop
 μ-loop starts targets rank seen₀ queue₀ p player i₀ seen queue i = p - i
 
--- src/returns.rt:90:5
 loop-holds : tie.Need-loop-holds Inv-loop μ-loop
-loop-holds c = (omega arith, refl, refl, λ j. omega (arith, c .before .before .before .before .before .pre .1 .1 .0 j), refl)
+loop-holds c = (omega arith, refl, refl, λ j. omega (arith, c .before .before .before .before .before .pre .1 j), refl)
 
--- src/returns.rt:91:12
 returns-wrong-requires : tie.Need-returns-wrong-requires Inv-loop μ-loop
 returns-wrong-requires c κs =
     let e = c .before .before .before .before .before .before .before .before .before in
-    let l = c .before .before .before .loop in (
-      (e .pre .0 .0, c .before .before .loop-test .taken, e .pre .0 .1),
-      ((e .pre .1 .0 .0, omega (arith, e .pre .1 .0 .1, l .inv .1), omega (arith, e .pre .1 .0 .2, l .inv .2)), (l .inv .3, e .pre .1 .1 .1)),
-    )
+    let l = c .before .before .before .loop in
+    ((record { graph = e .pre .0 .0 .graph; few = e .pre .0 .0 .few; ranks = e .pre .0 .0 .ranks; stamps = omega (arith, e .pre .0 .0 .stamps, l .inv .1); entries = omega (arith, e .pre .0 .0 .entries, l .inv .2) }, c .before .before .loop-test .taken, e .pre .0 .1), l .inv .3)
 
--- src/returns.rt:92:13
 same-length : tie.Need-same-length Inv-loop μ-loop
 same-length c = search needs
 
--- src/returns.rt:92:13
 same-length-2 : tie.Need-same-length-2 Inv-loop μ-loop
 same-length-2 c = search needs
 
--- src/returns.rt:92:13
 returns : tie.Need-returns Inv-loop μ-loop
 returns c =
     let l = c .before .before .before .before .before .before .before .before .before .loop in
     sym (l .inv .4 ∙ first-hit _ _ _ (c .before .before .before .before .before .before .before .before .loop-test .taken) (sym (c .before .before .before .before .before .returns-wrong .ensures .0) ∙ c .if1 .taken))
 
--- src/returns.rt:94:9
 add-i : tie.Need-add-i Inv-loop μ-loop
 add-i c = search needs
 
--- src/returns.rt:90:5
 loop-less : tie.Need-loop-less Inv-loop μ-loop
 loop-less c = search needs
 
--- src/returns.rt:90:5
 loop-again : tie.Need-loop-again Inv-loop μ-loop
 loop-again c =
     let l = c .before .before .before .before .before .before .before .before .before .loop in
@@ -66,15 +53,12 @@ loop-again c =
       l .inv .4 ∙ first-step _ _ _ (c .before .before .before .before .before .before .before .before .loop-test .taken) (sym (r .ensures .0) ∙ c .if1 .left),
     )
 
--- src/returns.rt:82:1
 same-length-3 : tie.Need-same-length-3 Inv-loop μ-loop
 same-length-3 c = search needs
 
--- src/returns.rt:82:1
 same-length-4 : tie.Need-same-length-4 Inv-loop μ-loop
 same-length-4 c = search needs
 
--- src/returns.rt:82:1
 returns-2 : tie.Need-returns-2 Inv-loop μ-loop
 returns-2 c =
     sym (c .before .loop .inv .4 ∙ first-end _ _ _ (c .loop-test .left))

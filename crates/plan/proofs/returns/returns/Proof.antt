@@ -1,18 +1,15 @@
+-- Whatever is stamped is reached, and the links of i and of the first `head` positions in the queue were followed.
 use borrow.Author.Needs.{needs}
 use native.Mathlib.Omega.{arith}
-use Prim.Native.Nat.{ℕ, suc, _≤_, _<_, _-_, _+_}
-use mathlib.Core.Path.{_≡_, refl, sym, ap, _∙_, subst}
+use Prim.Native.Nat.{ℕ, _≤_, _<_, _-_, _+_}
+use mathlib.Core.Path.{_≡_, refl, sym, _∙_}
 use mathlib.Core.List.{List}
-use lib.ListN.{length, getD, set, length-set}
+use lib.ListN.{length, getD}
 use borrow.Author.Tests.{eq-eqb}
-use Rattle.plan.specs.Search.{Graph, linkBy, notBelow, stamped, Searched}
+use Rattle.plan.specs.Search.{linkBy, notBelow, stamped, Searched}
 use Rattle.plan.specs.SearchLaws.{queued-le, queued-none, searched-none, searched-more, searched-found, searched-all}
--- uses end
 use Rattle.plan.proofs.returns.returns.Statement.{statement}
 use Rattle.plan.proofs.returns.returns.Tie as tie
-use Rattle.plan.proofs.returns.returns.Reads as reads
-use Rattle.plan.proofs.returns.returns.Lts as lts
-use Rattle.plan.proofs.returns.expand.Reads as expand-reads
 
 abbrev Inv-loop : tie.InvT-loop
 Inv-loop starts targets rank seen₀ queue₀ p i least stamp tail₀ head₀ seen queue tail head = (head ≤ tail) × (length seen ≡ length seen₀) × (length queue ≡ length queue₀) × Searched p (linkBy starts targets) (notBelow rank (getD rank i 0)) i (i + 1) seen queue head tail
@@ -20,7 +17,6 @@ Inv-loop starts targets rank seen₀ queue₀ p i least stamp tail₀ head₀ se
 abbrev μ-loop : tie.MeasureT-loop
 μ-loop starts targets rank seen₀ queue₀ p i least stamp tail₀ head₀ seen queue tail head = p - head
 
---{
 abbrev entry : tie.At-loop Inv-loop μ-loop → tie.Start Inv-loop μ-loop
 entry c = c .before .before .before .before .before .before .before .before .before .before .before .before .before .before
 
@@ -38,94 +34,75 @@ turn c =
     let first = c .before .before .before .before .before .before .expand in
     record {
       few = omega (arith, queued-le _ _ _ _ _ (l .inv .3 .queued), c .loop-test .taken);
-      seen-room = omega (arith, l .inv .1, first .kept .1 .1 .1 .0, e .pre .1 .0 .1);
-      queue-room = omega (arith, l .inv .2, first .kept .1 .1 .1 .1 .0, e .pre .1 .0 .2);
+      seen-room = omega (arith, l .inv .1, first .kept .1 .1 .1 .0, e .pre .0 .0 .stamps);
+      queue-room = omega (arith, l .inv .2, first .kept .1 .1 .1 .1 .0, e .pre .0 .0 .entries);
       below = l .inv .3 .queued .inside (l .head) (c .loop-test .taken);
     }
 
---}
--- src/returns.rt:50:17
 mul-least : tie.Need-mul-least Inv-loop μ-loop
 mul-least c = search needs
 
--- src/returns.rt:50:17
 shared-slice-read-least : tie.Need-shared-slice-read-least Inv-loop μ-loop
 shared-slice-read-least c = search needs
 
--- src/returns.rt:51:18
 add-stamp : tie.Need-add-stamp Inv-loop μ-loop
 add-stamp c = search needs
 
--- src/returns.rt:51:17
 cast-stamp : tie.Need-cast-stamp Inv-loop μ-loop
 cast-stamp c = search needs
 
--- src/returns.rt:52:9
 expand-requires : tie.Need-expand-requires Inv-loop μ-loop
 expand-requires c κs =
     let e = c .before .before .before .before .before .before .before .before in
-    (e .pre .0, (e .pre .1 .0, queued-none _ _ _ _ (λ j. omega (arith, e .pre .1 .1 j))))
+    (e .pre .0, queued-none _ _ _ _ (λ j. omega (arith, e .pre .1 j)))
 
--- src/returns.rt:54:5
 loop-holds : tie.Need-loop-holds Inv-loop μ-loop
 loop-holds c =
     let e = c .before .before .before .before .before .before .before .before .before .before .before .before .before in
-    (omega arith, refl, refl, searched-none _ _ _ _ _ _ (e .args .seen .now) (e .args .queue .now) (λ j. omega (arith, e .pre .1 .1 j)) _ _ _ (c .before .before .before .before .expand .ensures))
+    (omega arith, refl, refl, searched-none _ _ _ _ _ _ (e .args .seen .now) (e .args .queue .now) (λ j. omega (arith, e .pre .1 j)) _ _ _ (c .before .before .before .before .expand .ensures))
 
--- src/returns.rt:55:12
 mul-if1 : tie.Need-mul-if1 Inv-loop μ-loop
 mul-if1 c = search needs
 
--- src/returns.rt:55:12
 slice-read-if1 : tie.Need-slice-read-if1 Inv-loop μ-loop
 slice-read-if1 c = search needs
 
--- src/returns.rt:56:13
 same-length : tie.Need-same-length Inv-loop μ-loop
 same-length c = search needs
 
--- src/returns.rt:56:13
 same-length-2 : tie.Need-same-length-2 Inv-loop μ-loop
 same-length-2 c = search needs
 
--- src/returns.rt:56:13
 returns : tie.Need-returns Inv-loop μ-loop
 unfolding stamped
 returns c =
     let l = c .before .before .before .loop in
     (sym (searched-found _ _ _ _ _ _ _ _ _ _ (l .inv .3) (eq-eqb _ _ (c .if1 .taken))), l .inv .3 .queued .latest)
 
--- src/returns.rt:58:17
 mul-j : tie.Need-mul-j Inv-loop μ-loop
 mul-j c = omega (arith, turn (c .before .before))
 
--- src/returns.rt:58:17
 slice-read-j : tie.Need-slice-read-j Inv-loop μ-loop
 slice-read-j c = omega (arith, turn (c .before .before .before))
 
--- src/returns.rt:58:17
 cast-j : tie.Need-cast-j Inv-loop μ-loop
 cast-j c =
-    omega (arith, turn (c .before .before .before), entry (c .before .before .before .before) .pre .0 .2)
+    omega (arith, turn (c .before .before .before), entry (c .before .before .before .before) .pre .0 .0 .few)
 
--- src/returns.rt:59:9
 expand-requires-2 : tie.Need-expand-requires-2 Inv-loop μ-loop
 expand-requires-2 c κs =
     let w = turn (c .before .before .before .before .before) in
     let e = entry (c .before .before .before .before .before .before) in
-    ((e .pre .0 .0, w .below, e .pre .0 .2), ((e .pre .1 .0 .0, w .seen-room, w .queue-room), c .before .before .before .before .before .before .loop .inv .3 .queued))
+    ((record { graph = e .pre .0 .0 .graph; few = e .pre .0 .0 .few; ranks = e .pre .0 .0 .ranks; stamps = w .seen-room; entries = w .queue-room }, omega (arith, w .below, e .pre .0 .1)), c .before .before .before .before .before .before .loop .inv .3 .queued)
 
--- src/returns.rt:60:9
 add-head : tie.Need-add-head Inv-loop μ-loop
 add-head c = search needs
 
--- src/returns.rt:54:5
 loop-less : tie.Need-loop-less Inv-loop μ-loop
 loop-less c =
     let w = turn (c .before .before .before .before .before .before .before .before .before .before) in
     omega (arith, w .few)
 
--- src/returns.rt:54:5
 loop-again : tie.Need-loop-again Inv-loop μ-loop
 loop-again c =
     let b = c .before .before .before .before .before .before .before .before .before .before in
@@ -137,23 +114,18 @@ loop-again c =
       searched-more _ _ _ _ _ _ _ _ _ _ (l .inv .3) (b .loop-test .taken) _ _ _ (v .ensures),
     )
 
--- src/returns.rt:62:5
 mul-result : tie.Need-mul-result Inv-loop μ-loop
 mul-result c = search needs
 
--- src/returns.rt:62:5
 slice-read-result : tie.Need-slice-read-result Inv-loop μ-loop
 slice-read-result c = search needs
 
--- src/returns.rt:43:1
 same-length-3 : tie.Need-same-length-3 Inv-loop μ-loop
 same-length-3 c = search needs
 
--- src/returns.rt:43:1
 same-length-4 : tie.Need-same-length-4 Inv-loop μ-loop
 same-length-4 c = search needs
 
--- src/returns.rt:43:1
 returns-2 : tie.Need-returns-2 Inv-loop μ-loop
 unfolding stamped
 returns-2 c =
