@@ -17,7 +17,7 @@ use Rattle.theory.specs.Returns.{WrongWalk}
 use Rattle.theory.specs.ReturnsLaws.{wrongWalk-return}
 use Rattle.table.specs.Table.{vertexCount, playerOf, gameOf}
 use Rattle.table.specs.Verdict.{Row, Answer, accepted, refused, judge, Clean}
-use Rattle.table.specs.VerdictLaws.{judge-clean, judge-accepted, judge-past, judge-stays}
+use Rattle.table.specs.VerdictLaws.{judge-clean, judge-accepted, judge-past, judge-stays, clean-split}
 use Rattle.table.specs.Reading.{gameRows, readAnswer}
 use Rattle.table.specs.ReadingLaws.{rows-render, read-accepted}
 use Rattle.table.specs.ReadingRules.{gameRules}
@@ -162,14 +162,6 @@ links-render g player w f =
     (next (renders-first 15 (lacksLink g player w) _ 0 (positionCount w) (λ i. i) (omega arith) (λ i. (lacks-out g player w i, lacks-in g player w i)))
     (next (renders-first 16 (returnsWrong g player w) _ 0 (positionCount w) (λ i. i) (omega arith) (is-wrong g player w f))
     none))
-
-pub clean-split : (rs ss : List Row) → Clean (rs ++ ss) → Clean rs × Clean ss
-clean-split [] ss c = (tt, c)
-clean-split (r ∷ rs) ss c = let x = clean-split rs ss (c .1) in ((c .0, x .0), x .1)
-
-pub clean-append : (rs ss : List Row) → Clean rs → Clean ss → Clean (rs ++ ss)
-clean-append [] ss c d = d
-clean-append (r ∷ rs) ss c d = (c .0, clean-append rs ss (c .1) d)
 
 pub clean-words : (g : List ℕ) (player : ℕ) (w : List ℕ) → Clean (wordRows g player w) → WordsPass g player w
 unfolding planRows readAnswer

@@ -19,7 +19,7 @@ use Rattle.theory.specs.Returns.{Return}
 use Rattle.theory.specs.ReturnsLaws.{closed-in, closed-out}
 use Rattle.table.specs.Table.{vertexCount, playerOf, gameOf}
 use Rattle.table.specs.Verdict.{accepted, Clean}
-use Rattle.table.specs.VerdictLaws.{judge-clean, judge-accepted}
+use Rattle.table.specs.VerdictLaws.{judge-clean, judge-accepted, clean-split, clean-append}
 use Rattle.table.specs.Reading.{gameRows}
 use Rattle.table.specs.ReadingLaws.{well-clean}
 use Rattle.table.specs.WellFormed.{WellFormed}
@@ -29,7 +29,7 @@ use Rattle.plan.specs.PlanFormed.{PlanSized, PlanFormed, WordsPass}
 use Rattle.plan.specs.PlanFormedLaws.{good-size, good-words}
 use Rattle.plan.specs.Acceptance.{strays, firstStray, anyLink, answers, lacksLink, firstLackingLink, returns, positionPriority, hasLink, returnsWrong, firstReturn, planRows, planAnswer}
 use Rattle.plan.specs.AcceptanceRules.{LacksMove, LacksAnswer}
-use Rattle.plan.specs.AcceptanceLaws.{answers-out, lacks-out, link-inside, wordRows, clean-words, clean-split, clean-append, split-rows}
+use Rattle.plan.specs.AcceptanceLaws.{answers-out, lacks-out, link-inside, wordRows, clean-words, split-rows}
 use Rattle.plan.specs.ReachLaws.{return-in, return-out}
 use Rattle.plan.specs.SearchLaws.{returns-ext}
 
