@@ -1,1 +1,5 @@
 pub mod Cases
+pub mod Demands
+pub mod Sentences
+pub mod SentencesLaws
+pub mod Applied

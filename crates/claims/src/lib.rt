@@ -1,10 +1,47 @@
-// The crate is its specs/: what is claimed of the library. A crate needs one function; this one counts the proved cases.
+// What is claimed of the library. A function for each sentence of demand 3: it calls the library, and its promise is that sentence about
+// the slices after the call, proved from the library's contracts alone.
+use order::Ordering;
+use reduction::Tabulation;
+use table::Acceptance;
 ghost use mathlib.Core.Path.{_≡_};
-ghost use lib.ListN.{length};
-ghost use Rattle.claims.specs.Cases.{cases};
+ghost use Rattle.order.specs.OrderCall.{orderingAnswer};
+ghost use Rattle.reduction.specs.Answers.{tabulationAnswer};
+ghost use Rattle.claims.specs.Sentences.{Contains, Transfers, Reduces};
 
-pub fn case_count() -> u32
-    ensures { λ r. ⌜ r ≡ length cases ⌝ }
+// The verdicts of the two calls.
+pub struct Containment {
+    pub relation: Acceptance,
+    pub order: Ordering,
+}
+
+// Judges a relation, then writes the order.
+pub fn contains(game: &[u16], relation: &[u8], marks: &mut [u8], spare: &mut [u8]) -> Containment
+    ensures { λ r. ⌜ Contains (now (game .entry)) (now (relation .entry)) (now (marks .entry)) (now (marks .exit)) (now (spare .entry)) (now (spare .exit)) r ⌝ }
 {
-    14
+    let judged = order::accept_relation(game, relation);
+    let written = order::write_order(game, marks, spare);
+    Containment {
+        relation: judged,
+        order: written,
+    }
+}
+
+// Writes the order.
+pub fn transfers(game: &[u16], marks: &mut [u8], spare: &mut [u8]) -> Ordering
+    ensures { λ r. ⌜ Transfers (now (game .entry)) (now (marks .entry)) (now (marks .exit)) (now (spare .entry)) (now (spare .exit)) (orderingAnswer r) ⌝ }
+{
+    order::write_order(game, marks, spare)
+}
+
+// Writes the reduced game.
+pub fn reduces(
+    game: &[u16],
+    marks: &mut [u8],
+    spare: &mut [u8],
+    classes: &mut [u16],
+    output: &mut [u16],
+) -> Tabulation
+    ensures { λ r. ⌜ Reduces (now (game .entry)) (now (marks .entry)) (now (spare .entry)) (now (classes .entry)) (now (output .entry)) (tabulationAnswer r) (now (marks .exit)) (now (spare .exit)) (now (classes .exit)) (now (output .exit)) ⌝ }
+{
+    reduction::write_reduced(game, marks, spare, classes, output)
 }

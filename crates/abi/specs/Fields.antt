@@ -1,0 +1,57 @@
+-- What the exports' answer holds: number 0 and the counts that document 01 gives the call, or the refusal's number and place; all other
+-- fields are 0.
+use mathlib.Core.List.{List, [], _∷_}
+use Prim.Native.Nat.{ℕ, _<_}
+use lib.ListN.{getD}
+use Rattle.table.specs.Verdict.{Answer, accepted, refused}
+use Rattle.table.specs.declared.Reading.{Reading}
+use Rattle.table.specs.declared.Reading.the-variants.{Accepted, Refused}
+use Rattle.reduction.specs.declared.Classification.{Classification}
+use Rattle.reduction.specs.declared.Tabulation.{Tabulation}
+use Rattle.abi.specs.declared.RaskjomiAnswer.{RaskjomiAnswer}
+
+-- where a call's counts go: how many leading counts are passes, classes, and a table's vertices and edges
+abbrev pub counted : ℕ → ℕ → ℕ → ℕ → RaskjomiAnswer
+counted passes classes vertices edges = record { number = 0; passes = passes; classes = classes; vertices = vertices; edges = edges; place = 0 }
+
+abbrev pub turnedDown : ℕ → ℕ → RaskjomiAnswer
+turnedDown number place = record { number = number; passes = 0; classes = 0; vertices = 0; edges = 0; place = place }
+
+-- the reader: n and m
+abbrev pub readFields : Answer → RaskjomiAnswer
+readFields (accepted counts) = counted 0 0 (getD counts 0 0) (getD counts 1 0)
+readFields (refused number place) = turnedDown number place
+
+-- the order: its passes
+abbrev pub orderFields : Answer → RaskjomiAnswer
+orderFields (accepted counts) = counted (getD counts 0 0) 0 0 0
+orderFields (refused number place) = turnedDown number place
+
+-- an acceptor: none
+abbrev pub acceptFields : Answer → RaskjomiAnswer
+acceptFields (accepted counts) = counted 0 0 0 0
+acceptFields (refused number place) = turnedDown number place
+
+-- classes: their number
+abbrev pub classesFields : Answer → RaskjomiAnswer
+classesFields (accepted counts) = counted 0 (getD counts 0 0) 0 0
+classesFields (refused number place) = turnedDown number place
+
+-- a call that writes a game table: the classes, then the table's vertices and edges
+abbrev pub tableFields : Answer → RaskjomiAnswer
+tableFields (accepted counts) = counted 0 (getD counts 0 0) (getD counts 1 0) (getD counts 2 0)
+tableFields (refused number place) = turnedDown number place
+
+-- a reading whose sizes fit the answer's fields
+abbrev pub SmallSizes : Reading → Type 0
+SmallSizes (Accepted sizes) = (sizes .vertices < 4294967296) × (sizes .edges < 4294967296)
+SmallSizes (Refused refusal) = Unit
+
+-- the same of a class count, and of a table's counts
+abbrev pub SmallCount : Classification → Type 0
+SmallCount (Classification.Accepted count) = count .classes < 4294967296
+SmallCount (Classification.Refused refusal) = Unit
+
+abbrev pub SmallCounts : Tabulation → Type 0
+SmallCounts (Tabulation.Accepted counts) = (counts .classes < 4294967296) × (counts .vertices < 4294967296) × (counts .edges < 4294967296)
+SmallCounts (Tabulation.Refused refusal) = Unit

@@ -1,0 +1,74 @@
+-- What the library accepts is small, so its counts fit the answer's fields.
+use mathlib.Core.Path.{_≡_, sym, ap}
+use mathlib.Core.List.{List, [], _∷_}
+use Prim.Native.Nat.{ℕ, _≤_}
+use native.Mathlib.Omega.{arith}
+use lib.ListN.{length, getD}
+use Rattle.theory.specs.Game.{Game, edgeCount}
+use Rattle.theory.specs.Order.{order}
+use Rattle.theory.specs.ClassLaws.{classCount-le}
+use Rattle.theory.specs.QuotientLaws.{order-preorder}
+use Rattle.table.specs.Table.{vertexCount, tableEdges, gameOf}
+use Rattle.table.specs.Verdict.{Answer, accepted, Clean}
+use Rattle.table.specs.VerdictLaws.{accepted-inj, judge-accepted, clean-split}
+use Rattle.table.specs.WellFormed.{WellFormed, WellSized}
+use Rattle.table.specs.Reading.{gameRows, readAnswer, readingAnswer}
+use Rattle.table.specs.ReadingLaws.{reading-accepted, clean-well}
+use Rattle.table.specs.TableLaws.{edges-listed}
+use Rattle.table.specs.declared.Reading.{Reading}
+use Rattle.table.specs.declared.Reading.the-variants.{Accepted, Refused}
+use Rattle.reduction.specs.ListsLaws.{lists-length}
+use Rattle.reduction.specs.Calls.{classRows, tableRows, classTotal, ClassesCall, TableCall}
+use Rattle.reduction.specs.Answers.{classificationAnswer, tabulationAnswer}
+use Rattle.reduction.specs.declared.Classification.{Classification}
+use Rattle.reduction.specs.declared.Tabulation.{Tabulation}
+use Rattle.abi.specs.Fields.{SmallSizes, SmallCount, SmallCounts}
+
+pub reading-small : (g : List ℕ) (r : Reading) → readingAnswer r ≡ readAnswer g → SmallSizes r
+reading-small g (Accepted sizes) e =
+    let w = reading-accepted g sizes e in
+    (omega (arith, w .vertices, w .well .vertices), omega (arith, w .edges, w .well .edges))
+reading-small g (Refused refusal) e = tt
+
+-- ---- class counts
+
+classes-well : (game marks spare classes : List ℕ) → Clean (classRows game marks spare classes) → WellFormed game
+unfolding classRows
+classes-well game marks spare classes c = clean-well game (clean-split (gameRows game) _ c .0)
+
+total-le : (game : List ℕ) → classTotal game ≤ vertexCount game
+unfolding classTotal gameOf
+total-le game = classCount-le (vertexCount game) (order (gameOf game)) (order-preorder (gameOf game))
+
+first-count : {x y : ℕ} {xs ys : List ℕ} → x ∷ xs ≡ y ∷ ys → x ≡ y
+first-count {x} e = ap (λ (l : List ℕ). getD l 0 x) e
+
+second-count : {x y z w : ℕ} {xs ys : List ℕ} → x ∷ y ∷ xs ≡ z ∷ w ∷ ys → y ≡ w
+second-count {y} e = ap (λ (l : List ℕ). getD l 1 y) e
+
+third-count : {x y z u v w : ℕ} {xs ys : List ℕ} → x ∷ y ∷ z ∷ xs ≡ u ∷ v ∷ w ∷ ys → z ≡ w
+third-count {z} e = ap (λ (l : List ℕ). getD l 2 z) e
+
+pub classification-small : (game marks spare classes : List ℕ) (c : Classification) (marks′ spare′ classes′ : List ℕ)
+    → ClassesCall game marks spare classes (classificationAnswer c) marks′ spare′ classes′ → SmallCount c
+classification-small game marks spare classes (Classification.Accepted count) marks′ spare′ classes′ call =
+    let a = judge-accepted (classRows game marks spare classes) _ _ (sym (call .verdict)) in
+    omega (arith, first-count (a .1), total-le game, classes-well game marks spare classes (a .0) .vertices)
+classification-small game marks spare classes (Classification.Refused refusal) marks′ spare′ classes′ call = tt
+
+-- ---- a table's counts, for a game K of classes that is no larger
+
+pub tabulation-small : (K : Game → Game) → ((g : Game) → K g .n ≤ g .n) → ((g : Game) → edgeCount (K g) ≤ edgeCount g)
+    → (game marks spare classes output : List ℕ) (t : Tabulation) (marks′ spare′ classes′ output′ : List ℕ)
+    → TableCall K game marks spare classes output (tabulationAnswer t) marks′ spare′ classes′ output′ → SmallCounts t
+unfolding tableRows gameOf
+tabulation-small K size edges game marks spare classes output (Tabulation.Accepted counts) marks′ spare′ classes′ output′ call =
+    let a = judge-accepted (tableRows game marks spare classes output) _ _ (sym (call .verdict)) in
+    let well = classes-well game marks spare classes (clean-split (classRows game marks spare classes) _ (a .0) .0) in
+    let listed = lists-length (K (gameOf game)) (call .edges) (call .listed) in
+    (
+      omega (arith, first-count (a .1), total-le game, well .vertices),
+      omega (arith, second-count (a .1), size (gameOf game), well .vertices),
+      omega (arith, third-count (a .1), listed, edges (gameOf game), edges-listed game, well .edges)
+    )
+tabulation-small K size edges game marks spare classes output (Tabulation.Refused refusal) marks′ spare′ classes′ output′ call = tt

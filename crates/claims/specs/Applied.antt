@@ -1,0 +1,104 @@
+-- The theorems of `Demands` applied to game D, whose vertices 0 and 5 are class 0: plans of the smallest games that a reader can follow.
+use mathlib.Core.Path.{_≡_, refl}
+use mathlib.Core.Bool.{So}
+use mathlib.Core.List.{List, [], _∷_}
+use Prim.Native.Nat.{ℕ, _<_}
+use native.Mathlib.Omega.{arith}
+use lib.ListN.{getD, replicate}
+use Rattle.theory.specs.Range.{pairsOf}
+use Rattle.theory.specs.Game.{even, odd}
+use Rattle.theory.specs.Plan.{Plan, Wins, Won}
+use Rattle.theory.specs.PlanTest.{surelyWins}
+use Rattle.theory.specs.PlanTestLaws.{surely-wins}
+use Rattle.theory.specs.Reduction.{reduced}
+use Rattle.theory.specs.Compute.{compute}
+use Rattle.table.specs.Table.{vertexCount, gameOf, playerOf, isEdge}
+use Rattle.table.specs.Verdict.{Answer, accepted, judge, written, after}
+use Rattle.table.specs.Reading.{repeatsEarlier, lacksEdge, firstOwner, firstEnd, firstRepeat, firstLacking, gameRows}
+use Rattle.order.specs.Bytes.{bytes}
+use Rattle.reduction.specs.ClassTable.{ownerWord, tableWords}
+use Rattle.reduction.specs.ClassTableLaws.{pairsOf-lists}
+use Rattle.reduction.specs.Calls.{classRows, tableRows, classTotal, classWords, TableCall}
+use Rattle.claims.specs.Demands.{LeavesOrder, even-up, odd-down, reduced-faithful, table-winner}
+
+-- D: C with vertex 5, priority 2, Even's, edge to 2
+abbrev pub gameD : List ℕ
+gameD =
+    6 ∷ 8 ∷ 2 ∷ 0 ∷ 0 ∷ 1 ∷ 4 ∷ 2 ∷ 0 ∷ 0 ∷ 0 ∷ 0 ∷ 0 ∷ 0
+    ∷ 0 ∷ 0 ∷ 1 ∷ 2 ∷ 2 ∷ 3 ∷ 4 ∷ 5
+    ∷ 1 ∷ 2 ∷ 3 ∷ 3 ∷ 4 ∷ 3 ∷ 4 ∷ 2 ∷ []
+
+abbrev marksD : List ℕ
+marksD =
+    1 ∷ 0 ∷ 0 ∷ 0 ∷ 0 ∷ 1
+    ∷ 0 ∷ 1 ∷ 1 ∷ 0 ∷ 0 ∷ 0
+    ∷ 0 ∷ 0 ∷ 1 ∷ 0 ∷ 0 ∷ 0
+    ∷ 0 ∷ 0 ∷ 0 ∷ 1 ∷ 0 ∷ 0
+    ∷ 0 ∷ 0 ∷ 0 ∷ 0 ∷ 1 ∷ 0
+    ∷ 1 ∷ 0 ∷ 0 ∷ 0 ∷ 0 ∷ 1
+    ∷ []
+
+abbrev classesD : List ℕ
+classesD = 0 ∷ 1 ∷ 2 ∷ 3 ∷ 4 ∷ 0 ∷ []
+
+-- the reduced game: 5 vertices, 6 edges; six words of the output stay old
+abbrev outputD : List ℕ
+outputD =
+    5 ∷ 6 ∷ 2 ∷ 0 ∷ 0 ∷ 1 ∷ 4 ∷ 0 ∷ 0 ∷ 0 ∷ 0 ∷ 0
+    ∷ 0 ∷ 1 ∷ 2 ∷ 2 ∷ 3 ∷ 4
+    ∷ 2 ∷ 3 ∷ 3 ∷ 4 ∷ 3 ∷ 4
+    ∷ 9 ∷ 9 ∷ 9 ∷ 9 ∷ 9 ∷ 9 ∷ []
+
+abbrev answerD : Answer
+answerD = accepted (5 ∷ 5 ∷ 6 ∷ [])
+
+-- what the reduced-game call does with D, computed
+pub callD : TableCall reduced gameD (replicate 36 9) (replicate 36 9) (replicate 6 9) (replicate 30 9) answerD marksD marksD classesD outputD
+unfolding compute gameOf playerOf isEdge judge written after gameRows firstOwner firstEnd firstRepeat firstLacking repeatsEarlier lacksEdge bytes ownerWord tableWords classRows tableRows classTotal classWords
+callD = record {
+  edges = pairsOf (reduced (gameOf gameD) .n) (reduced (gameOf gameD) .edge);
+  listed = pairsOf-lists (reduced (gameOf gameD));
+  verdict = refl;
+  marks-after = refl;
+  spare-after = refl;
+  classes-after = refl;
+  output-after = refl;
+}
+
+-- ---- from class 0 of the written table to vertex 5
+
+abbrev pub classPlan : Plan
+classPlan = record { vertices = 0 ∷ 2 ∷ 4 ∷ []; links = (0, 1) ∷ (1, 2) ∷ (2, 2) ∷ [] }
+
+classPlan-wins : Wins even (gameOf (5 ∷ 6 ∷ 2 ∷ 0 ∷ 0 ∷ 1 ∷ 4 ∷ 0 ∷ 0 ∷ 0 ∷ 0 ∷ 0 ∷ 0 ∷ 1 ∷ 2 ∷ 2 ∷ 3 ∷ 4 ∷ 2 ∷ 3 ∷ 3 ∷ 4 ∷ 3 ∷ 4 ∷ [])) classPlan 0
+unfolding compute gameOf playerOf isEdge
+classPlan-wins = surely-wins even _ classPlan 0 refl
+
+pub won-5 : Won even (gameOf gameD) 5
+won-5 =
+    table-winner reduced reduced-faithful gameD (replicate 36 9) (replicate 36 9) (replicate 6 9) (replicate 30 9) answerD marksD marksD classesD outputD
+    callD 5 5 6 refl even 5 (omega arith) .1 (classPlan, classPlan-wins)
+
+-- ---- from vertex 0 up to vertex 5, along byte 5 of the marks
+
+abbrev pub leftD : LeavesOrder gameD answerD (replicate 36 9) marksD
+leftD = callD .marks-after
+
+plan-0 : Wins even (gameOf gameD) classPlan 0
+unfolding compute gameOf playerOf isEdge
+plan-0 = surely-wins even _ classPlan 0 refl
+
+pub up-5 : Won even (gameOf gameD) 5
+up-5 = even-up gameD (replicate 36 9) marksD (5 ∷ 5 ∷ 6 ∷ []) answerD leftD refl 0 5 (omega arith) (omega arith) refl (classPlan, plan-0)
+
+-- ---- from vertex 3 down to vertex 3, along byte 21: Odd's loop of priority 1
+
+abbrev pub oddPlan : Plan
+oddPlan = record { vertices = 3 ∷ []; links = (0, 0) ∷ [] }
+
+plan-3 : Wins odd (gameOf gameD) oddPlan 3
+unfolding compute gameOf playerOf isEdge
+plan-3 = surely-wins odd _ oddPlan 3 refl
+
+pub down-3 : Won odd (gameOf gameD) 3
+down-3 = odd-down gameD (replicate 36 9) marksD (5 ∷ 5 ∷ 6 ∷ []) answerD leftD refl 3 3 (omega arith) (omega arith) refl (oddPlan, plan-3)

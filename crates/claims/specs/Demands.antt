@@ -1,0 +1,159 @@
+-- Demand 3 about what the promises name: tables that the reader accepts, marks that an accepted call leaves, relations that the acceptor
+-- passes, class words and written tables. Hypotheses are only: a call accepted, a byte is 1, a vertex is below n, a plan wins.
+use mathlib.Core.Path.{_≡_, refl, sym, ap, _∙_}
+use mathlib.Core.Logic.{_↔_}
+use mathlib.Core.Bool.{Bool, So}
+use mathlib.Core.List.{List, [], _∷_, _++_}
+use Prim.Native.Nat.{ℕ, _+_, _*_, _≤_, _<_}
+use native.Mathlib.Omega.{arith}
+use lib.Dec.{eqb}
+use lib.Arith.{digits-lt}
+use lib.ListN.{length, getD, take}
+use lib.Seq.{take-at}
+use borrow.Author.Tests.{eqb-true, eq-eqb}
+use Rattle.theory.specs.Range.{tabulate}
+use Rattle.theory.specs.ListLaws.{length-tabulate, getD-tabulate}
+use Rattle.theory.specs.Passes.{marked, relOf}
+use Rattle.theory.specs.Game.{Player, even, odd, Game, Total, edgeCount}
+use Rattle.theory.specs.Order.{order, orderMarks}
+use Rattle.theory.specs.OrderLaws.{length-orderMarks, order-in}
+use Rattle.theory.specs.Plan.{Won}
+use Rattle.theory.specs.Reduction.{quotient, reduced, classOf}
+use Rattle.theory.specs.ReductionLaws.{quotient-total, reduced-total, classOf-quotient, classOf-reduced}
+use Rattle.theory.specs.SizeLaws.{quotient-size, reduced-size, quotient-edges, reduced-edges}
+use Rattle.theory.specs.Demands as games
+use Rattle.theory.specs.AgreementLaws.{agree-winner, agree-sym}
+use Rattle.table.specs.Table.{vertexCount, tableEdges, tableLength, gameOf}
+use Rattle.table.specs.Verdict.{Answer, accepted, Clean, written, after}
+use Rattle.table.specs.VerdictLaws.{judge-accepted, clean-split, after-accepted, getD-written}
+use Rattle.table.specs.Reading.{gameRows, readAnswer}
+use Rattle.table.specs.ReadingLaws.{read-accepts, clean-well}
+use Rattle.table.specs.WellFormed.{WellFormed}
+use Rattle.table.specs.TableLaws.{edges-listed, game-total}
+use Rattle.order.specs.Bytes.{bytes, isMark}
+use Rattle.order.specs.BytesLaws.{mark-written}
+use Rattle.order.specs.RelationCall.{relationAnswer}
+use Rattle.order.specs.RelationRules.{Marked}
+use Rattle.order.specs.RelationRulesLaws.{passed-below}
+use Rattle.reduction.specs.ClassTable.{tableWords, Lists}
+use Rattle.reduction.specs.ClassTableLaws.{length-tableWords, tableWords-well, tableWords-agree}
+use Rattle.reduction.specs.ListsLaws.{lists-length}
+use Rattle.reduction.specs.Calls.{classRows, tableRows, classTotal, classWords, TableCall}
+
+-- ---- the written order: what the marks hold after a call that, by its rules, leaves the order there
+
+abbrev pub LeavesOrder : List ℕ → Answer → List ℕ → List ℕ → Type 0
+LeavesOrder game answer old new = new ≡ after answer (bytes (orderMarks (gameOf game))) old
+
+module _ (game old new counts : List ℕ) (answer : Answer) (left : LeavesOrder game answer old new) (accepts : answer ≡ accepted counts) where
+  -- byte v × n + w is 1 exactly if v is below w
+  pub written-mark : (v w : ℕ) → v < vertexCount game → w < vertexCount game
+      → (getD new (v * vertexCount game + w) 0 ≡ 1) ↔ So (order (gameOf game) v w)
+  unfolding order relOf gameOf isMark
+  written-mark v w hv hw =
+      let i = v * vertexCount game + w in
+      let e : isMark new i ≡ marked (orderMarks (gameOf game)) i =
+      rw (left, after-accepted (bytes (orderMarks (gameOf game))) old accepts)
+      (mark-written (orderMarks (gameOf game)) old i (omega (arith, digits-lt hv hw, length-orderMarks (gameOf game)))) in
+      (λ b. sym e ∙ eq-eqb (getD new i 0) 1 b, λ t. eqb-true (getD new i 0) 1 (e ∙ t))
+
+  -- "The written order contains every relation that the acceptor passes."
+  pub contains : (relation : List ℕ) → relationAnswer game relation ≡ accepted []
+      → (v w : ℕ) → v < vertexCount game → w < vertexCount game → Marked game relation v w → getD new (v * vertexCount game + w) 0 ≡ 1
+  unfolding gameOf
+  contains relation passes v w hv hw m = written-mark v w hv hw .1 (order-in (gameOf game) hv hw (passed-below game relation passes v w m))
+
+  -- "Where v is below w: a winning plan for Even from v gives one from w .."
+  pub even-up : (v w : ℕ) → v < vertexCount game → w < vertexCount game → getD new (v * vertexCount game + w) 0 ≡ 1
+      → Won even (gameOf game) v → Won even (gameOf game) w
+  unfolding gameOf
+  even-up v w hv hw b = games.even-up (gameOf game) v w hv hw (written-mark v w hv hw .0 b)
+
+  -- ".. a winning plan for Odd from w gives one from v."
+  pub odd-down : (v w : ℕ) → v < vertexCount game → w < vertexCount game → getD new (v * vertexCount game + w) 0 ≡ 1
+      → Won odd (gameOf game) w → Won odd (gameOf game) v
+  unfolding gameOf
+  odd-down v w hv hw b = games.odd-down (gameOf game) v w hv hw (written-mark v w hv hw .0 b)
+
+-- ---- written tables: what the quotient and the reduced game share
+
+pub record Faithful (K : Game → Game) : Type 0 where
+  pub total : (g : Game) → Total g → Total (K g)
+  pub size : (g : Game) → K g .n ≤ g .n
+  pub edges : (g : Game) → edgeCount (K g) ≤ edgeCount g
+  pub class : (g : Game) (v : ℕ) → v < g .n → classOf g v < K g .n
+  pub winner : (g : Game) (a : Player) (v : ℕ) → v < g .n → Won a g v ↔ Won a (K g) (classOf g v)
+
+pub quotient-faithful : Faithful quotient
+quotient-faithful = record { total = quotient-total; size = quotient-size; edges = quotient-edges; class = classOf-quotient; winner = games.quotient-winner }
+
+pub reduced-faithful : Faithful reduced
+reduced-faithful = record { total = reduced-total; size = reduced-size; edges = reduced-edges; class = classOf-reduced; winner = games.reduced-winner }
+
+module _ (K : Game → Game) (faithful : Faithful K) (game marks spare classes output : List ℕ) (answer : Answer) (marks′ spare′ classes′ output′ : List ℕ)
+    (call : TableCall K game marks spare classes output answer marks′ spare′ classes′ output′)
+    (k n e : ℕ) (accepts : answer ≡ accepted (k ∷ n ∷ e ∷ [])) where
+  -- the written table has as many words as the verdict's counts tell
+  abbrev pub writtenTable : List ℕ
+  writtenTable = take (tableLength n e) output′
+
+  abbrev G : Game
+  G = gameOf game
+
+  record Counts : Type 0 where
+    clean : Clean (tableRows game marks spare classes output)
+    vertices : K G .n ≡ n
+    edges : length (call .edges) ≡ e
+
+  counts : Counts
+  counts =
+      let a = judge-accepted (tableRows game marks spare classes output) _ _ (sym (call .verdict) ∙ accepts) in
+      record { clean = a .0; vertices = cc (a .1); edges = cc (a .1) }
+
+  well : WellFormed game
+  unfolding tableRows classRows
+  well = clean-well game (clean-split (gameRows game) _ (clean-split (classRows game marks spare classes) _ (counts .clean) .0) .0)
+
+  table-is : writtenTable ≡ tableWords (K G) (call .edges)
+  unfolding written
+  table-is =
+      rw (call .output-after, after-accepted (tableWords (K G) (call .edges)) output accepts)
+      (take-at (tableWords (K G) (call .edges)) _ (tableLength n e) (length-tableWords (K G) (call .edges) ∙ rw (counts .vertices, counts .edges)))
+
+  vertex : (v : ℕ) → v < vertexCount game → v < G .n
+  unfolding gameOf
+  vertex v h = h
+
+  few : K G .n ≤ 256
+  unfolding gameOf
+  few = omega (arith, faithful .size G, well .vertices)
+
+  fits : length (call .edges) ≤ 4096
+  fits = omega (arith, lists-length (K G) (call .edges) (call .listed), faithful .edges G, edges-listed game, well .edges)
+
+  table-well : WellFormed writtenTable
+  table-well =
+      rw table-is
+      (tableWords-well (K G) (call .edges) (call .listed) (omega (arith, faithful .class G 0 (vertex 0 (well .some)))) few fits
+      (faithful .total G (game-total game well)))
+
+  -- the reader accepts the written table
+  pub table-read : readAnswer writtenTable ≡ accepted (n ∷ e ∷ [])
+  unfolding tableWords
+  table-read = read-accepts writtenTable table-well ∙ rw (table-is, counts .vertices, counts .edges)
+
+  class-word : (v : ℕ) → v < vertexCount game → getD classes′ v 0 ≡ classOf G v
+  unfolding classWords
+  class-word v h =
+      rw (call .classes-after, after-accepted (classWords game) classes accepts)
+      (getD-written (classWords game) classes v 0 (omega (arith, length-tabulate (vertexCount game) (classOf G)))
+      ∙ getD-tabulate (vertexCount game) (classOf G) 0 v h)
+
+  -- "Each player has a winning plan from a vertex exactly when that player has one from its class in the reduced game."
+  pub table-winner : (a : Player) (v : ℕ) → v < vertexCount game → Won a (gameOf game) v ↔ Won a (gameOf writtenTable) (getD classes′ v 0)
+  table-winner a v h =
+      let there = faithful .winner G a v (vertex v h) in
+      let back =
+      agree-winner a (K G) (gameOf (tableWords (K G) (call .edges))) (agree-sym (tableWords-agree (K G) (call .edges) (call .listed))) (classOf G v)
+      (faithful .class G v (vertex v h)) in
+      rw (table-is, class-word v h) (λ w. back .0 (there .0 w), λ w. there .1 (back .1 w))

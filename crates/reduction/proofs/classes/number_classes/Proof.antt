@@ -1,0 +1,84 @@
+use Rattle.reduction.specs.NumberingLaws.{numbered-start}
+use mathlib.Core.Path.{_≡_, ap, _∙_}
+use Prim.Native.Nat.{_+_, _-_, _≤_}
+use native.Mathlib.Omega.{arith}
+use lib.ListN.{length, length-set}
+use Rattle.theory.specs.Range.{tabulate, count}
+use Rattle.theory.specs.Reduction.{classOf}
+use Rattle.table.specs.Table.{vertexCount, gameOf}
+use Rattle.table.specs.Verdict.{written}
+use Rattle.reduction.specs.Numbering.{Numbered}
+use Rattle.reduction.specs.Calls.{classWords}
+use Rattle.reduction.specs.PlacingLaws.{written-start, written-more}
+use borrow.Author.Needs.{needs}
+use Rattle.reduction.proofs.classes.number_classes.Statement.{statement}
+use Rattle.reduction.proofs.classes.number_classes.Tie as tie
+
+abbrev Inv-loop : tie.InvT-loop
+Inv-loop game marks classes₀ reps₀ n k₀ v₀ classes reps k v = (v ≤ n) × (length classes ≡ length classes₀) × (length reps ≡ length reps₀) × (classes ≡ written (tabulate v (classOf (gameOf game))) classes₀) × Numbered (gameOf game) v k classes reps
+
+abbrev μ-loop : tie.MeasureT-loop
+μ-loop game marks classes₀ reps₀ n k₀ v₀ classes reps k v = n - v
+
+shared-slice-read-n : tie.Need-shared-slice-read-n Inv-loop μ-loop
+shared-slice-read-n c = search needs
+
+cast-n : tie.Need-cast-n Inv-loop μ-loop
+cast-n c = search needs
+
+loop-holds : tie.Need-loop-holds Inv-loop μ-loop
+loop-holds c = (search needs, search needs, search needs, written-start _ _, numbered-start _ _ _)
+
+number-vertex-requires : tie.Need-number-vertex-requires Inv-loop μ-loop
+number-vertex-requires c κs =
+    let l = c .before .before .before .loop in
+    let s = c .before .before .before .before .before .before .before .before .before in
+    (s .pre .0, (s .pre .1 .0, ((c .before .before .loop-test .taken, omega arith, omega arith), l .inv .4)))
+
+add-v : tie.Need-add-v Inv-loop μ-loop
+add-v c = search needs
+
+loop-less : tie.Need-loop-less Inv-loop μ-loop
+loop-less c = search needs
+
+loop-again : tie.Need-loop-again Inv-loop μ-loop
+loop-again c =
+    let a = c .before .before .before .before in
+    let l = a .before .before .before .before .loop in
+    let e = a .number-vertex .ensures .0 in (
+      search needs,
+      ap length e ∙ simp length-set (l .inv .1),
+      omega (arith, a .number-vertex .kept, l .inv .2),
+      e ∙ rw (l .inv .3) (written-more _ (l .v) _ (omega arith)),
+      a .number-vertex .ensures .1,
+    )
+
+same-length : tie.Need-same-length Inv-loop μ-loop
+same-length c = search needs
+
+same-length-2 : tie.Need-same-length-2 Inv-loop μ-loop
+same-length-2 c = search needs
+
+returns : tie.Need-returns Inv-loop μ-loop
+unfolding classWords
+returns c =
+    let l = c .before .loop in
+    let e : l .v ≡ vertexCount (c .before .before .before .before .before .before .before .args .game .now) = omega arith in
+    (rw e at (l .inv .3), rw e at (l .inv .4))
+
+pub number-classes-spec : {M : Type 1} → statement M
+number-classes-spec =
+    tie.close
+    (tie.spec
+    Inv-loop
+    μ-loop
+    shared-slice-read-n
+    cast-n
+    loop-holds
+    number-vertex-requires
+    add-v
+    loop-less
+    loop-again
+    same-length
+    same-length-2
+    returns)

@@ -1,0 +1,70 @@
+use mathlib.Core.Path.{_≡_}
+use Prim.Native.Nat.{_≤_}
+use native.Mathlib.Omega.{arith}
+use lib.ListN.{length}
+use Rattle.table.specs.Table.{gameOf}
+use Rattle.reduction.specs.Rows.{gameBy}
+use Rattle.reduction.specs.PickedLaws.{length-picked}
+use Rattle.reduction.specs.NumberingLaws.{classes-few}
+use Rattle.reduction.specs.EdgesLaws.{appended-row}
+use borrow.Author.Needs.{needs}
+use Rattle.reduction.proofs.tables.append_class.Statement.{statement}
+use Rattle.reduction.proofs.tables.append_class.Tie as tie
+
+abbrev start : tie.After-row → tie.Start
+start c = c .before .before .before .before .before .before .before .before .before
+
+few : (s : tie.Start) → s .args .k ≤ 256
+few s = omega (arith, s .pre .1 .0 .1, classes-few (s .args .game .now) (s .pre .0 .well))
+
+slice-aggregate-class-row : tie.Need-slice-aggregate-class-row
+slice-aggregate-class-row c = search needs
+
+class-row-requires : tie.Need-class-row-requires
+class-row-requires c κs = let s = start c in (s .pre .0, (s .pre .1 .0 .0, s .pre .1 .0 .1, few s))
+
+cast-fill : tie.Need-cast-fill
+cast-fill c = let s = start (c .before .before .before) in omega (arith, s .pre .1 .0, few s)
+
+fill-requires : tie.Need-fill-requires
+fill-requires c κs = let a = c .before .before in omega (arith, a .class-row .ensures .0, start (a .before) .pre .1 .1 .0)
+
+slice-aggregate-copy : tie.Need-slice-aggregate-copy
+slice-aggregate-copy c = search needs
+
+copy-requires : tie.Need-copy-requires
+copy-requires c κs =
+    let a = c .before .before .before .before .before .before .before in
+    let s = start (a .before) in
+    (omega (arith, a .class-row .ensures .0, s .pre .1 .1 .1), omega (arith, a .class-row .kept, a .class-row .ensures .0, length-picked (gameBy (s .args .drop) (gameOf (s .args .game .now)) .edge (s .args .c)) (s .args .k), few s))
+
+add-result : tie.Need-add-result
+add-result c = let a = c .before .before .before .before .before .before .before .before .before .before in let s = start (a .before) in omega (arith, a .class-row .ensures .0, s .pre .1 .1 .0, s .good)
+
+same-length : tie.Need-same-length
+same-length c = search needs
+
+same-length-2 : tie.Need-same-length-2
+same-length-2 c = search needs
+
+returns : tie.Need-returns
+returns c =
+    let y = c .before .before in
+    let f = y .before .before .before .before .before in
+    let a = f .before .before .before in
+    appended-row _ _ _ _ _ _ _ _ _ _ (a .class-row .ensures .0) (a .class-row .ensures .1) (f .fill .ensures) (y .copy .ensures)
+
+pub append-class-spec : {M : Type 1} → statement M
+append-class-spec =
+    tie.close
+    (tie.spec
+    slice-aggregate-class-row
+    class-row-requires
+    cast-fill
+    fill-requires
+    slice-aggregate-copy
+    copy-requires
+    add-result
+    same-length
+    same-length-2
+    returns)

@@ -1,0 +1,130 @@
+use native.Mathlib.Nat.{le-refl}
+use mathlib.Core.Path.{_≡_, refl, _∙_}
+use Prim.Native.Nat.{ℕ, _+_, _≤_, _<_}
+use native.Mathlib.Omega.{arith}
+use lib.ListN.{length, getD, length-set}
+use Rattle.theory.specs.ListLaws.{length-tabulate}
+use Rattle.table.specs.Table.{vertexCount, gameOf}
+use Rattle.reduction.specs.Edges.{tableBy}
+use Rattle.reduction.specs.NumberingLaws.{classes-few, represented-lt}
+use Rattle.reduction.specs.EdgesLaws.{table-parts}
+use borrow.Author.Needs.{needs}
+use Rattle.reduction.proofs.tables.write_table.Statement.{statement}
+use Rattle.reduction.proofs.tables.write_table.Tie as tie
+
+abbrev start : tie.After-shared-slice-known5 → tie.Start
+start c = c .before .before .before .before .before .before
+
+few : (s : tie.Start) → s .args .k ≤ 256
+few s = omega (arith, s .pre .0 .2, classes-few (s .args .game .now) (s .pre .0 .0))
+
+-- the words of a representative are in the table
+inside : (s : tie.Start) (from i : ℕ) → from ≤ 2 + vertexCount (s .args .game .now) → i < s .args .k
+    → from + getD (s .args .reps .now) i 0 < length (s .args .game .now)
+unfolding gameOf
+inside s from i l h =
+    omega (arith, s .pre .0 .0 .size, represented-lt (gameOf (s .args .game .now)) (s .args .reps .now) (s .pre .0 .1) i (omega (arith, s .pre .0 .2)))
+
+-- the output keeps its length
+kept1 : (c : tie.After-gather) → length (c .gather .last .0) ≡ length (start (c .before .before) .args .output .now)
+kept1 c = c .gather .kept .0 ∙ simp length-set
+
+kept2 : (c : tie.After-gather2) → length (c .gather2 .last .0) ≡ length (start (c .before .before .before .before .before .before) .args .output .now)
+kept2 c = c .gather2 .kept .0 ∙ kept1 (c .before .before .before .before)
+
+kept3 : (c : tie.After-copy) → length (c .copy .last .0) ≡ length (start (c .before .before .before .before .before .before .before .before .before .before) .args .output .now)
+kept3 c = c .copy .kept .0 ∙ kept2 (c .before .before .before .before)
+
+shared-slice-read-n : tie.Need-shared-slice-read-n
+shared-slice-read-n c = search needs
+
+cast-n : tie.Need-cast-n
+cast-n c = search needs
+
+cast-output : tie.Need-cast-output
+cast-output c = omega (arith, few (start c))
+
+slice-write-output : tie.Need-slice-write-output
+slice-write-output c = search needs
+
+cast-output-2 : tie.Need-cast-output-2
+cast-output-2 c = search needs
+
+slice-write-output-2 : tie.Need-slice-write-output-2
+slice-write-output-2 c = simp length-set (omega (arith, start c .pre .1))
+
+gather-requires : tie.Need-gather-requires
+gather-requires c κs =
+    let s = start (c .before) in
+    ((simp length-set (omega (arith, s .pre .1)), omega (arith, s .pre .0 .1 .long, s .pre .0 .2)), λ i h. inside s 2 i (omega arith) h)
+
+add-gather : tie.Need-add-gather
+add-gather c = omega (arith, few (start (c .before .before .before .before .before)))
+
+add-gather-2 : tie.Need-add-gather-2
+add-gather-2 c = omega (arith, start (c .before .before .before .before .before) .pre .0 .0 .vertices)
+
+gather-requires-2 : tie.Need-gather-requires-2
+gather-requires-2 c κs =
+    let s = start (c .before .before .before .before .before) in
+    ((omega (arith, kept1 (c .before .before .before), s .pre .1), omega (arith, s .pre .0 .1 .long, s .pre .0 .2)), λ i h. inside s _ i (le-refl _) h)
+
+mul-copy : tie.Need-mul-copy
+mul-copy c = omega (arith, few (start (c .before .before .before .before .before .before .before .before .before)))
+
+add-copy : tie.Need-add-copy
+add-copy c = omega (arith, few (start (c .before .before .before .before .before .before .before .before .before)))
+
+copy-requires : tie.Need-copy-requires
+copy-requires c κs = let s = start (c .before .before .before .before .before .before .before .before .before) in (omega (arith, kept2 (c .before .before .before), s .pre .1), omega (arith, s .pre .1))
+
+mul-copy-2 : tie.Need-mul-copy-2
+mul-copy-2 c = omega (arith, few (start (c .before .before .before .before .before .before .before .before .before .before .before .before .before)))
+
+add-copy-2 : tie.Need-add-copy-2
+add-copy-2 c = omega (arith, few (start (c .before .before .before .before .before .before .before .before .before .before .before .before .before)))
+
+add-copy-3 : tie.Need-add-copy-3
+add-copy-3 c = let s = start (c .before .before .before .before .before .before .before .before .before .before .before .before .before) in omega (arith, few s, s .pre .1)
+
+copy-requires-2 : tie.Need-copy-requires-2
+copy-requires-2 c κs = let s = start (c .before .before .before .before .before .before .before .before .before .before .before .before .before) in (omega (arith, kept3 (c .before .before .before), s .pre .1), omega (arith, s .pre .1))
+
+same-length : tie.Need-same-length
+same-length c = c .before .before .copy2 .kept .0 ∙ kept3 (c .before .before .before .before .before .before)
+
+returns : tie.Need-returns
+unfolding tableBy
+returns c =
+    let y = c .before .before in
+    let x = y .before .before .before .before in
+    let h = x .before .before .before .before in
+    let g = h .before .before .before .before in
+    let s = start (g .before .before) in
+    table-parts _ _ _ _ _ _ _ _ _ _ _ _
+    (length-tabulate _ _) (length-tabulate _ _) (length-tabulate _ _) (length-tabulate _ _) (s .pre .1 .3)
+    refl (g .gather .ensures) (h .gather2 .ensures) (x .copy .ensures) (y .copy2 .ensures)
+
+pub write-table-spec : {M : Type 1} → statement M
+write-table-spec =
+    tie.close
+    (tie.spec
+    shared-slice-read-n
+    cast-n
+    cast-output
+    slice-write-output
+    cast-output-2
+    slice-write-output-2
+    gather-requires
+    add-gather
+    add-gather-2
+    gather-requires-2
+    mul-copy
+    add-copy
+    copy-requires
+    mul-copy-2
+    add-copy-2
+    add-copy-3
+    copy-requires-2
+    same-length
+    returns)

@@ -1,0 +1,125 @@
+use mathlib.Core.Path.{_≡_, sym, ap, _∙_}
+use mathlib.Core.List.{[]}
+use Prim.Native.Nat.{_+_, _*_, _≤_}
+use native.Mathlib.Omega.{arith}
+use lib.ListN.{length}
+use Rattle.table.specs.Verdict.{judge}
+use Rattle.table.specs.Table.{vertexCount, tableEdges, tableLength}
+use Rattle.reduction.specs.declared.Memory.the-variants.{Enough}
+use Rattle.reduction.specs.Rows.{gameBy}
+use Rattle.reduction.specs.Answers.{memoryRows, memoryAnswer}
+use Rattle.reduction.specs.NumberingLaws.{ordered-written}
+use Rattle.reduction.specs.CallsLaws.{Fits, memory-fits, table-short, table-output-short, table-written}
+use borrow.Author.Needs.{needs}
+use Rattle.reduction.proofs.tabulate_classes.Statement.{statement}
+use Rattle.reduction.proofs.tabulate_classes.Tie as tie
+
+abbrev start : tie.After-judge-memory → tie.Start
+start c = c .before .before .before .before .before .before
+
+-- what the memory's judge said of these buffers
+judged : (c : tie.After-judge-memory)
+    → let a = start c .args in
+    memoryAnswer (c .judge-memory .result) ≡ judge (memoryRows (vertexCount (a .game .now)) (length (a .marks .now)) (length (a .spare .now)) (length (a .classes .now))) []
+judged c = rw (← start c .pre .vertices) (c .judge-memory .ensures)
+
+enough : (c : tie.After-enum-told)
+    → let a = start (c .before .before) .args in
+    memoryAnswer Enough ≡ judge (memoryRows (vertexCount (a .game .now)) (length (a .marks .now)) (length (a .spare .now)) (length (a .classes .now))) []
+enough c = ap memoryAnswer (sym (c .enum-told .given .1)) ∙ judged (c .before .before)
+
+fits : (c : tie.After-enum-told) → let a = start (c .before .before) .args in Fits (a .game .now) (a .marks .now) (a .spare .now) (a .classes .now)
+fits c = memory-fits _ _ _ _ (enough c)
+
+-- the output's length needed
+needed : (s : tie.Start) → 2 + 2 * s .args .sizes .vertices + 2 * s .args .sizes .edges ≡ tableLength (vertexCount (s .args .game .now)) (tableEdges (s .args .game .now))
+needed s = omega (arith, s .pre .vertices, s .pre .edges)
+
+abbrev told-at : tie.After-fill-order → tie.After-enum-told
+told-at c = c .before .before .before .before .before .before
+
+judge-memory-requires : tie.Need-judge-memory-requires
+judge-memory-requires c κs = let p = c .before .before .before .before .before .pre in omega (arith, p .vertices, p .well .vertices)
+
+enum-known-memory : tie.Need-enum-known-memory
+enum-known-memory c = search needs
+
+returns : tie.Need-returns
+returns c =
+    let j = c .before .before .before in
+    table-short _ _ _ _ _ _ (start j .pre .well) _ (ap memoryAnswer (sym (c .before .memory .given .1)) ∙ judged j)
+
+enum-told : tie.Need-enum-told
+enum-told c = search needs
+
+mul-needed : tie.Need-mul-needed
+mul-needed c = let p = start (c .before .before .before) .pre in omega (arith, p .vertices, p .edges, p .well .vertices, p .well .edges)
+
+add-needed : tie.Need-add-needed
+add-needed c = let p = start (c .before .before .before) .pre in omega (arith, p .vertices, p .edges, p .well .vertices, p .well .edges)
+
+mul-needed-2 : tie.Need-mul-needed-2
+mul-needed-2 c = let p = start (c .before .before .before .before) .pre in omega (arith, p .vertices, p .edges, p .well .vertices, p .well .edges)
+
+add-needed-2 : tie.Need-add-needed-2
+add-needed-2 c = let p = start (c .before .before .before .before) .pre in omega (arith, p .vertices, p .edges, p .well .vertices, p .well .edges)
+
+returns-2 : tie.Need-returns-2
+returns-2 c =
+    let t = c .before .before .before in
+    let s = start (t .before .before) in
+    rw (needed s) (table-output-short _ _ _ _ _ _ (s .pre .well) (enough t) (rw (needed s) at (c .if1 .taken)))
+
+fill-order-requires : tie.Need-fill-order-requires
+fill-order-requires c κs =
+    let t = c .before .before .before .before .before in
+    (start (t .before .before) .pre .well, (fits t .marks-fit, fits t .spare-fit))
+
+fill-table-requires : tie.Need-fill-table-requires
+fill-table-requires c κs =
+    let o = c .before .before .before .before .before .before .before in
+    let t = told-at o in
+    let s = start (t .before .before) in
+    ((s .pre .well, rw (o .fill-order .ensures .marks) (ordered-written _ _ (fits t .marks-fit))), (fits t .classes-fit, omega (arith, needed s, o .before .before .before .if1 .left)))
+
+same-length : tie.Need-same-length
+same-length c = search needs
+
+same-length-2 : tie.Need-same-length-2
+same-length-2 c = search needs
+
+same-length-3 : tie.Need-same-length-3
+same-length-3 c = search needs
+
+same-length-4 : tie.Need-same-length-4
+same-length-4 c = search needs
+
+returns-3 : tie.Need-returns-3
+returns-3 c =
+    let x = c .before .before .before .before in
+    let o = x .before .before .before .before .before .before .before .before in
+    let t = told-at o in
+    let s = start (t .before .before) in
+    table-written _ _ _ _ _ _ (s .pre .well) (enough t) (omega (arith, needed s, o .before .before .before .if1 .left)) _ _ _ _ _ _
+    (o .fill-order .ensures) (x .fill-table .ensures)
+
+pub tabulate-classes-spec : {M : Type 1} → statement M
+tabulate-classes-spec =
+    tie.close
+    (tie.spec
+    judge-memory-requires
+    enum-known-memory
+    returns
+    enum-told
+    mul-needed
+    add-needed
+    mul-needed-2
+    add-needed-2
+    returns-2
+    fill-order-requires
+    fill-table-requires
+    same-length
+    same-length-2
+    same-length-3
+    same-length-4
+    returns-3)

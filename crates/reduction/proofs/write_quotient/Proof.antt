@@ -1,0 +1,60 @@
+use Rattle.table.specs.ReadingLaws.{reading-accepted}
+use Rattle.reduction.specs.Rows.{gameBy}
+use Rattle.reduction.specs.CallsLaws.{table-handed}
+use borrow.Author.Needs.{needs}
+use Rattle.reduction.proofs.write_quotient.Statement.{statement}
+use Rattle.reduction.proofs.write_quotient.Tie as tie
+
+read-requires : tie.Need-read-requires
+read-requires c κs = search needs
+
+enum-known-reading : tie.Need-enum-known-reading
+enum-known-reading c = search needs
+
+enum-told : tie.Need-enum-told
+enum-told c = search needs
+
+refusal-of-requires : tie.Need-refusal-of-requires
+refusal-of-requires c κs = search needs
+
+returns : tie.Need-returns
+returns c =
+    let t = c .before .enum-told .given in
+    rw (c .refusal-of .ensures, t .1) (table-handed _ _ _ _ _ _ (t .0 .0) (rw (t .1) at (c .before .before .before .read .ensures)))
+
+tabulate-classes-requires : tie.Need-tabulate-classes-requires
+tabulate-classes-requires c κs =
+    let r = c .before .before .before .before .before in
+    reading-accepted _ _ (rw (r .reading .given .1) at (r .before .before .read .ensures))
+
+same-length : tie.Need-same-length
+same-length c = search needs
+
+same-length-2 : tie.Need-same-length-2
+same-length-2 c = search needs
+
+same-length-3 : tie.Need-same-length-3
+same-length-3 c = search needs
+
+same-length-4 : tie.Need-same-length-4
+same-length-4 c = search needs
+
+returns-2 : tie.Need-returns-2
+unfolding gameBy
+returns-2 c = c .before .before .before .before .before .before .before .before .tabulate-classes .ensures
+
+pub write-quotient-spec : {M : Type 1} → statement M
+write-quotient-spec =
+    tie.close
+    (tie.spec
+    read-requires
+    enum-known-reading
+    enum-told
+    refusal-of-requires
+    returns
+    tabulate-classes-requires
+    same-length
+    same-length-2
+    same-length-3
+    same-length-4
+    returns-2)

@@ -1,0 +1,16 @@
+pub mod ClassTable
+pub mod ClassTableLaws
+pub mod ListsLaws
+pub mod Calls
+pub mod Placing
+pub mod PlacingLaws
+pub mod Numbering
+pub mod NumberingLaws
+pub mod Rows
+pub mod RowsLaws
+pub mod RivalsLaws
+pub mod PickedLaws
+pub mod Edges
+pub mod EdgesLaws
+pub mod Answers
+pub mod CallsLaws

@@ -1,0 +1,97 @@
+-- The edges of one class as the code finds them: by counting, for each class d, the members that reach d. No public promise cites these.
+use mathlib.Core.Path.{_≡_}
+use mathlib.Core.Bool.{Bool, true, false, not, cond}
+use mathlib.Core.List.{List, [], _∷_, _++_}
+use Prim.Native.Nat.{ℕ, zero, suc, _+_, _*_, _≤_, _<_}
+use lib.Dec.{eqb, leb}
+use lib.ListN.{length, getD}
+use Rattle.theory.specs.Bools.{_&_, imp}
+use Rattle.theory.specs.Range.{allBelow, anyBelow}
+use Rattle.theory.specs.Game.{Game}
+use Rattle.theory.specs.Order.{anyNext, order}
+use Rattle.theory.specs.Reduction.{representative, classOf, worse, quotient, reduced}
+use Rattle.table.specs.Table.{gameOf}
+use Rattle.table.specs.WellFormed.{WellFormed}
+use Rattle.order.specs.Bytes.{isMark}
+use Rattle.order.specs.Index.{Index}
+use Rattle.reduction.specs.Numbering.{Ordered, Classed, Represented}
+
+-- ---- members and what they reach
+
+-- v has a successor in class d
+unfoldable pub reaches : Game → ℕ → ℕ → Bool
+reaches G v d = anyNext G v (λ w. eqb (classOf G w) d)
+
+-- every member of class c among the vertices below v has
+unfoldable pub membersReach : Game → ℕ → ℕ → ℕ → Bool
+membersReach G c v d = allBelow v (λ u. imp (eqb (classOf G u) c) (reaches G u d))
+
+-- some target from place a on, below e, has class d
+unfoldable pub runReaches : List ℕ → List ℕ → ℕ → ℕ → ℕ → Bool
+runReaches classes targets a e d = anyBelow e (λ k. leb a k & eqb (getD classes (getD targets k 0) 0) d)
+
+-- the targets from place a on, below e, are there, and their classes are below size
+pub record RunInside (classes targets : List ℕ) (size a e : ℕ) : Type 0 where
+  pub ascends : a ≤ e
+  pub within : e ≤ length targets
+  pub vertices : (k : ℕ) → a ≤ k → k < e → getD targets k 0 < length classes
+  pub numbers : (k : ℕ) → a ≤ k → k < e → getD classes (getD targets k 0) 0 < size
+
+-- v is a member of class c, and one of its targets has class d
+unfoldable pub memberReaches : List ℕ → List ℕ → List ℕ → ℕ → ℕ → ℕ → Bool
+memberReaches classes offsets targets c v d =
+    eqb (getD classes v 0) c & runReaches classes targets (getD offsets v 0) (getD offsets (v + 1) 0) d
+
+-- a count that is s becomes s + 1
+unfoldable pub raise : ℕ → ℕ → ℕ
+raise s x = cond (eqb x s) (s + 1) x
+
+-- the counts that are s, at numbers that pass, are raised to s + 1
+pub record Raised (s : ℕ) (p : ℕ → Bool) (old new : List ℕ) : Type 0 where
+  pub at : (d : ℕ) → getD new d 0 ≡ cond (eqb (getD old d 0) s & p d) (s + 1) (getD old d 0)
+
+-- s members of class c are passed; the count of d is s exactly where each of them reaches d
+pub record Counted (G : Game) (c v s : ℕ) (counts : List ℕ) : Type 0 where
+  pub few : s ≤ v
+  pub most : (d : ℕ) → getD counts d 0 ≤ s
+  pub all : (d : ℕ) → eqb (getD counts d 0) s ≡ membersReach G c v d
+
+-- ---- edges that are kept
+
+-- e is another class than d, and has the mark that its representative has from base on, by stride
+unfoldable pub rivalMark : List ℕ → List ℕ → ℕ → ℕ → ℕ → ℕ → Bool
+rivalMark marks reps d base stride e = not (eqb e d) & isMark marks (base + getD reps e 0 * stride)
+
+-- among the first q rivals there is another class than d, no worse than d for the owner of class c
+unfoldable pub beaten : Game → List ℕ → ℕ → ℕ → ℕ → Bool
+beaten G rivals q c d =
+    anyBelow q (λ j.
+    not (eqb (getD rivals j 0) d)
+    & worse (G .owner (representative (G .n) (order G) c)) (order G) (representative (G .n) (order G) d) (representative (G .n) (order G) (getD rivals j 0)))
+
+-- class c has a quotient edge to d, by the counts, and none of the rivals drops it
+unfoldable pub keeps : Game → List ℕ → ℕ → List ℕ → ℕ → ℕ → ℕ → Bool
+keeps G counts s rivals q c d = eqb (getD counts d 0) s & not (beaten G rivals q c d)
+
+-- the numbers below n that pass, ascending
+unfoldable pub picked : ℕ → (ℕ → Bool) → List ℕ
+picked zero p = []
+picked (suc n) p = picked n p ++ cond (p n) (n ∷ []) []
+
+-- the edge from c to d
+abbrev pub edgeTo : ℕ → ℕ → ℕ × ℕ
+edgeTo c d = (c, d)
+
+-- the game of classes without and with dropped edges
+unfoldable pub gameBy : Bool → Game → Game
+gameBy false = quotient
+gameBy true = reduced
+
+-- ---- what is known before the edges are listed
+
+pub record Prepared (game marks classes reps offsets targets : List ℕ) : Type 0 where
+  pub well : WellFormed game
+  pub ordered : Ordered (gameOf game) marks
+  pub classed : Classed (gameOf game) classes
+  pub represented : Represented (gameOf game) reps
+  pub index : Index (gameOf game) offsets targets

@@ -1,0 +1,202 @@
+-- Laws of the edges of one class.
+use mathlib.Core.Path.{_≡_, refl, sym, ap, ap₂, _∙_}
+use mathlib.Core.Logic.{_⊎_, inl, inr}
+use mathlib.Core.Bool.{Bool, true, false, not, cond, So}
+use mathlib.Core.List.{List, [], _∷_, _++_, append-nil}
+use Prim.Native.Nat.{ℕ, zero, suc, _+_, _≤_, _<_}
+use native.Mathlib.Decide.{decLt, ℕ-discrete}
+use native.Mathlib.Numerals.{add-one}
+use native.Mathlib.Omega.{arith}
+use native.Mathlib.Nat.{not-suc-le-zero, add-zero}
+use lib.Dec.{eqb, leb}
+use lib.ListN.{length, getD, set, length-append, List·getD-append}
+use lib.Seq.{getD-set-same, getD-set-other, getD-append-seam}
+use borrow.Author.Tests.{eqb-true, eqb-false, eq-eqb, ne-eqb, le-leb, leb-true}
+use Rattle.theory.specs.Bools.{_&_, _or_, imp, bit}
+use Rattle.theory.specs.BoolsLaws.{decide, clash, So-ext, So-not, and-in, and-out, not-in, not-out, imp-in, imp-out}
+use Rattle.theory.specs.Range.{allBelow, anyBelow, count}
+use Rattle.theory.specs.RangeLaws.{any-in, any-out, all-in, all-out}
+use Rattle.theory.specs.Game.{Game, Next, Succ, Total}
+use Rattle.theory.specs.Order.{anyNext, order}
+use Rattle.theory.specs.OrderLaws.{anyNext-in, anyNext-out}
+use Rattle.theory.specs.Reduction.{sameClass, isLowest, classCount, classNumber, representative, classOf, quotientEdge, dropped, reducedEdge, worse, classGame, quotient, reduced}
+use Rattle.theory.specs.ClassLaws.{classNumber-same, representative-lt, representative-at, representative-one, representative-of, classNumber-lt, classCount-le}
+use Rattle.theory.specs.QuotientLaws.{order-preorder, quotientEdge-in, quotientEdge-out, Better, dropped-in, dropped-out}
+use Rattle.order.specs.Index.{InRun, Index}
+use Rattle.reduction.specs.Numbering.{Classed, classesIn}
+use Rattle.reduction.specs.Rows.{reaches, membersReach, runReaches, RunInside, memberReaches, raise, Raised, Counted, beaten, picked, gameBy}
+
+-- ---- one number more, for "some" and "each"
+
+pub any-more : (n : ℕ) (p : ℕ → Bool) → anyBelow (n + 1) p ≡ (anyBelow n p or p n)
+unfolding anyBelow
+any-more n p = rw (add-one n)
+
+all-more : (n : ℕ) (p : ℕ → Bool) → allBelow (n + 1) p ≡ allBelow n p & p n
+unfolding allBelow
+all-more n p = rw (add-one n)
+
+-- ---- raised counts
+
+raise-step : (s o : ℕ) (b : Bool) → raise s (cond (eqb o s & b) (s + 1) o) ≡ cond (eqb o s & (b or true)) (s + 1) o
+unfolding raise _&_ _or_
+raise-step s o b = go (eqb o s) refl b
+  where
+    go : (t : Bool) → eqb o s ≡ t → (b : Bool) → raise s (cond (t & b) (s + 1) o) ≡ cond (t & (b or true)) (s + 1) o
+    go true e true = rw (ne-eqb (s + 1) s (λ q. omega arith))
+    go true e false = rw e
+    go false e b = rw e
+
+or-false : (b : Bool) → (b or false) ≡ b
+unfolding _or_
+or-false true = refl
+or-false false = refl
+
+and-false : (b : Bool) → b & false ≡ false
+unfolding _&_
+and-false true = refl
+and-false false = refl
+
+pub and-true : (b : Bool) → b & true ≡ b
+unfolding _&_
+and-true true = refl
+and-true false = refl
+
+pub raised-none : (s : ℕ) (p : ℕ → Bool) (old : List ℕ) → ((d : ℕ) → p d ≡ false) → Raised s p old old
+raised-none s p old f = record { at = λ d. rw (f d, and-false (eqb (getD old d 0) s)) }
+
+pub raised-more : (s : ℕ) (p : ℕ → Bool) (old new : List ℕ) (x : ℕ) → Raised s p old new → x < length new
+    → Raised s (λ d. p d or eqb x d) old (set new x (raise s (getD new x 0)))
+raised-more s p old new x r h = record {
+  at = λ d. elim (ℕ-discrete x d) [
+    | yes e ↦ rw (eq-eqb x d e, ← e) (getD-set-same new x _ 0 h ∙ ap (raise s) (r .at x) ∙ raise-step s (getD old x 0) (p x))
+    | no m ↦ rw (ne-eqb x d m, or-false (p d)) (getD-set-other new x d _ 0 (λ e. m (sym e)) ∙ r .at d)
+  ];
+}
+
+pub raised-ext : (s : ℕ) (p q : ℕ → Bool) (old new : List ℕ) → ((d : ℕ) → p d ≡ q d) → Raised s p old new → Raised s q old new
+raised-ext s p q old new e r = record { at = λ d. rw (← e d) (r .at d) }
+
+-- ---- the members of a class, one vertex more
+
+module _ (G : Game) (c : ℕ) where
+  pub counted-start : (counts : List ℕ) → ((d : ℕ) → getD counts d 0 ≡ 0) → Counted G c 0 0 counts
+  unfolding membersReach allBelow
+  counted-start counts z = record { few = omega arith; most = λ d. omega (arith, z d); all = λ d. rw (z d) }
+
+  members-more : (v d : ℕ) → membersReach G c (v + 1) d ≡ membersReach G c v d & imp (eqb (classOf G v) c) (reaches G v d)
+  unfolding membersReach
+  members-more v d = all-more v _
+
+  pub counted-more : (v s : ℕ) (counts counts′ : List ℕ) → Counted G c v s counts → Raised s (λ d. eqb (classOf G v) c & reaches G v d) counts counts′
+      → Counted G c (v + 1) (s + bit (eqb (classOf G v) c)) counts′
+  unfolding imp _&_ bit
+  counted-more v s counts counts′ p r = go (eqb (classOf G v) c) refl r
+    where
+      bound : (d : ℕ) (b : Bool) → cond b (s + 1) (getD counts d 0) ≤ s + 1
+      bound d true = omega arith
+      bound d false = omega (arith, p .most d)
+
+      step : (d : ℕ) (t : Bool) → eqb (getD counts d 0) s ≡ t → (b : Bool) → eqb (cond (t & b) (s + 1) (getD counts d 0)) (s + 1) ≡ t & b
+      step d true f true = eq-eqb (s + 1) (s + 1) refl
+      step d true f false = ne-eqb (getD counts d 0) (s + 1) (λ q. omega (arith, p .most d))
+      step d false f b = ne-eqb (getD counts d 0) (s + 1) (λ q. omega (arith, p .most d))
+
+      go : (m : Bool) → eqb (classOf G v) c ≡ m → Raised s (λ d. m & reaches G v d) counts counts′ → Counted G c (v + 1) (s + bit m) counts′
+      go true e r = record {
+        few = omega (arith, p .few);
+        most = λ d. rw (r .at d) (bound d (eqb (getD counts d 0) s & reaches G v d));
+        all = λ d. rw (r .at d, members-more v d, e, ← p .all d) (step d (eqb (getD counts d 0) s) refl (reaches G v d));
+      }
+      go false e r =
+          let same : (d : ℕ) → getD counts′ d 0 ≡ getD counts d 0 = λ d. r .at d ∙ rw (and-false (eqb (getD counts d 0) s)) in record {
+            few = omega (arith, p .few);
+            most = λ d. omega (arith, same d, p .most d);
+            all = λ d. rw (same d, add-zero s, members-more v d, e, and-true (membersReach G c v d)) (p .all d);
+          }
+
+-- ---- what the places of a vertex reach
+
+-- no place yet
+pub run-none : (classes targets : List ℕ) (a d : ℕ) → runReaches classes targets a a d ≡ false
+unfolding runReaches
+run-none classes targets a d = So-not (λ t. let r = any-out t in absurd (omega (arith, r .1, leb-true a (r .0) (and-out (r .2) .0))))
+
+pub run-more : (classes targets : List ℕ) (a e d : ℕ) → a ≤ e
+    → runReaches classes targets a (e + 1) d ≡ (runReaches classes targets a e d or eqb (getD classes (getD targets e 0) 0) d)
+unfolding runReaches _&_
+run-more classes targets a e d h = any-more e _ ∙ rw (le-leb a e h)
+
+pub run-reaches : (G : Game) (offsets targets classes : List ℕ) → Index G offsets targets → ((u : ℕ) → u < G .n → getD classes u 0 ≡ classOf G u)
+    → (v : ℕ) → v < G .n → (d : ℕ) → runReaches classes targets (getD offsets v 0) (getD offsets (v + 1) 0) d ≡ reaches G v d
+unfolding runReaches reaches
+run-reaches G offsets targets classes index numbers v h d =
+    So-ext
+    (λ t.
+    let r = any-out t in
+    let q = and-out (r .2) in
+    let s = index .sound v (r .0) h (record { from = leb-true _ _ (q .0); below = r .1 }) in
+    anyNext-in G v _ (getD targets (r .0) 0) s (rw (← numbers _ (s .inside)) (q .1)))
+    (λ t.
+    let r = anyNext-out G v _ t in
+    let k = index .whole v (r .0) h (r .1) in
+    any-in _ _ (k .0) (k .1 .below) (and-in (le-leb _ _ (k .1 .from)) (rw (k .2, numbers (r .0) (r .1 .inside)) (r .2))))
+
+-- what `count_vertex` asks of the places of v, and what it tells
+module _ (G : Game) (offsets targets classes : List ℕ) (index : Index G offsets targets) (classed : Classed G classes) (v : ℕ) (h : v < G .n) where
+  pub run-inside : Total G → (size : ℕ) → G .n ≤ size → RunInside classes targets size (getD offsets v 0) (getD offsets (v + 1) 0)
+  unfolding classOf
+  run-inside total size l =
+      let t = total v h in
+      let r = index .whole v (t .0) h (t .1) .1 in
+      let inside : (k : ℕ) → getD offsets v 0 ≤ k → k < getD offsets (v + 1) 0 → getD targets k 0 < G .n =
+      λ k a b. index .sound v k h (record { from = a; below = b }) .inside in record {
+        ascends = omega (arith, r .from, r .below);
+        within = index .within v h;
+        vertices = λ k a b. omega (arith, inside k a b, classed .long);
+        numbers = λ k a b.
+            omega (arith, classed .numbers _ (inside k a b), class-lt (getD targets k 0) (inside k a b), classCount-le (G .n) (order G) (order-preorder G));
+      }
+    where
+      class-lt : (u : ℕ) → u < G .n → classOf G u < classesIn G
+      class-lt u l = classNumber-lt (G .n) (order G) (order-preorder G) u l
+
+  pub member-run : (c d : ℕ) → memberReaches classes offsets targets c v d ≡ eqb (classOf G v) c & reaches G v d
+  unfolding memberReaches
+  member-run c d = rw (classed .numbers v h, run-reaches G offsets targets classes index (classed .numbers) v h d)
+
+-- ---- all members reach d exactly where there is a quotient edge
+
+module _ (G : Game) where
+  abbrev rep : ℕ → ℕ
+  rep = representative (G .n) (order G)
+
+  rep-lt : (c : ℕ) → c < classesIn G → rep c < G .n
+  rep-lt = representative-lt (G .n) (order G) (order-preorder G)
+
+  class-rep : (c : ℕ) → c < classesIn G → classOf G (rep c) ≡ c
+  unfolding classOf classNumber isLowest
+  class-rep c h =
+      let r = representative-at (G .n) (order G) (order-preorder G) c h in
+      ap (λ (x : ℕ). count x (isLowest (G .n) (order G))) (eqb-true _ _ (r .passes)) ∙ r .number
+
+  -- a vertex has class number c exactly if it shares the class of c's representative
+  pub member-same : (u c : ℕ) → u < G .n → c < classesIn G → eqb (classOf G u) c ≡ sameClass (order G) u (rep c)
+  unfolding classOf
+  member-same u c hu hc =
+      let iff = classNumber-same (G .n) (order G) (order-preorder G) u (rep c) hu (rep-lt c hc) in
+      So-ext (λ t. iff .0 (eqb-true _ _ t ∙ sym (class-rep c hc))) (λ t. eq-eqb _ _ (iff .1 t ∙ class-rep c hc))
+
+  reaches-same : (u d : ℕ) → d < classesIn G → reaches G u d ≡ anyNext G u (λ w. sameClass (order G) w (rep d))
+  unfolding reaches
+  reaches-same u d h =
+      So-ext
+      (λ t. let r = anyNext-out G u _ t in anyNext-in G u _ (r .0) (r .1) (rw (← member-same (r .0) d (r .1 .inside) h) (r .2)))
+      (λ t. let r = anyNext-out G u _ t in anyNext-in G u _ (r .0) (r .1) (rw (member-same (r .0) d (r .1 .inside) h) (r .2)))
+
+  pub members-quotient : (c d : ℕ) → c < classesIn G → d < classesIn G → membersReach G c (G .n) d ≡ quotientEdge G (order G) (rep c) (rep d)
+  unfolding membersReach quotientEdge
+  members-quotient c d hc hd =
+      So-ext
+      (λ t. all-in (G .n) _ (λ u l. rw (← member-same u c l hc, ← reaches-same u d hd) (all-out t .at u l)))
+      (λ t. all-in (G .n) _ (λ u l. rw (member-same u c l hc, reaches-same u d hd) (all-out t .at u l)))

@@ -1,0 +1,159 @@
+// The table of a game of classes.
+use crate::TableCounts;
+use crate::classes;
+use crate::rows;
+use crate::words;
+ghost use mathlib.Core.Path.{_≡_};
+ghost use mathlib.Core.List.{map};
+ghost use Prim.Native.Nat.{ℕ, _+_, _*_, _<_, _≤_};
+ghost use lib.ListN.{length, getD};
+ghost use Rattle.theory.specs.Range.{pairsOf};
+ghost use Rattle.table.specs.Table.{vertexCount, tableEdges, tableLength, gameOf};
+ghost use Rattle.table.specs.Verdict.{written};
+ghost use Rattle.table.specs.WellFormed.{WellFormed};
+ghost use Rattle.reduction.specs.Numbering.{Ordered, Numbered, classesIn, Represented};
+ghost use Rattle.reduction.specs.Rows.{picked, edgeTo, gameBy, Prepared};
+ghost use Rattle.reduction.specs.Edges.{Appended, tableBy};
+ghost use Rattle.reduction.specs.Answers.{TableDone};
+
+// Puts the edges of class c behind the first e edges. Returns how many edges there are then.
+fn append_class(
+    game: &[u16],
+    marks: &[u8],
+    classes: &[u16],
+    reps: &[u16],
+    offsets: &[u16],
+    targets: &[u16],
+    k: usize,
+    drop: bool,
+    c: usize,
+    sources: &mut [u16],
+    ends: &mut [u16],
+    e: usize,
+) -> usize
+    requires { ⌜ Prepared (now game) (now marks) (now classes) (now reps) (now offsets) (now targets) ⌝ }
+    requires { ⌜ (c < k) × (k ≡ classesIn (gameOf (now game))) ⌝ }
+    requires { ⌜ e + length (picked k (gameBy drop (gameOf (now game)) .edge c)) ≤ length (now sources) ⌝ }
+    requires { ⌜ e + length (picked k (gameBy drop (gameOf (now game)) .edge c)) ≤ length (now ends) ⌝ }
+    ensures { λ r. ⌜ Appended (map (edgeTo c) (picked k (gameBy drop (gameOf (now (game .entry))) .edge c))) e (now (sources .entry)) (now (sources .exit)) (now (ends .entry)) (now (ends .exit)) r ⌝ }
+{
+    let mut row = [0u16; 256];
+    let r = rows::class_row(
+        game,
+        marks,
+        classes,
+        reps,
+        offsets,
+        targets,
+        k,
+        drop,
+        c,
+        &mut row,
+    );
+    words::fill(sources, e, r, c as u16);
+    words::copy(ends, e, &row, r);
+    e + r
+}
+
+// Lists the edges of the quotient or, with `drop`, of the reduced game, ascending. Returns how many there are.
+fn list_edges(
+    game: &[u16],
+    marks: &[u8],
+    classes: &[u16],
+    reps: &[u16],
+    offsets: &[u16],
+    targets: &[u16],
+    k: usize,
+    drop: bool,
+    sources: &mut [u16],
+    ends: &mut [u16],
+) -> usize
+    requires { ⌜ Prepared (now game) (now marks) (now classes) (now reps) (now offsets) (now targets) ⌝ }
+    requires { ⌜ k ≡ classesIn (gameOf (now game)) ⌝ }
+    requires { ⌜ (tableEdges (now game) ≤ length (now sources)) × (tableEdges (now game) ≤ length (now ends)) ⌝ }
+    ensures { λ r. ⌜ Appended (pairsOf k (gameBy drop (gameOf (now (game .entry))) .edge)) 0 (now (sources .entry)) (now (sources .exit)) (now (ends .entry)) (now (ends .exit)) r ⌝ }
+{
+    let mut e = 0;
+    let mut c = 0;
+    while c < k {
+        e = append_class(
+            game,
+            marks,
+            classes,
+            reps,
+            offsets,
+            targets,
+            k,
+            drop,
+            c,
+            sources,
+            ends,
+            e,
+        );
+        c += 1;
+    }
+    e
+}
+
+// Writes the table of the k classes and the first e edges: sizes, priorities and owners of the representatives, sources, targets.
+fn write_table(
+    game: &[u16],
+    reps: &[u16],
+    k: usize,
+    sources: &[u16],
+    ends: &[u16],
+    e: usize,
+    output: &mut [u16],
+)
+    requires { ⌜ WellFormed (now game) × Represented (gameOf (now game)) (now reps) × (k ≡ classesIn (gameOf (now game))) ⌝ }
+    requires { ⌜ (e ≤ 4096) × (e ≤ length (now sources)) × (e ≤ length (now ends)) × (tableLength k e ≤ length (now output)) ⌝ }
+    ensures { λ r. ⌜ now (output .exit) ≡ written (tableBy (now (game .entry)) (now (reps .entry)) k (now (sources .entry)) (now (ends .entry)) e) (now (output .entry)) ⌝ }
+{
+    let n = game[0] as usize;
+    output[0] = k as u16;
+    output[1] = e as u16;
+    words::gather(output, 2, game, 2, reps, k);
+    words::gather(output, 2 + k, game, 2 + n, reps, k);
+    words::copy(output, 2 + 2 * k, sources, e);
+    words::copy(output, 2 + 2 * k + e, ends, e);
+}
+
+// Writes the classes, and the table of the quotient or, with `drop`, of the reduced game. The index, the representatives and the edges
+// are in local arrays of 25,602 bytes.
+pub fn fill_table(
+    game: &[u16],
+    marks: &[u8],
+    classes: &mut [u16],
+    output: &mut [u16],
+    drop: bool,
+) -> TableCounts
+    requires { ⌜ WellFormed (now game) × Ordered (gameOf (now game)) (now marks) ⌝ }
+    requires { ⌜ (vertexCount (now game) ≤ length (now classes)) × (tableLength (vertexCount (now game)) (tableEdges (now game)) ≤ length (now output)) ⌝ }
+    ensures { λ r. ⌜ TableDone (gameBy drop) (now (game .entry)) (now (classes .entry)) (now (classes .exit)) (now (output .entry)) (now (output .exit)) r ⌝ }
+{
+    let mut reps = [0u16; 256];
+    let k = classes::number_classes(game, marks, classes, &mut reps);
+    let mut offsets = [0u16; 257];
+    let mut targets = [0u16; 4096];
+    order::index::build(game, &mut offsets, &mut targets);
+    let mut sources = [0u16; 4096];
+    let mut ends = [0u16; 4096];
+    let e = list_edges(
+        game,
+        marks,
+        classes,
+        &reps,
+        &offsets,
+        &targets,
+        k,
+        drop,
+        &mut sources,
+        &mut ends,
+    );
+    write_table(game, &reps, k, &sources, &ends, e, output);
+    TableCounts {
+        classes: k,
+        vertices: k,
+        edges: e,
+    }
+}
