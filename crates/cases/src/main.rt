@@ -3,6 +3,7 @@ mod orders;
 mod plans;
 mod print;
 mod reading;
+mod reductions;
 mod tables;
 
 fn main() {
@@ -21,4 +22,7 @@ fn main() {
     plans::limits();
     plans::bad_words();
     plans::bad_positions();
+    reductions::games();
+    reductions::quotients();
+    reductions::short_buffers();
 }

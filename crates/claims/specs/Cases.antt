@@ -2,16 +2,21 @@
 -- definitions that the promises cite.
 use mathlib.Core.Path.{_≡_, refl}
 use mathlib.Core.List.{List, [], _∷_, map}
-use Prim.Native.Nat.{ℕ, _*_}
-use lib.ListN.{getD, replicate}
+use Prim.Native.Nat.{ℕ, _*_, _+_}
+use lib.ListN.{length, getD, replicate}
+use Rattle.theory.specs.Range.{pairsOf}
+use Rattle.theory.specs.Game.{Game}
 use Rattle.theory.specs.Order.{orderMarks}
+use Rattle.theory.specs.Reduction.{quotient, reduced}
 use Rattle.theory.specs.Compute.{compute}
-use Rattle.table.specs.Table.{vertexCount, gameOf, playerOf, isEdge}
+use Rattle.table.specs.Table.{vertexCount, tableEdges, tableLength, gameOf, playerOf, isEdge}
 use Rattle.table.specs.Verdict.{Answer, accepted, refused, judge, written, after}
 use Rattle.table.specs.Reading.{repeatsEarlier, lacksEdge, firstOwner, firstEnd, firstRepeat, firstLacking, gameRows, readAnswer}
 use Rattle.order.specs.Bytes.{bytes, isMark, relation}
 use Rattle.order.specs.OrderCall.{orderRows, orderAnswer}
 use Rattle.order.specs.RelationCall.{fails, firstHigh, firstFailing, relationRows, relationAnswer}
+use Rattle.reduction.specs.ClassTable.{ownerWord, tableWords}
+use Rattle.reduction.specs.Calls.{classRows, tableRows, classTotal, classWords}
 use Rattle.plan.specs.Acceptance.{badSize, beyond, firstBeyond, strays, firstStray, anyLink, answers, lacksLink, firstLackingLink, reaches, returns, positionPriority, hasLink, returnsWrong, firstReturn, planRows, planAnswer}
 
 -- a call of the host, with its input; what it writes into starts as zeros, as long as needed
@@ -19,6 +24,9 @@ pub data Call : Type 0 where
   read : List ℕ → Call
   writeOrder : List ℕ → Call
   acceptRelation : List ℕ → List ℕ → Call
+  writeClasses : List ℕ → Call
+  writeQuotient : List ℕ → Call
+  writeReduced : List ℕ → Call
   acceptPlan : List ℕ → ℕ → List ℕ → Call
 
 -- the answer, and the words that the call writes
@@ -26,11 +34,23 @@ pub record Outcome : Type 0 where
   pub answer : Answer
   pub words : List (List ℕ)
 
+abbrev zeros : ℕ → List ℕ
+zeros k = replicate k 0
+
 abbrev pairs : List ℕ → List ℕ
-pairs game = replicate (vertexCount game * vertexCount game) 0
+pairs game = zeros (vertexCount game * vertexCount game)
 
 abbrev answers-only : Answer → Outcome
 answers-only a = record { answer = a; words = [] }
+
+-- the class words and the table of a game K of classes, its edges ascending
+abbrev tabulated : (Game → Game) → List ℕ → Outcome
+tabulated K game =
+    let classes = zeros (vertexCount game) in
+    let output = zeros (tableLength (vertexCount game) (tableEdges game)) in
+    let es = pairsOf (K (gameOf game) .n) (K (gameOf game) .edge) in
+    let a = judge (tableRows game (pairs game) (pairs game) classes output) (classTotal game ∷ K (gameOf game) .n ∷ length es ∷ []) in
+    record { answer = a; words = after a (classWords game) classes ∷ after a (tableWords (K (gameOf game)) es) output ∷ [] }
 
 abbrev pub outcome : Call → Outcome
 outcome (read game) = answers-only (readAnswer game)
@@ -38,6 +58,12 @@ outcome (writeOrder game) =
     let a = orderAnswer game (pairs game) (pairs game) in
     record { answer = a; words = after a (bytes (orderMarks (gameOf game))) (pairs game) ∷ [] }
 outcome (acceptRelation game marks) = answers-only (relationAnswer game marks)
+outcome (writeClasses game) =
+    let classes = zeros (vertexCount game) in
+    let a = judge (classRows game (pairs game) (pairs game) classes) (classTotal game ∷ []) in
+    record { answer = a; words = after a (classWords game) classes ∷ [] }
+outcome (writeQuotient game) = tabulated quotient game
+outcome (writeReduced game) = tabulated reduced game
 outcome (acceptPlan game player plan) = answers-only (planAnswer game player plan)
 
 pub record Case : Type 0 where
@@ -68,15 +94,24 @@ gameC owner =
     ∷ 0 ∷ 0 ∷ 1 ∷ 2 ∷ 2 ∷ 3 ∷ 4
     ∷ 1 ∷ 2 ∷ 3 ∷ 3 ∷ 4 ∷ 3 ∷ 4 ∷ []
 
+-- C without one of the edges of vertex 0: the one that is left leads to `target`; two words of the output stay zero
+abbrev reducedC : ℕ → ℕ → List ℕ
+reducedC owner target =
+    5 ∷ 6 ∷ 2 ∷ 0 ∷ 0 ∷ 1 ∷ 4 ∷ owner ∷ 0 ∷ 0 ∷ 0 ∷ 0
+    ∷ 0 ∷ 1 ∷ 2 ∷ 2 ∷ 3 ∷ 4
+    ∷ target ∷ 3 ∷ 3 ∷ 4 ∷ 3 ∷ 4
+    ∷ 0 ∷ 0 ∷ []
+
 -- the plan of P12: 3 3 / 0 2 4 / 0 1 2 / 1 2 2
 abbrev planC : List ℕ
 planC = 3 ∷ 3 ∷ 0 ∷ 2 ∷ 4 ∷ 0 ∷ 1 ∷ 2 ∷ 1 ∷ 2 ∷ 2 ∷ []
 
 abbrev pub cases : List Case
 cases =
-    -- P1: 1 1 1 1 0 0: marks 1, passes 1
+    -- P1: 1 1 1 1 0 0: marks 1, passes 1, one class
     judged (read p1) (accepted (1 ∷ 1 ∷ []))
     ∷ wrote (writeOrder p1) (accepted (1 ∷ [])) ((1 ∷ []) ∷ [])
+    ∷ wrote (writeClasses p1) (accepted (1 ∷ [])) ((0 ∷ []) ∷ [])
     -- P2: no words: 1 at 0
     ∷ judged (read []) (refused 1 0)
     -- P3: 0 0: 2 at 0
@@ -89,11 +124,17 @@ cases =
     ∷ judged (read (1 ∷ 1 ∷ 0 ∷ 0 ∷ 0 ∷ 1 ∷ [])) (refused 6 5)
     -- P7: 1 2 0 0 0 0 0 0: 7 at 5
     ∷ judged (read (1 ∷ 2 ∷ 0 ∷ 0 ∷ 0 ∷ 0 ∷ 0 ∷ 0 ∷ [])) (refused 7 5)
-    -- P8: B: mark rows 101, 010, 101
+    -- P8: B: mark rows 101, 010, 101; reduced 2 2 / 0 1 / 0 0, edges 0 to 1, 1 to 1
     ∷ wrote (writeOrder gameB) (accepted (1 ∷ [])) ((1 ∷ 0 ∷ 1 ∷ 0 ∷ 1 ∷ 0 ∷ 1 ∷ 0 ∷ 1 ∷ []) ∷ [])
-    -- P9: C: 1 is below 2, not the reverse; passes 2
+    ∷ wrote (writeReduced gameB) (accepted (2 ∷ 2 ∷ 2 ∷ []))
+    ((0 ∷ 1 ∷ 0 ∷ []) ∷ (2 ∷ 2 ∷ 0 ∷ 1 ∷ 0 ∷ 0 ∷ 0 ∷ 1 ∷ 1 ∷ 1 ∷ 0 ∷ 0 ∷ 0 ∷ 0 ∷ []) ∷ [])
+    -- P9: C: 1 is below 2, not the reverse; passes 2; five classes, 7 quotient edges; the reduced game drops 0 to 1
     ∷ wrote (writeOrder (gameC 0)) (accepted (2 ∷ []))
     ((1 ∷ 0 ∷ 0 ∷ 0 ∷ 0 ∷ 0 ∷ 1 ∷ 1 ∷ 0 ∷ 0 ∷ 0 ∷ 0 ∷ 1 ∷ 0 ∷ 0 ∷ 0 ∷ 0 ∷ 0 ∷ 1 ∷ 0 ∷ 0 ∷ 0 ∷ 0 ∷ 0 ∷ 1 ∷ []) ∷ [])
+    ∷ wrote (writeQuotient (gameC 0)) (accepted (5 ∷ 5 ∷ 7 ∷ [])) ((0 ∷ 1 ∷ 2 ∷ 3 ∷ 4 ∷ []) ∷ gameC 0 ∷ [])
+    ∷ wrote (writeReduced (gameC 0)) (accepted (5 ∷ 5 ∷ 6 ∷ [])) ((0 ∷ 1 ∷ 2 ∷ 3 ∷ 4 ∷ []) ∷ reducedC 0 2 ∷ [])
+    -- P10: with vertex 0 Odd's it drops 0 to 2
+    ∷ wrote (writeReduced (gameC 1)) (accepted (5 ∷ 5 ∷ 6 ∷ [])) ((0 ∷ 1 ∷ 2 ∷ 3 ∷ 4 ∷ []) ∷ reducedC 1 1 ∷ [])
     -- P11: C, only (2, 1) marked: 10 at 11
     ∷ judged (acceptRelation (gameC 0) (0 ∷ 0 ∷ 0 ∷ 0 ∷ 0 ∷ 0 ∷ 0 ∷ 0 ∷ 0 ∷ 0 ∷ 0 ∷ 1 ∷ 0 ∷ 0 ∷ 0 ∷ 0 ∷ 0 ∷ 0 ∷ 0 ∷ 0 ∷ 0 ∷ 0 ∷ 0 ∷ 0 ∷ 0 ∷ [])) (refused 10 11)
     -- P12: C, plan 3 3 / 0 2 4 / 0 1 2 / 1 2 2: passes for Even
@@ -108,6 +149,6 @@ pub cases-hold : map (λ (c : Case). outcome (c .call)) cases ≡ map (λ (c : C
 unfolding compute
     gameOf playerOf isEdge judge written after
     readAnswer gameRows firstOwner firstEnd firstRepeat firstLacking repeatsEarlier lacksEdge
-    bytes isMark relation orderRows orderAnswer fails firstHigh firstFailing relationRows relationAnswer
+    bytes isMark relation orderRows orderAnswer fails firstHigh firstFailing relationRows relationAnswer ownerWord tableWords classRows tableRows classTotal classWords
     badSize beyond firstBeyond strays firstStray anyLink answers lacksLink firstLackingLink reaches returns positionPriority hasLink returnsWrong firstReturn planRows planAnswer
 cases-hold = refl

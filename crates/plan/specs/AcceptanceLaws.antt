@@ -17,17 +17,17 @@ use Rattle.theory.specs.Returns.{WrongWalk}
 use Rattle.theory.specs.ReturnsLaws.{wrongWalk-return}
 use Rattle.table.specs.Table.{vertexCount, playerOf, gameOf}
 use Rattle.table.specs.Verdict.{Row, Answer, accepted, refused, judge, Clean}
-use Rattle.table.specs.VerdictLaws.{judge-clean, judge-accepted, judge-past, judge-stays, clean-split}
-use Rattle.table.specs.Reading.{gameRows, readAnswer}
-use Rattle.table.specs.ReadingLaws.{rows-render, read-accepted}
+use Rattle.table.specs.VerdictLaws.{judge-accepted, judge-past, judge-stays, clean-split}
+use Rattle.table.specs.Reading.{gameRows}
+use Rattle.table.specs.ReadingLaws.{rows-render, clean-well}
 use Rattle.table.specs.ReadingRules.{gameRules}
 use Rattle.table.specs.Rules.{Rule, FirstRule, here, later, NoRule, no-rule, fails, Rendered, none, next}
 use Rattle.table.specs.RulesLaws.{renders-placed, renders-first, judge-refused, judge-refuses, rendered-append, clean-none, none-clean}
 use Rattle.plan.specs.PlanTable.{positionCount, linkCount, vertexAt, linkSource, linkTarget, planLength, planOf}
+use Rattle.plan.specs.Acceptance.{badSize, beyond, firstBeyond, strays, firstStray, anyLink, answers, lacksLink, firstLackingLink, positionPriority, hasLink, returnsWrong, firstReturn, planRows, planAnswer}
 use Rattle.plan.specs.PlanTableLaws.{planOf-links, planOf-link, link-out, anyLink-in, anyLink-out}
 use Rattle.plan.specs.PlanFormed.{PlanFormed, WordsPass}
 use Rattle.plan.specs.PlanFormedLaws.{size-good, words-good}
-use Rattle.plan.specs.Acceptance.{badSize, beyond, firstBeyond, strays, firstStray, anyLink, answers, lacksLink, firstLackingLink, positionPriority, hasLink, returnsWrong, firstReturn, planRows, planAnswer}
 use Rattle.plan.specs.AcceptanceRules.{BadSize, Beyond, Strays, LacksMove, LacksAnswer, planRules}
 use Rattle.plan.specs.ReachLaws.{return-in, return-out}
 
@@ -164,11 +164,11 @@ links-render g player w f =
     none))
 
 pub clean-words : (g : List ℕ) (player : ℕ) (w : List ℕ) → Clean (wordRows g player w) → WordsPass g player w
-unfolding planRows readAnswer
+unfolding planRows
 clean-words g player w c =
     let d = clean-split (gameRows g) _ c in
     record {
-      game = read-accepted g _ (judge-clean (gameRows g) _ (d .0)) .0;
+      game = clean-well g (d .0);
       number = ltb-false 1 player (d .1 .0);
       formed = words-good (vertexCount g) w (size-good w (d .1 .1 .0)) (ltb-false (firstBeyond (vertexCount g) w) _ (d .1 .1 .1 .0));
     }

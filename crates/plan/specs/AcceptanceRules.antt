@@ -6,12 +6,14 @@ use mathlib.Core.List.{List, [], _∷_}
 use Prim.Native.Nat.{ℕ, _+_, _≤_, _<_}
 use lib.ListN.{length, getD}
 use Rattle.theory.specs.Game.{own, Succ}
-use Rattle.theory.specs.Plan.{linked}
+use Rattle.theory.specs.Plan.{linked, Wins}
 use Rattle.theory.specs.Returns.{WrongWalk}
 use Rattle.table.specs.Table.{vertexCount, playerOf, gameOf}
+use Rattle.table.specs.WellFormed.{WellFormed}
 use Rattle.table.specs.Rules.{Rule, placed, firstSuch}
 use Rattle.plan.specs.PlanTable.{positionCount, linkCount, vertexAt, linkSource, linkTarget, planLength, planOf}
 use Rattle.plan.specs.Acceptance.{positionPriority}
+use Rattle.plan.specs.PlanFormed.{PlanSized}
 
 -- under 2 words, p or l out of limits, or length not 2 + p + 2l
 abbrev pub BadSize : List ℕ → Type 0
@@ -50,3 +52,10 @@ planRules g player w =
     ∷ firstSuch 15 (λ i. LacksMove g player w i ⊎ LacksAnswer g player w i) 0 p (λ i. i)
     ∷ firstSuch 16 (WrongWalk (playerOf player) (positionPriority g w) (linked (planOf w .links))) 0 p (λ i. i)
     ∷ []
+
+-- what is accepted: a well-formed game, one of the two players, and a plan within the limits that wins from the vertex of position 0
+pub record Accepts (g : List ℕ) (player : ℕ) (w : List ℕ) : Type 0 where
+  pub game : WellFormed g
+  pub number : player ≤ 1
+  pub sized : PlanSized w
+  pub wins : Wins (playerOf player) (gameOf g) (planOf w) (vertexAt w 0)

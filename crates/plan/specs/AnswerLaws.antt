@@ -15,12 +15,11 @@ use Rattle.table.specs.Table.{vertexCount, tableEdges, ownerAt, sourceAt, targe
 use Rattle.table.specs.WellFormed.{WellFormed}
 use Rattle.table.specs.TableLaws.{player-zero, player-one, own-even, own-one, edge-in, edge-out}
 use Rattle.plan.specs.PlanTable.{positionCount, vertexAt}
-use Rattle.plan.specs.PlanFormed.{PlanFormed}
 use Rattle.plan.specs.Acceptance.{answers, lacksLink}
+use Rattle.plan.specs.PlanFormed.{PlanFormed}
 use Rattle.plan.specs.Index.{anyFrom, among, LinkIndex, EdgeIndex}
-use Rattle.plan.specs.IndexLaws.{from-in, from-none, among-any}
+use Rattle.plan.specs.IndexLaws.{from-in, from-none, among-any, among-link}
 use Rattle.plan.specs.Marks.{standsAt, unanswered}
-use Rattle.plan.specs.ReturnLaws.{among-link}
 
 -- the player moves at v exactly if v's owner word is the player's number
 pub own-number : (g : List ℕ) → WellFormed g → (player v : ℕ) → player ≤ 1 → v < vertexCount g → own (gameOf g) (playerOf player) v ≡ eqb (ownerAt g v) player

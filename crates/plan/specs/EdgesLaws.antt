@@ -17,8 +17,8 @@ use Rattle.table.specs.WellFormed.{WellFormed}
 use Rattle.table.specs.Parts.{edgeNumber, Flagged}
 use Rattle.table.specs.SearchLaws.{any-ext, first-ext}
 use Rattle.plan.specs.PlanTable.{linkCount, vertexAt, linkSource, linkTarget}
-use Rattle.plan.specs.PlanFormed.{PlanFormed}
 use Rattle.plan.specs.Acceptance.{strays, firstStray}
+use Rattle.plan.specs.PlanFormed.{PlanFormed}
 use Rattle.plan.specs.Edges.{Matrix, straysBy}
 
 -- a number below n × n has one row and one column

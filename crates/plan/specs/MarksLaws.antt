@@ -1,6 +1,5 @@
 -- Laws of the stamps on answered vertices.
 use mathlib.Core.Path.{_≡_, refl, sym, ap, _∙_, fun-ext}
-use mathlib.Core.Logic.{_⊎_, inl, inr}
 use mathlib.Core.Bool.{Bool, true, false, not, cond, So}
 use mathlib.Core.List.{List}
 use Prim.Native.Nat.{ℕ, _+_, _≤_, _<_}
@@ -8,19 +7,12 @@ use native.Mathlib.Omega.{arith}
 use lib.Dec.{eqb}
 use lib.ListN.{length, getD, set}
 use borrow.Author.Tests.{eq-eqb, ne-eqb}
-use Rattle.theory.specs.BoolsLaws.{clash, So-ext, So-not}
+use Rattle.theory.specs.BoolsLaws.{So-not}
 use Rattle.plan.specs.PlanTable.{vertexAt}
+use Rattle.plan.specs.StoreLaws.{after-set}
 use Rattle.plan.specs.Index.{anyFrom, among}
-use Rattle.plan.specs.IndexLaws.{from-in, from-none, from-more, from-less, after-set}
+use Rattle.plan.specs.IndexLaws.{from-in, from-none, from-same}
 use Rattle.plan.specs.Marks.{standsAt, MarkedTo, Marked, unmarked, unmarkedTarget, unanswered}
-
--- a number that doesn't pass adds nothing
-pub from-same : (a e : ℕ) (q : ℕ → Bool) → q e ≡ false → anyFrom a (e + 1) q ≡ anyFrom a e q
-from-same a e q f = So-ext (λ b. go (from-more a e q b)) (from-less a e q)
-  where
-    go : So (anyFrom a e q) ⊎ So (q e) → So (anyFrom a e q)
-    go (inl b) = b
-    go (inr b) = clash b f
 
 pub marked-none : (w targets : List ℕ) (a stamp : ℕ) (old : List ℕ) → MarkedTo w targets a a stamp old old
 marked-none w targets a stamp old = record { at = λ x. rw (So-not (from-none a (λ k. standsAt w x (getD targets k 0)))) }

@@ -40,7 +40,14 @@ size-good w e =
 
 pub good-size : (w : List ℕ) → PlanSized w → badSize w ≡ false
 unfolding badSize _or_
-good-size w s = rw (le-ltb (length w) 2 (omega (arith, s .size, s .some)), ne-eqb (positionCount w) 0 (omega (arith, s .some)), le-ltb 4096 (positionCount w) (s .positions), le-ltb 16384 (linkCount w) (s .links), eq-eqb (length w) (planLength (positionCount w) (linkCount w)) (s .size))
+good-size w s =
+    rw (
+      le-ltb (length w) 2 (omega (arith, s .size, s .some)),
+      ne-eqb (positionCount w) 0 (omega (arith, s .some)),
+      le-ltb 4096 (positionCount w) (s .positions),
+      le-ltb 16384 (linkCount w) (s .links),
+      eq-eqb (length w) (planLength (positionCount w) (linkCount w)) (s .size),
+    )
 
 -- ---- 13
 

@@ -1,6 +1,6 @@
 -- Refusal 16 by the index of links and the list of priorities is refusal 16 by the plan's words.
 use mathlib.Core.Path.{_≡_, ap, ap₂}
-use mathlib.Core.Bool.{Bool, not}
+use mathlib.Core.Bool.{not}
 use mathlib.Core.List.{List}
 use Prim.Native.Nat.{ℕ, _<_}
 use lib.Dec.{eqb}
@@ -11,21 +11,16 @@ use Rattle.theory.specs.Game.{parity}
 use Rattle.table.specs.Table.{playerOf}
 use Rattle.table.specs.SearchLaws.{first-ext}
 use Rattle.plan.specs.PlanTable.{positionCount}
-use Rattle.plan.specs.Acceptance.{anyLink, hasLink, positionPriority, returnsWrong, firstReturn}
-use Rattle.plan.specs.Index.{among, LinkIndex}
-use Rattle.plan.specs.IndexLaws.{among-any}
+use Rattle.plan.specs.Acceptance.{hasLink, positionPriority, returnsWrong, firstReturn}
+use Rattle.plan.specs.Index.{LinkIndex}
+use Rattle.plan.specs.IndexLaws.{among-link}
 use Rattle.plan.specs.Search.{linkBy, rankAt, wrongBy}
 use Rattle.plan.specs.SearchLaws.{returns-ext}
 
 module _ (w starts targets : List ℕ) (ix : LinkIndex w starts targets) where
-  -- some target in the group of i passes exactly if some link of i leads to such a position
-  pub among-link : (i : ℕ) → i < positionCount w → (q : ℕ → Bool) → among starts targets i q ≡ anyLink w i q
-  unfolding anyLink
-  among-link i h q = among-any ix i h q
-
   linkBy-same : (i j : ℕ) → i < positionCount w → linkBy starts targets i j ≡ hasLink w i j
   unfolding linkBy hasLink
-  linkBy-same i j h = among-link i h (λ k. eqb k j)
+  linkBy-same i j h = among-link w starts targets ix i h (λ k. eqb k j)
 
   module _ (g rank : List ℕ) (player : ℕ) (ranked : (i : ℕ) → i < positionCount w → getD rank i 0 ≡ positionPriority g w i) where
     wrongBy-same : (i : ℕ) → i < positionCount w → wrongBy starts targets rank (positionCount w) player i ≡ returnsWrong g player w i

@@ -21,10 +21,11 @@ use Rattle.theory.specs.Plan.{Walk}
 use Rattle.table.specs.Table.{playerOf}
 use Rattle.table.specs.SearchLaws.{any-ext}
 use Rattle.plan.specs.Acceptance.{reaches, returns}
+use Rattle.plan.specs.StoreLaws.{after-set}
+use Rattle.plan.specs.Index.{Index, startOf, anyFrom, among}
+use Rattle.plan.specs.IndexLaws.{start-mono, start-le, group-entry, from-in, from-none, from-more, from-less}
 use Rattle.plan.specs.Reach.{Each, Reach}
 use Rattle.plan.specs.ReachLaws.{reaches-in, reaches-out, reach-more}
-use Rattle.plan.specs.Index.{Index, startOf, anyFrom, among}
-use Rattle.plan.specs.IndexLaws.{start-mono, start-le, group-entry, from-in, from-none, from-more, from-less, after-set}
 use Rattle.plan.specs.Search.{Graph, linkBy, rankAt, notBelow, stamped, fresh, Visited, Queued, Grown, followed, follows, Searched, wrongBy}
 
 -- ---- a target in the group of i

@@ -3,7 +3,7 @@ use mathlib.Core.Path.{_≡_, refl, sym, ap, ap₂, _∙_, subst₂}
 use mathlib.Core.Logic.{_⊎_, inl, inr}
 use mathlib.Core.Bool.{Bool, true, false, not, So}
 use mathlib.Core.List.{List, [], _∷_, _++_}
-use Prim.Native.Nat.{ℕ, _≤_, _<_}
+use Prim.Native.Nat.{ℕ, _<_}
 use native.Mathlib.Decide.{decLt}
 use native.Mathlib.Omega.{arith}
 use lib.Dec.{ltb}
@@ -22,16 +22,15 @@ use Rattle.table.specs.Verdict.{accepted, Clean}
 use Rattle.table.specs.VerdictLaws.{judge-clean, judge-accepted, clean-split, clean-append}
 use Rattle.table.specs.Reading.{gameRows}
 use Rattle.table.specs.ReadingLaws.{well-clean}
-use Rattle.table.specs.WellFormed.{WellFormed}
 use Rattle.plan.specs.PlanTable.{positionCount, linkCount, vertexAt, linkSource, linkTarget, planOf}
+use Rattle.plan.specs.Acceptance.{strays, firstStray, anyLink, answers, lacksLink, firstLackingLink, returns, positionPriority, hasLink, returnsWrong, firstReturn, planRows, planAnswer}
 use Rattle.plan.specs.PlanTableLaws.{planOf-length, planOf-vertex, planOf-link, link-in, link-out, anyLink-out}
 use Rattle.plan.specs.PlanFormed.{PlanSized, PlanFormed, WordsPass}
 use Rattle.plan.specs.PlanFormedLaws.{good-size, good-words}
-use Rattle.plan.specs.Acceptance.{strays, firstStray, anyLink, answers, lacksLink, firstLackingLink, returns, positionPriority, hasLink, returnsWrong, firstReturn, planRows, planAnswer}
-use Rattle.plan.specs.AcceptanceRules.{LacksMove, LacksAnswer}
-use Rattle.plan.specs.AcceptanceLaws.{answers-out, lacks-out, link-inside, wordRows, clean-words, split-rows}
+use Rattle.plan.specs.AcceptanceRules.{LacksMove, LacksAnswer, Accepts}
 use Rattle.plan.specs.ReachLaws.{return-in, return-out}
 use Rattle.plan.specs.SearchLaws.{returns-ext}
+use Rattle.plan.specs.AcceptanceLaws.{answers-out, lacks-out, link-inside, wordRows, clean-words, split-rows}
 
 -- ---- rows 14 to 16
 
@@ -170,13 +169,7 @@ module _ (g : List ℕ) (player : ℕ) (w : List ℕ) where
             let r = wins .answers i (rw (planOf-length w) h) (rw (planOf-vertex w i h) (m .owner)) (m .successor) (rw (planOf-vertex w i h) (m .move)) in
             m .none (r .0) (r .1) (sym (planOf-vertex w (r .0) (inside wins-formed i (r .0) (r .1) .1)) ∙ r .2)
 
--- ---- accepted exactly if the game is well formed, the player is one of the two, and the plan is within the limits and wins
-
-pub record Accepts (g : List ℕ) (player : ℕ) (w : List ℕ) : Type 0 where
-  pub game : WellFormed g
-  pub number : player ≤ 1
-  pub sized : PlanSized w
-  pub wins : Wins (playerOf player) (gameOf g) (planOf w) (vertexAt w 0)
+-- ---- accepted exactly if it passes
 
 words-clean : (g : List ℕ) (player : ℕ) (w : List ℕ) → WordsPass g player w → Clean (wordRows g player w)
 unfolding planRows

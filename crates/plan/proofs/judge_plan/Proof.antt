@@ -10,9 +10,9 @@ use Rattle.table.specs.Table.{vertexCount}
 use Rattle.table.specs.Verdict.{judge}
 use Rattle.table.specs.VerdictLaws.{judge-hit, judge-next}
 use Rattle.plan.specs.PlanTable.{positionCount, linkCount, planLength}
+use Rattle.plan.specs.Acceptance.{firstBeyond, planRows}
 use Rattle.plan.specs.PlanFormed.{PlanSized, PlanFormed}
 use Rattle.plan.specs.PlanFormedLaws.{size-good, words-good}
-use Rattle.plan.specs.Acceptance.{firstBeyond, planRows}
 use Rattle.plan.proofs.judge_plan.Statement.{statement}
 use Rattle.plan.proofs.judge_plan.Tie as tie
 

@@ -4,8 +4,8 @@ use native.Mathlib.Omega.{arith}
 use Prim.Native.Nat.{_<_, _+_}
 use mathlib.Core.Path.{sym, _∙_}
 use lib.ListN.{getD}
-use Rattle.plan.specs.SearchLaws.{index-graph}
 use Rattle.plan.specs.AnswerLaws.{lacks-own, lacks-other}
+use Rattle.plan.specs.SearchLaws.{index-graph}
 use Rattle.plan.proofs.answers.lacks_link.Statement.{statement}
 use Rattle.plan.proofs.answers.lacks_link.Tie as tie
 
@@ -56,7 +56,8 @@ returns : tie.Need-returns
 returns c =
     let e = c .before .before .before .before .before .before .before .before .before .before .before .before .before in
     let gr = index-graph (e .pre .1 .0 .0) (e .pre .0 .formed .targets) in (
-      sym (lacks-own _ _ _ _ _ _ (e .pre .0 .game) (e .pre .0 .formed) (e .pre .1 .0 .0) (e .pre .1 .0 .1) (e .args .player) (e .args .i) (e .pre .0 .number) (e .pre .1 .1 .0 .1) (gr .order (e .args .i) (e .pre .1 .1 .0 .1)) (rw (c .before .before .before .before .vertex-of .ensures) at (c .before .before .if1 .taken))),
+      sym (lacks-own _ _ _ _ _ _ (e .pre .0 .game) (e .pre .0 .formed) (e .pre .1 .0 .0) (e .pre .1 .0 .1)
+          (e .args .player) (e .args .i) (e .pre .0 .number) (e .pre .1 .1 .0 .1) (gr .order (e .args .i) (e .pre .1 .1 .0 .1)) (rw (c .before .before .before .before .vertex-of .ensures) at (c .before .before .if1 .taken))),
       λ x. omega (arith, e .pre .1 .1 .1 x),
     )
 
@@ -74,7 +75,8 @@ returns-2 : tie.Need-returns-2
 returns-2 c =
     let e = c .before .before .before .before .before .before .before .before .before .before .before .before .before .before .before in
     let r = c .before .before .lacks-answer in (
-      r .ensures .0 ∙ sym (lacks-other _ _ _ _ _ _ (e .pre .0 .game) (e .pre .0 .formed) (e .pre .1 .0 .0) (e .pre .1 .0 .1) (e .args .player) (e .args .i) (e .pre .0 .number) (e .pre .1 .1 .0 .1) (rw (c .before .before .before .before .before .before .vertex-of .ensures) at (c .before .before .before .before .if1 .left))),
+      r .ensures .0 ∙ sym (lacks-other _ _ _ _ _ _ (e .pre .0 .game) (e .pre .0 .formed) (e .pre .1 .0 .0) (e .pre .1 .0 .1)
+          (e .args .player) (e .args .i) (e .pre .0 .number) (e .pre .1 .1 .0 .1) (rw (c .before .before .before .before .before .before .vertex-of .ensures) at (c .before .before .before .before .if1 .left))),
       r .ensures .1,
     )
 

@@ -5,8 +5,8 @@ use Prim.Native.Nat.{_≤_, _<_, _-_, _+_}
 use mathlib.Core.Path.{_≡_, refl}
 use lib.ListN.{length, getD, length-set}
 use Rattle.plan.specs.Marks.{MarkedTo}
-use Rattle.plan.specs.SearchLaws.{Target, graph-target}
 use Rattle.plan.specs.MarksLaws.{marked-none, marked-more, marked-all}
+use Rattle.plan.specs.SearchLaws.{Target, graph-target}
 use Rattle.plan.proofs.answers.mark_answers.Statement.{statement}
 use Rattle.plan.proofs.answers.mark_answers.Tie as tie
 

@@ -6,8 +6,8 @@ use mathlib.Core.Path.{_≡_, sym}
 use mathlib.Core.Bool.{false}
 use Rattle.plan.specs.Index.{anyFrom}
 use Rattle.plan.specs.Marks.{unmarkedTarget}
-use Rattle.plan.specs.SearchLaws.{Target, graph-target}
 use Rattle.plan.specs.MarksLaws.{unmarked-none, unmarked-not, unmarked-here, unmarked-all}
+use Rattle.plan.specs.SearchLaws.{Target, graph-target}
 use Rattle.plan.proofs.answers.some_unmarked.Statement.{statement}
 use Rattle.plan.proofs.answers.some_unmarked.Tie as tie
 

@@ -10,7 +10,9 @@ use Rattle.plan.proofs.returns.expand.Statement.{statement}
 use Rattle.plan.proofs.returns.expand.Tie as tie
 
 abbrev Inv-loop : tie.InvT-loop
-Inv-loop starts targets rank seen₀ queue₀ p i least stamp tail end t₀ last₀ seen queue t last = (t₀ ≤ t) × (t ≤ end) × (length seen ≡ length seen₀) × (length queue ≡ length queue₀) × Grown p stamp (followed targets rank least t₀ t) seen₀ queue₀ tail seen queue last
+Inv-loop starts targets rank seen₀ queue₀ p i least stamp tail end t₀ last₀ seen queue t last =
+    (t₀ ≤ t) × (t ≤ end) × (length seen ≡ length seen₀) × (length queue ≡ length queue₀)
+    × Grown p stamp (followed targets rank least t₀ t) seen₀ queue₀ tail seen queue last
 
 abbrev μ-loop : tie.MeasureT-loop
 μ-loop starts targets rank seen₀ queue₀ p i least stamp tail end t₀ last₀ seen queue t last = end - t

@@ -11,7 +11,9 @@ use Rattle.plan.proofs.returns.first_returning.Statement.{statement}
 use Rattle.plan.proofs.returns.first_returning.Tie as tie
 
 abbrev Inv-loop : tie.InvT-loop
-Inv-loop starts targets rank seen₀ queue₀ p player i₀ seen queue i = (i ≤ p) × (length seen ≡ length seen₀) × (length queue ≡ length queue₀) × ((j : ℕ) → getD seen j 0 ≤ i) × (first (wrongBy starts targets rank p player) 0 p ≡ first (wrongBy starts targets rank p player) i p)
+Inv-loop starts targets rank seen₀ queue₀ p player i₀ seen queue i =
+    (i ≤ p) × (length seen ≡ length seen₀) × (length queue ≡ length queue₀) × ((j : ℕ) → getD seen j 0 ≤ i)
+    × (first (wrongBy starts targets rank p player) 0 p ≡ first (wrongBy starts targets rank p player) i p)
 
 abbrev μ-loop : tie.MeasureT-loop
 μ-loop starts targets rank seen₀ queue₀ p player i₀ seen queue i = p - i

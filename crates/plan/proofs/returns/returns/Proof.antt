@@ -12,7 +12,9 @@ use Rattle.plan.proofs.returns.returns.Statement.{statement}
 use Rattle.plan.proofs.returns.returns.Tie as tie
 
 abbrev Inv-loop : tie.InvT-loop
-Inv-loop starts targets rank seen₀ queue₀ p i least stamp tail₀ head₀ seen queue tail head = (head ≤ tail) × (length seen ≡ length seen₀) × (length queue ≡ length queue₀) × Searched p (linkBy starts targets) (notBelow rank (getD rank i 0)) i (i + 1) seen queue head tail
+Inv-loop starts targets rank seen₀ queue₀ p i least stamp tail₀ head₀ seen queue tail head =
+    (head ≤ tail) × (length seen ≡ length seen₀) × (length queue ≡ length queue₀)
+    × Searched p (linkBy starts targets) (notBelow rank (getD rank i 0)) i (i + 1) seen queue head tail
 
 abbrev μ-loop : tie.MeasureT-loop
 μ-loop starts targets rank seen₀ queue₀ p i least stamp tail₀ head₀ seen queue tail head = p - head

@@ -1,0 +1,128 @@
+-- Neither call refuses memory that is enough, so that the report is that of both calls.
+use mathlib.Core.Path.{_≡_, sym, ap, _∙_}
+use mathlib.Core.List.{List, [], _∷_}
+use Prim.Native.Nat.{ℕ, _*_, _≤_}
+use native.Mathlib.Omega.{arith}
+use native.Mathlib.Nat.{mul-le-mul}
+use lib.ListN.{length}
+use borrow.Author.Tests.{le-ltb}
+use Rattle.theory.specs.Game.{Game, edgeCount}
+use Rattle.theory.specs.Order.{orderPasses}
+use Rattle.theory.specs.Reduction.{reduced}
+use Rattle.table.specs.Table.{vertexCount, tableEdges, tableLength, gameOf}
+use Rattle.table.specs.Verdict.{Answer, accepted, refused, Clean}
+use Rattle.table.specs.VerdictLaws.{judge-clean, after-accepted, after-refused, not-both, clean-append}
+use Rattle.table.specs.Reading.{gameRows, readAnswer, readingAnswer}
+use Rattle.table.specs.ReadingLaws.{reading-accepted, well-clean}
+use Rattle.table.specs.WellFormed.{WellFormed}
+use Rattle.table.specs.declared.Sizes.{Sizes}
+use Rattle.table.specs.declared.Refusal.{Refusal}
+use Rattle.table.specs.declared.Reading.{Reading}
+use Rattle.order.specs.OrderCall.{memoryRow, orderAnswer, orderingAnswer, OrderWritten}
+use Rattle.order.specs.OrderRulesLaws.{order-accepts}
+use Rattle.order.specs.declared.Ordering.{Ordering}
+use Rattle.reduction.specs.Calls.{classRows, tableRows, classTotal, classWords, TableCall}
+use Rattle.reduction.specs.Answers.{tabulationAnswer}
+use Rattle.reduction.specs.ListsLaws.{lists-length}
+use Rattle.reduction.specs.declared.TableCounts.{TableCounts}
+use Rattle.reduction.specs.declared.Tabulation.{Tabulation}
+use Rattle.report.specs.declared.Report.{Report}
+use Rattle.report.specs.Findings.{number, Reported}
+use Rattle.report.specs.Parts.{passesOf, countsOf, Enough, AtMost}
+
+number-accepted : {a : Answer} {counts : List ℕ} (x : ℕ) → a ≡ accepted counts → number a x ≡ x
+unfolding number
+number-accepted x e = rw e
+
+number-refused : {a : Answer} {k p : ℕ} (x : ℕ) → a ≡ refused k p → number a x ≡ 0
+unfolding number
+number-refused x e = rw e
+
+pairs-fit : (g : List ℕ) → WellFormed g → vertexCount g * vertexCount g ≤ 65536
+pairs-fit g w = mul-le-mul (w .vertices) (w .vertices)
+
+-- the parts of an accepted verdict
+passes-given : (o : Ordering) (k : ℕ) → orderingAnswer o ≡ accepted (k ∷ []) → passesOf o ≡ k
+passes-given (Ordering.Accepted p) k e = cc
+passes-given (Ordering.Refused f) k e = absurd (not-both e)
+
+-- these counts
+pub record Given (c : TableCounts) (k n m : ℕ) : Type 0 where
+  pub classes : c .classes ≡ k
+  pub vertices : c .vertices ≡ n
+  pub edges : c .edges ≡ m
+
+counts-given : (t : Tabulation) (k n m : ℕ) → tabulationAnswer t ≡ accepted (k ∷ n ∷ m ∷ []) → Given (countsOf t) k n m
+counts-given (Tabulation.Accepted c) k n m e = record { classes = cc; vertices = cc; edges = cc }
+counts-given (Tabulation.Refused f) k n m e = absurd (not-both e)
+
+module _ (g marks spare classes output : List ℕ) (enough : Enough marks spare classes output) (w : WellFormed g) where
+  -- the order call accepts
+  order-passes : (marks′ spare′ : List ℕ) (o : Ordering) → OrderWritten g marks marks′ spare spare′ (orderingAnswer o)
+      → passesOf o ≡ orderPasses (gameOf g)
+  order-passes marks′ spare′ o d =
+      passes-given o _
+      (d .verdict
+      ∙ order-accepts g marks spare
+      (record { game = w; marksFit = omega (arith, pairs-fit g w, enough .marksFit); spareFit = omega (arith, pairs-fit g w, enough .spareFit) }))
+
+  -- and so does a call that writes a game of classes
+  table-accepts : (K : Game → Game) (marks′ spare′ classes′ output′ : List ℕ) (a : Answer)
+      (d : TableCall K g marks spare classes output a marks′ spare′ classes′ output′)
+      → a ≡ accepted (classTotal g ∷ K (gameOf g) .n ∷ edgeCount (K (gameOf g)) ∷ [])
+  unfolding tableRows classRows
+  table-accepts K marks′ spare′ classes′ output′ a d =
+      let pairs = pairs-fit g w in
+      let memory : Clean (memoryRow 21 (vertexCount g * vertexCount g) marks ∷ memoryRow 22 (vertexCount g * vertexCount g) spare ∷ memoryRow 23 (vertexCount g) classes ∷ []) = (
+        le-ltb (length marks) _ (omega (arith, enough .marksFit)),
+        (le-ltb (length spare) _ (omega (arith, enough .spareFit)), (le-ltb (length classes) _ (omega (arith, w .vertices, enough .classesFit)), tt)),
+      ) in
+      let table : Clean (memoryRow 24 (tableLength (vertexCount g) (tableEdges g)) output ∷ []) =
+      (le-ltb (length output) _ (omega (arith, w .vertices, w .edges, enough .outputFit)), tt) in
+      rw (← lists-length (K (gameOf g)) (d .edges) (d .listed))
+      (d .verdict ∙ judge-clean _ _ (clean-append (classRows g marks spare classes) _ (clean-append (gameRows g) _ (well-clean g w) memory) table))
+
+-- the reader refuses
+pub reported-refused : (g classes : List ℕ) (v : Reading) (f : Refusal) → v ≡ Reading.Refused f → readingAnswer v ≡ readAnswer g
+    → Reported g classes classes (record { verdict = v; passes = 0; classes = 0; vertices = 0; edges = 0 })
+reported-refused g classes v f h e =
+    let a : readAnswer g ≡ refused (f .number) (f .place) = sym e ∙ ap readingAnswer h in
+    record {
+      verdict = e;
+      passes = sym (number-refused _ a);
+      classes = sym (number-refused _ a);
+      vertices = sym (number-refused _ a);
+      edges = sym (number-refused _ a);
+      class-words = sym (after-refused _ classes a);
+    }
+
+-- the reader accepts: the order first, then the reduced game over the same buffers
+module _ (g marks marks′ marks″ spare spare′ spare″ classes classes′ output output′ : List ℕ) (v : Reading) (o : Ordering) (t : Tabulation)
+    (enough : Enough marks spare classes output) (again : Enough marks′ spare′ classes output)
+    (ordered : OrderWritten g marks marks′ spare spare′ (orderingAnswer o))
+    (made : TableCall reduced g marks′ spare′ classes output (tabulationAnswer t) marks″ spare″ classes′ output′) where
+  pub reported-accepted : (c : Sizes) → v ≡ Reading.Accepted c → readingAnswer v ≡ readAnswer g
+      → (passes : ℕ) → passes ≡ passesOf o → (counts : TableCounts) → counts ≡ countsOf t
+      → Reported g classes classes′
+      (record { verdict = v; passes = passes; classes = counts .classes; vertices = counts .vertices; edges = counts .edges })
+  reported-accepted c h e passes p counts q =
+      let a : readAnswer g ≡ readingAnswer (Reading.Accepted c) = sym e ∙ ap readingAnswer h in
+      let w = reading-accepted g c (sym a) .well in
+      let b = table-accepts g marks′ spare′ classes output again w reduced marks″ spare″ classes′ output′ (tabulationAnswer t) made in
+      let k = counts-given t _ _ _ b in
+      record {
+        verdict = e;
+        passes = p ∙ order-passes g marks spare classes output enough w marks′ spare′ o ordered ∙ sym (number-accepted _ a);
+        classes = ap (λ (x : TableCounts). x .classes) q ∙ k .classes ∙ sym (number-accepted _ a);
+        vertices = ap (λ (x : TableCounts). x .vertices) q ∙ k .vertices ∙ sym (number-accepted _ a);
+        edges = ap (λ (x : TableCounts). x .edges) q ∙ k .edges ∙ sym (number-accepted _ a);
+        class-words = made .classes-after ∙ after-accepted _ classes b ∙ sym (after-accepted _ classes a);
+      }
+
+pub reported-same : {g h old new : List ℕ} {r : Report} → g ≡ h → Reported g old new r → Reported h old new r
+reported-same e d = rw e at d
+
+-- 256 class words are enough to print
+pub reported-small : (g old new : List ℕ) (r : Report) → Reported g old new r → (n : ℕ) → 256 ≤ n → AtMost n (r .verdict)
+reported-small g old new r d n h =
+    record { fits = λ c e. let s = reading-accepted g c (rw e at (d .verdict)) in omega (arith, s .vertices, s .well .vertices) }

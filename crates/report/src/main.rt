@@ -1,0 +1,73 @@
+// The report on a game table: reads it from standard input and prints what `findings::find_from_bytes` answers.
+mod findings;
+mod print;
+mod words;
+
+use libc::STDIN_FILENO;
+use table::Reading;
+ghost use Prim.Native.Nat.{_≤_};
+ghost use lib.ListN.{length};
+ghost use Rattle.report.specs.Parts.{AtMost};
+
+// The reader's verdict; for an accepted game also the counts of passes, of classes, and of the reduced game's vertices and edges.
+pub struct Report {
+    pub verdict: Reading,
+    pub passes: u32,
+    pub classes: usize,
+    pub vertices: usize,
+    pub edges: usize,
+}
+
+// A refusal is the only line.
+fn print_report(report: Report, classes: &[u16])
+    requires { ⌜ AtMost (length (now classes)) (report .verdict) ⌝ }
+{
+    let verdict = report.verdict;
+    match verdict {
+        Reading::Refused(refusal) => print::two(
+            b"refused ",
+            refusal.number as u64,
+            b" at ",
+            refusal.place as u64,
+        ),
+        Reading::Accepted(sizes) => {
+            print::two(b"game ", sizes.vertices as u64, b" ", sizes.edges as u64);
+            print::one(b"passes ", report.passes as u64);
+            print::one(b"classes ", report.classes as u64);
+            print::vertices(classes, sizes.vertices);
+            print::two(
+                b"reduced ",
+                report.vertices as u64,
+                b" ",
+                report.edges as u64,
+            );
+        }
+    }
+}
+
+// Lends the arrays: a word more than the longest table has, and memory for any game that is accepted.
+fn report_bytes(bytes: &[u8])
+    requires { ⌜ length (now bytes) ≤ 17414 ⌝ }
+{
+    let mut words = [0u16; 8707];
+    let mut marks = [0u8; 65536];
+    let mut spare = [0u8; 65536];
+    let mut classes = [0u16; 256];
+    let mut output = [0u16; 8706];
+    let report = findings::find_from_bytes(
+        bytes,
+        &mut words,
+        &mut marks,
+        &mut spare,
+        &mut classes,
+        &mut output,
+    );
+    print_report(report, &classes);
+}
+
+// 17,414 bytes are 8,707 words.
+fn main() {
+    let mut bytes = [0u8; 17414];
+    let count = io::read_full(STDIN_FILENO, &mut bytes);
+    report_bytes(&bytes[..count]);
+}

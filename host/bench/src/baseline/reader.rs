@@ -1,0 +1,55 @@
+//! The reader.
+
+use super::refused;
+use raskjomi::exports::RaskjomiAnswer;
+
+/// The game's sizes, or its refusal.
+pub fn read(game: &[u16]) -> Result<(usize, usize), RaskjomiAnswer> {
+    if game.len() < 2 {
+        return Err(refused(1, game.len()));
+    }
+    let (n, m) = (game[0] as usize, game[1] as usize);
+    if n == 0 || n > 256 {
+        return Err(refused(2, 0));
+    }
+    if m > 4096 {
+        return Err(refused(3, 1));
+    }
+    if game.len() != 2 + 2 * n + 2 * m {
+        return Err(refused(4, game.len()));
+    }
+    parts(game, n, m)?;
+    Ok((n, m))
+}
+
+/// Refusals 5 to 8.
+fn parts(game: &[u16], n: usize, m: usize) -> Result<(), RaskjomiAnswer> {
+    let first = 2 + 2 * n;
+    let at_least = |from: usize, end: usize, limit: usize| {
+        game[from..end].iter().position(|&word| word as usize >= limit).map(|i| from + i)
+    };
+    if let Some(place) = at_least(2 + n, first, 2) {
+        return Err(refused(5, place));
+    }
+    if let Some(place) = at_least(first, game.len(), n) {
+        return Err(refused(6, place));
+    }
+    let (sources, targets) = game[first..].split_at(m);
+    if let Some(edge) = first_repeat(sources, targets, n) {
+        return Err(refused(7, first + edge));
+    }
+    let mut has_edge = [false; 256];
+    sources.iter().for_each(|&source| has_edge[source as usize] = true);
+    match has_edge[..n].iter().position(|&has| !has) {
+        Some(vertex) => Err(refused(8, vertex)),
+        None => Ok(()),
+    }
+}
+
+fn first_repeat(sources: &[u16], targets: &[u16], n: usize) -> Option<usize> {
+    let mut seen = [false; 65536];
+    sources.iter().zip(targets).position(|(&source, &target)| {
+        let edge = source as usize * n + target as usize;
+        std::mem::replace(&mut seen[edge], true)
+    })
+}

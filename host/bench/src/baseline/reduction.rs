@@ -1,0 +1,130 @@
+//! Classes and the reduced game.
+
+use super::index::Index;
+use super::order::Game;
+use super::{reader, refused};
+use raskjomi::exports::RaskjomiAnswer;
+
+/// The reduced game, as the library's call of this name.
+pub fn reduce(
+    game: &[u16],
+    marks: &mut [u8],
+    spare: &mut [u8],
+    classes: &mut [u16],
+    output: &mut [u16],
+) -> RaskjomiAnswer {
+    let (n, m) = match reader::read(game) {
+        Ok(sizes) => sizes,
+        Err(refusal) => return refusal,
+    };
+    let lengths = [marks.len(), spare.len(), classes.len(), output.len()];
+    for (i, needed) in [n * n, n * n, n, game.len()].into_iter().enumerate() {
+        if lengths[i] < needed {
+            return refused(21 + i as u32, needed);
+        }
+    }
+    let (sources, targets) = game[2 + 2 * n..].split_at(m);
+    let (mut starts, mut places) = ([0; 257], [0; 4096]);
+    let next = Index::build(sources, targets, &mut starts[..n + 1], &mut places);
+    let game = Game { priorities: &game[2..2 + n], owners: &game[2 + n..2 + 2 * n], next };
+    game.write_order(&mut marks[..n * n], &mut spare[..n * n]);
+    write_reduced(&game, &marks[..n * n], &mut classes[..n], output)
+}
+
+/// Writes classes and the reduced game's table.
+fn write_reduced(
+    game: &Game,
+    marks: &[u8],
+    classes: &mut [u16],
+    output: &mut [u16],
+) -> RaskjomiAnswer {
+    let mut lowest = [0; 256];
+    let k = write_classes(marks, classes, &mut lowest);
+    let lowest = &lowest[..k];
+    for (class, &vertex) in lowest.iter().enumerate() {
+        output[2 + class] = game.priorities[vertex as usize];
+        output[2 + k + class] = game.owners[vertex as usize];
+    }
+    let (mut sources, mut targets) = ([0; 4096], [0; 4096]);
+    let mut e = 0;
+    for class in 0..k {
+        let first = e;
+        e = quotient_edges(game, classes, class, k, &mut targets, first);
+        e = drop_little_brothers(game, marks, lowest, class, &mut targets, first, e);
+        sources[first..e].fill(class as u16);
+    }
+    (output[0], output[1]) = (k as u16, e as u16);
+    output[2 + 2 * k..2 + 2 * k + e].copy_from_slice(&sources[..e]);
+    output[2 + 2 * k + e..2 + 2 * k + 2 * e].copy_from_slice(&targets[..e]);
+    let (classes, edges) = (k as u32, e as u32);
+    RaskjomiAnswer { classes, vertices: classes, edges, ..RaskjomiAnswer::default() }
+}
+
+/// The class of each vertex and the lowest member of each class; the number of classes.
+fn write_classes(marks: &[u8], classes: &mut [u16], lowest: &mut [u16; 256]) -> usize {
+    let n = classes.len();
+    let mut k = 0;
+    for v in 0..n {
+        let shared = (0..v).find(|&w| marks[v * n + w] == 1 && marks[w * n + v] == 1);
+        classes[v] = shared.map_or(k as u16, |w| classes[w]);
+        if shared.is_none() {
+            lowest[k] = v as u16;
+            k += 1;
+        }
+    }
+    k
+}
+
+/// Appends the classes in which every member of a class has a successor; the new end.
+fn quotient_edges(
+    game: &Game,
+    classes: &[u16],
+    class: usize,
+    k: usize,
+    targets: &mut [u16],
+    first: usize,
+) -> usize {
+    let (mut members, mut counts, mut stamps) = (0u16, [0u16; 256], [0u16; 256]);
+    for v in (0..classes.len()).filter(|&v| classes[v] as usize == class) {
+        members += 1;
+        for &x in game.next.of(v) {
+            let to = classes[x as usize] as usize;
+            counts[to] += (stamps[to] != members) as u16;
+            stamps[to] = members;
+        }
+    }
+    let mut end = first;
+    for (to, _) in counts[..k].iter().enumerate().filter(|(_, &count)| count == members) {
+        targets[end] = to as u16;
+        end += 1;
+    }
+    end
+}
+
+/// Drops the targets that another one makes useless to the class's owner; the new end.
+fn drop_little_brothers(
+    game: &Game,
+    marks: &[u8],
+    lowest: &[u16],
+    class: usize,
+    targets: &mut [u16],
+    first: usize,
+    end: usize,
+) -> usize {
+    let n = game.priorities.len();
+    let below =
+        |d: u16, e: u16| marks[lowest[d as usize] as usize * n + lowest[e as usize] as usize] == 1;
+    let even = game.owners[lowest[class] as usize] == 0;
+    let mut all = [0; 256];
+    let count = end - first;
+    all[..count].copy_from_slice(&targets[first..end]);
+    let mut kept = first;
+    for &d in &all[..count] {
+        let useless = |&e: &u16| e != d && if even { below(d, e) } else { below(e, d) };
+        if !all[..count].iter().any(useless) {
+            targets[kept] = d;
+            kept += 1;
+        }
+    }
+    kept
+}

@@ -1,0 +1,108 @@
+//! The library beside a baseline: safe Rust of the same algorithm, in one run, on the same buffers,
+//! which neither clears first.
+#![forbid(unsafe_code)]
+
+mod baseline;
+mod measure;
+mod rows;
+
+use generator::sort_edges;
+use raskjomi::exports::{self, RaskjomiAnswer};
+use rows::{Row, Work};
+use std::time::Duration;
+
+/// The memory that both sides work in.
+#[derive(Clone, PartialEq, Eq)]
+struct Memory {
+    marks: Vec<u8>,
+    spare: Vec<u8>,
+    classes: Vec<u16>,
+    output: Vec<u16>,
+}
+
+/// A call that writes the reduced game.
+type Reduce = fn(&[u16], &mut [u8], &mut [u8], &mut [u16], &mut [u16]) -> RaskjomiAnswer;
+/// A call that judges a plan.
+type AcceptPlan = fn(&[u16], u32, &[u16]) -> RaskjomiAnswer;
+
+impl Memory {
+    fn for_game(game: &[u16]) -> Memory {
+        let n = game[0] as usize;
+        let (marks, classes) = (vec![0; n * n], vec![0; n]);
+        Memory { spare: marks.clone(), marks, classes, output: vec![0; game.len()] }
+    }
+
+    fn reduce(&mut self, side: usize, game: &[u16]) -> RaskjomiAnswer {
+        REDUCE[side](game, &mut self.marks, &mut self.spare, &mut self.classes, &mut self.output)
+    }
+}
+
+/// The two sides of the comparison, and their calls.
+const LIBRARY: usize = 0;
+const BASELINE: usize = 1;
+const REDUCE: [Reduce; 2] = [exports::reduce, baseline::reduce];
+const ACCEPT_PLAN: [AcceptPlan; 2] = [exports::accept_plan, baseline::accept_plan];
+
+/// What a row shows.
+struct Figures {
+    passes: Option<u32>,
+    times: (Duration, Duration),
+    stack: Option<usize>,
+}
+
+fn reduce_figures(game: Vec<u16>) -> Figures {
+    let mut memory = Memory::for_game(&game);
+    let [library, baseline] = [LIBRARY, BASELINE].map(|side| {
+        let answer = memory.reduce(side, &game);
+        // The sequence of edges is free.
+        sort_edges(&mut memory.output);
+        (answer, memory.clone())
+    });
+    assert!(library == baseline, "library and baseline differ");
+    let passes = exports::order(&game, &mut memory.marks, &mut memory.spare).passes;
+    let mut other = memory.clone();
+    let times = measure::best_times(
+        || memory.reduce(LIBRARY, &game).number,
+        || other.reduce(BASELINE, &game).number,
+    );
+    let stack = measure::stack(move || memory.reduce(LIBRARY, &game).number);
+    Figures { passes: Some(passes), times, stack }
+}
+
+fn plan_figures(game: Vec<u16>, plan: Vec<u16>) -> Figures {
+    let [library, baseline] = ACCEPT_PLAN.map(|call| call(&game, raskjomi::EVEN, &plan));
+    assert!(library == baseline, "library and baseline differ");
+    let call = move |side: usize| ACCEPT_PLAN[side](&game, raskjomi::EVEN, &plan).number;
+    let times = measure::best_times(|| call(LIBRARY), || call(BASELINE));
+    let stack = measure::stack(move || call(LIBRARY));
+    Figures { passes: None, times, stack }
+}
+
+/// A line of the table.
+fn line(cells: [&str; 8]) -> String {
+    let [name, n, m, passes, library, baseline, ratio, stack] = cells;
+    format!(
+        "{name:22} {n:>4} {m:>5} {passes:>6} {library:>11} {baseline:>11} {ratio:>6} {stack:>6}"
+    )
+}
+
+fn main() {
+    let heads = ["game", "n", "m", "passes", "library µs", "baseline µs", "ratio", "KiB"];
+    println!("{}", line(heads));
+    for Row { name, game, work } in rows::rows() {
+        let (n, m) = (game[0].to_string(), game[1].to_string());
+        let Figures { passes, times, stack } = match work {
+            Work::Reduce => reduce_figures(game),
+            Work::AcceptPlan(plan) => plan_figures(game, plan),
+        };
+        let [library, baseline] = [times.0, times.1].map(|time| time.as_secs_f64() * 1e6);
+        let passes = passes.map_or("-".into(), |passes| passes.to_string());
+        let stack = stack.map_or("-".into(), |size| size.to_string());
+        let [a, b, ratio] = [
+            format!("{library:.1}"),
+            format!("{baseline:.1}"),
+            format!("{:.2}", library / baseline),
+        ];
+        println!("{}", line([&name, &n, &m, &passes, &a, &b, &ratio, &stack]));
+    }
+}

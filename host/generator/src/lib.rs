@@ -1,0 +1,21 @@
+//! Games, relations and plans from a seed, the same on every machine, and a solver that finds
+//! winners. For tests and the benchmark only.
+#![forbid(unsafe_code)]
+
+mod damage;
+mod families;
+mod lcg;
+mod plans;
+mod relations;
+mod sample;
+mod solver;
+mod table;
+
+pub use damage::{damaged, damaged_often};
+pub use families::{chain, complete, copies, random, ring, two_rings};
+pub use lcg::Lcg;
+pub use plans::{largest_plan, strategy_plan, unfolded, Plan};
+pub use relations::relation;
+pub use sample::{any_game, bent_plan, old_bytes, old_words};
+pub use solver::{solve, Solution};
+pub use table::{sort_edges, Table};

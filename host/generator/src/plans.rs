@@ -1,0 +1,79 @@
+//! Plans: strategies given as graphs of positions and links.
+
+use crate::families::forced_ring;
+use crate::{Lcg, Solution, Table};
+use std::collections::HashMap;
+
+/// The vertex of each position, and the links between positions.
+#[derive(Clone, Debug, PartialEq, Eq)]
+pub struct Plan {
+    pub vertices: Vec<u16>,
+    pub links: Vec<(u16, u16)>,
+}
+
+impl Plan {
+    /// The words of the plan.
+    pub fn words(&self) -> Vec<u16> {
+        let mut words = vec![self.vertices.len() as u16, self.links.len() as u16];
+        words.extend(&self.vertices);
+        words.extend(self.links.iter().map(|link| link.0));
+        words.extend(self.links.iter().map(|link| link.1));
+        words
+    }
+}
+
+/// The plan of a positional strategy for the player from `start`: at own vertices one link, to
+/// `choice`, and at the opponent's one for each successor.
+pub fn strategy_plan(game: &Table, player: u16, start: usize, choice: &[usize]) -> Plan {
+    let successors = game.successors();
+    let mut position = HashMap::from([(start, 0)]);
+    let mut plan = Plan { vertices: vec![start as u16], links: vec![] };
+    let mut at = 0;
+    while at < plan.vertices.len() {
+        let v = plan.vertices[at] as usize;
+        let own = [choice[v]];
+        let moves = if game.owners[v] == player { &own[..] } else { &successors[v][..] };
+        for &next in moves {
+            let to = *position.entry(next).or_insert_with(|| {
+                plan.vertices.push(next as u16);
+                plan.vertices.len() - 1
+            });
+            plan.links.push((at as u16, to as u16));
+        }
+        at += 1;
+    }
+    plan
+}
+
+/// The plan with `count` copies of each position; each copy's links lead to copies drawn at
+/// random. Closed walks run over the same vertices as before, so it wins exactly if the plan does.
+pub fn unfolded(lcg: &mut Lcg, plan: &Plan, count: usize) -> Plan {
+    let p = plan.vertices.len();
+    let mut links = Vec::new();
+    for copy in 0..count {
+        for &(from, to) in &plan.links {
+            let target = lcg.below(count) * p + to as usize;
+            links.push(((copy * p) as u16 + from, target as u16));
+        }
+    }
+    lcg.shuffle(&mut links);
+    Plan { vertices: plan.vertices.repeat(count), links }
+}
+
+/// A game of 256 vertices, all Odd's, and Even's plan of 4,096 positions and 16,384 links for it.
+/// All positions but a few have the wrong parity and none lies on a bad walk.
+pub fn largest_plan(lcg: &mut Lcg) -> (Table, Plan) {
+    let mut game = forced_ring(256, 4);
+    game.owners.fill(1);
+    game.priorities[4..].fill(1);
+    let all = strategy_plan(&game, 0, 0, &[0; 256]);
+    let plan = unfolded(lcg, &all, 16);
+    (game, plan)
+}
+
+impl Solution {
+    /// The winner's plan from a vertex.
+    pub fn plan(&self, game: &Table, vertex: usize) -> Plan {
+        strategy_plan(game, self.winner[vertex], vertex, &self.choice)
+    }
+}

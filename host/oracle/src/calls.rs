@@ -1,0 +1,195 @@
+//! The calls as a host makes them: on words and lent memory, with document 01's numbers.
+
+use crate::game::Game;
+use crate::reduction::Classes;
+use crate::{Oracle, Relation, Trap};
+
+/// A call's answer: number 0 for accepted with its counts, else the refusal's number and place.
+#[derive(Clone, Copy, Debug, Default, PartialEq, Eq)]
+pub struct Answer {
+    pub number: u32,
+    pub passes: u32,
+    pub classes: u32,
+    pub vertices: u32,
+    pub edges: u32,
+    pub place: usize,
+}
+
+/// Why a call turns its input or the lent memory down.
+#[derive(Clone, Copy, Debug, PartialEq, Eq)]
+pub struct Refusal {
+    pub number: u32,
+    pub place: usize,
+}
+
+/// The memory that a host lends.
+#[derive(Clone, Debug, Default, PartialEq, Eq)]
+pub struct Memory {
+    pub marks: Vec<u8>,
+    pub spare: Vec<u8>,
+    pub classes: Vec<u16>,
+    pub output: Vec<u16>,
+}
+
+/// Refuses at the place if there is one.
+pub(crate) fn refuse_at(place: Option<usize>, number: u32) -> Result<(), Refusal> {
+    place.map_or(Ok(()), |place| Err(Refusal { number, place }))
+}
+
+/// Refuses at the place if the test holds.
+pub(crate) fn refuse_if(test: bool, number: u32, place: usize) -> Result<(), Refusal> {
+    refuse_at(test.then_some(place), number)
+}
+
+/// Which of the two tables a call writes.
+#[derive(Clone, Copy, PartialEq, Eq)]
+enum Output {
+    Quotient,
+    Reduced,
+}
+
+impl Oracle {
+    /// The reader.
+    pub fn read(&self, game: &[u16]) -> Answer {
+        self.answer(self.game(game).map(|game| self.table_counts(&game)))
+    }
+
+    /// The order.
+    pub fn order(&self, game: &[u16], memory: &mut Memory) -> Answer {
+        let order = self.checked(game, memory, 2).map(|game| {
+            let (order, passes) = self.write_order(&game, memory);
+            (order, Answer { passes, ..Answer::default() })
+        });
+        self.answer(order.map(|(_, counts)| counts))
+    }
+
+    /// The relation acceptor, which reads the marks and writes nothing.
+    pub fn accept_relation(&self, game: &[u16], memory: &Memory) -> Answer {
+        let game = self.checked(game, &mut memory.clone(), 1);
+        let verdict = game.and_then(|game| self.judge_relation(&game, &memory.marks));
+        self.answer(verdict.map(|()| Answer::default()))
+    }
+
+    /// The classes.
+    pub fn classes(&self, game: &[u16], memory: &mut Memory) -> Answer {
+        let game = self.checked(game, memory, 3);
+        self.answer(game.map(|game| self.write_classes(&game, memory).2))
+    }
+
+    /// The quotient game.
+    pub fn quotient(&self, game: &[u16], memory: &mut Memory) -> Answer {
+        self.table(game, memory, Output::Quotient)
+    }
+
+    /// The reduced game.
+    pub fn reduce(&self, game: &[u16], memory: &mut Memory) -> Answer {
+        self.table(game, memory, Output::Reduced)
+    }
+
+    /// The plan acceptor.
+    pub fn accept_plan(&self, game: &[u16], player: u32, plan: &[u16]) -> Answer {
+        let verdict = self.game(game).and_then(|game| self.judge_plan(&game, player, plan));
+        self.answer(verdict.map(|()| Answer::default()))
+    }
+
+    /// The kind of a refusal number.
+    pub fn kind(&self, number: u32) -> u32 {
+        let gap = self.falls_for(Trap::KindsWithoutGaps);
+        match number {
+            1..=8 => 1,
+            9 | 10 => 2,
+            11..=16 => 3,
+            17..=20 if gap => 3,
+            21..=24 => 4,
+            25..=30 if gap => 4,
+            31..=99 => 5,
+            _ => 0,
+        }
+    }
+
+    fn table(&self, game: &[u16], memory: &mut Memory, wanted: Output) -> Answer {
+        let game = self.checked(game, memory, 4);
+        self.answer(game.and_then(|game| self.write_table(&game, memory, wanted)))
+    }
+
+    /// The game, if the reader takes it and the first `buffers` of the lent memory are long enough:
+    /// refusals 1 to 8, then 21 to 24 as far as the call goes.
+    fn checked(&self, game: &[u16], memory: &mut Memory, buffers: usize) -> Result<Game, Refusal> {
+        let game = self.game(game)?;
+        let n = game.n();
+        let by_result = self.falls_for(Trap::OutputByResult);
+        let words = if by_result { 0 } else { game.words() };
+        let needed = [n * n, n * n, n, words];
+        let lent =
+            [memory.marks.len(), memory.spare.len(), memory.classes.len(), memory.output.len()];
+        for i in 0..buffers {
+            if i == 2 && self.falls_for(Trap::OrderBeforeLengths) {
+                self.write_order(&game, memory);
+            }
+            refuse_if(lent[i] < needed[i], 21 + i as u32, needed[i])?;
+        }
+        Ok(game)
+    }
+
+    fn write_order(&self, game: &Game, memory: &mut Memory) -> (Relation, u32) {
+        let (order, passes) = self.order_of(game);
+        self.write(&mut memory.marks, &order.bytes());
+        if !self.falls_for(Trap::SpareLeftOld) {
+            self.write(&mut memory.spare, &order.bytes());
+        }
+        (order, passes)
+    }
+
+    fn write_classes(&self, game: &Game, memory: &mut Memory) -> (Relation, Classes, Answer) {
+        let (order, passes) = self.write_order(game, memory);
+        let classes = self.classes_of(game, &order);
+        let words: Vec<u16> = classes.of.iter().map(|&class| class as u16).collect();
+        self.write(&mut memory.classes, &words);
+        let passes = if self.falls_for(Trap::PassesEverywhere) { passes } else { 0 };
+        let counts = Answer { passes, classes: classes.count() as u32, ..Answer::default() };
+        (order, classes, counts)
+    }
+
+    fn write_table(
+        &self,
+        game: &Game,
+        memory: &mut Memory,
+        wanted: Output,
+    ) -> Result<Answer, Refusal> {
+        let mut after = memory.clone();
+        let (order, classes, counts) = self.write_classes(game, &mut after);
+        let mut table = self.quotient_of(game, &classes);
+        if wanted == Output::Reduced {
+            table = self.reduced_of(&table, &classes, &order);
+        }
+        refuse_if(after.output.len() < table.words(), 24, table.words())?;
+        self.write(&mut after.output, &table.table());
+        *memory = after;
+        let Answer { vertices, edges, .. } = self.table_counts(&table);
+        Ok(Answer { vertices, edges, ..counts })
+    }
+
+    fn table_counts(&self, game: &Game) -> Answer {
+        let (mut vertices, mut edges) = (game.n() as u32, game.m() as u32);
+        if self.falls_for(Trap::CountsExchanged) {
+            (vertices, edges) = (edges, vertices);
+        }
+        Answer { vertices, edges, ..Answer::default() }
+    }
+
+    /// Writes at the start of lent memory; what lies beyond has its old content.
+    fn write<T: Copy + Default>(&self, memory: &mut [T], new: &[T]) {
+        memory[..new.len()].copy_from_slice(new);
+        if self.falls_for(Trap::BeyondCleared) {
+            memory[new.len()..].fill(T::default());
+        }
+    }
+
+    fn answer(&self, verdict: Result<Answer, Refusal>) -> Answer {
+        verdict.unwrap_or_else(|Refusal { number, place }| Answer {
+            number,
+            place,
+            ..Answer::default()
+        })
+    }
+}

@@ -1,0 +1,43 @@
+//! A second implementation of every call, for tests: written from document 01, "Parity games and
+//! their direct simulation order", by its definitions, slow and plain, and sharing no code with the
+//! library that it is compared with.
+//!
+//! Each [`Trap`] is a misreading of document 01. An [`Oracle`] that falls for one gives the answers
+//! of that misreading, so a test can show that it would be noticed.
+#![forbid(unsafe_code)]
+
+mod calls;
+mod game;
+mod plan;
+mod reduction;
+mod relation;
+mod report;
+mod trap;
+
+pub use calls::{Answer, Memory, Refusal};
+pub use game::Game;
+pub use reduction::Classes;
+pub use relation::Relation;
+pub use trap::Trap;
+
+/// Answers every call by the definitions, or with one misreading of them.
+#[derive(Clone, Copy, Debug, Default)]
+pub struct Oracle {
+    trap: Option<Trap>,
+}
+
+impl Oracle {
+    /// The answers of document 01.
+    pub fn exact() -> Oracle {
+        Oracle { trap: None }
+    }
+
+    /// The answers of someone who falls for `trap`.
+    pub fn with(trap: Trap) -> Oracle {
+        Oracle { trap: Some(trap) }
+    }
+
+    fn falls_for(&self, trap: Trap) -> bool {
+        self.trap == Some(trap)
+    }
+}

@@ -1,0 +1,123 @@
+//! Misreadings of document 01, each a switch.
+
+/// One misreading. The first five are the traps that document 01 lists.
+#[derive(Clone, Copy, Debug, PartialEq, Eq)]
+pub enum Trap {
+    /// A quotient edge where only some member has it.
+    SomeMemberHasEdge,
+    /// Edges to little brothers dropped by the source's prose, not its table.
+    LittleBrothersByProse,
+    /// "Some" and "every" exchanged in the rows of two different owners.
+    MixedRowsExchanged,
+    /// A pair is unmarked while the pass still runs.
+    UnmarkDuringPass,
+    /// Only closed walks of one link are judged.
+    SelfLoopsOnly,
+
+    /// Edge ends are checked before owners.
+    EndsBeforeOwners,
+    /// The first bad edge end is searched edge by edge, not word by word.
+    EndsEdgeByEdge,
+    /// A repeat is reported where the earlier edge stands.
+    RepeatAtEarlierEdge,
+    /// A vertex without an edge is reported before a repeated edge.
+    SinkBeforeRepeat,
+    /// A vertex without an edge is reported by its word.
+    SinkAsWord,
+    /// A table longer than its sizes say is taken.
+    LongTableTaken,
+
+    /// Pass 0 marks pairs of unequal priority too.
+    PassZeroMarksAll,
+    /// The last pass isn't counted.
+    LastPassUncounted,
+    /// The spare buffer keeps its old content.
+    SpareLeftOld,
+    /// Lent memory beyond what is written is set to 0.
+    BeyondCleared,
+    /// The order is written before the lengths of the later buffers are checked.
+    OrderBeforeLengths,
+    /// The order's passes are given by the calls above it too.
+    PassesEverywhere,
+    /// Vertices and edges change places in the answer.
+    CountsExchanged,
+
+    /// A byte above 1 and a failing pair are searched in one scan.
+    BytesAndPairsTogether,
+    /// Any byte but 0 is a mark.
+    AnyByteMarks,
+    /// Bytes beyond the n × n marks are judged too.
+    BytesBeyondJudged,
+    /// A marked pair of unequal priorities passes if it passes the test.
+    UnequalPrioritiesPass,
+
+    /// Classes are numbered by their highest member.
+    ClassesByHighest,
+    /// A class has the owner of its highest member.
+    OwnerOfHighest,
+    /// A quotient edge wherever the lowest member has one.
+    LowestMemberDecides,
+    /// The output's length is checked against the result, not the input.
+    OutputByResult,
+
+    /// Only positions that can be reached from position 0 are judged.
+    ReachableOnly,
+    /// One link is enough at the opponent's positions too.
+    OneAnswerEnough,
+    /// The first bad link end is searched link by link.
+    LinkEndsTogether,
+    /// The highest priority of a closed walk decides.
+    HighestDecides,
+    /// The lowest position of a bad walk is named, whatever its priority.
+    LowestOnWalk,
+    /// The plan is judged for Even whoever the player is.
+    PlayerFixed,
+
+    /// Numbers between two ranges have the kind of the range below.
+    KindsWithoutGaps,
+    /// The report drops a last half word.
+    HalfWordDropped,
+    /// The report reads tables of any length.
+    ReportUnlimited,
+}
+
+impl Trap {
+    /// Every trap, those of document 01 first.
+    pub const ALL: [Trap; 35] = [
+        Trap::SomeMemberHasEdge,
+        Trap::LittleBrothersByProse,
+        Trap::MixedRowsExchanged,
+        Trap::UnmarkDuringPass,
+        Trap::SelfLoopsOnly,
+        Trap::EndsBeforeOwners,
+        Trap::EndsEdgeByEdge,
+        Trap::RepeatAtEarlierEdge,
+        Trap::SinkBeforeRepeat,
+        Trap::SinkAsWord,
+        Trap::LongTableTaken,
+        Trap::PassZeroMarksAll,
+        Trap::LastPassUncounted,
+        Trap::SpareLeftOld,
+        Trap::BeyondCleared,
+        Trap::OrderBeforeLengths,
+        Trap::PassesEverywhere,
+        Trap::CountsExchanged,
+        Trap::BytesAndPairsTogether,
+        Trap::AnyByteMarks,
+        Trap::BytesBeyondJudged,
+        Trap::UnequalPrioritiesPass,
+        Trap::ClassesByHighest,
+        Trap::OwnerOfHighest,
+        Trap::LowestMemberDecides,
+        Trap::OutputByResult,
+        Trap::ReachableOnly,
+        Trap::OneAnswerEnough,
+        Trap::LinkEndsTogether,
+        Trap::HighestDecides,
+        Trap::LowestOnWalk,
+        Trap::PlayerFixed,
+        Trap::KindsWithoutGaps,
+        Trap::HalfWordDropped,
+        Trap::ReportUnlimited,
+    ];
+}

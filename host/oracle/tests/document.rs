@@ -1,0 +1,202 @@
+//! The games of document 01, P1 to P14 among them, and the limits.
+
+use oracle::{Answer, Memory, Oracle};
+
+const B: [u16; 14] = [3, 3, 0, 1, 0, 0, 0, 1, 0, 1, 2, 1, 1, 1];
+const EDGES_OF_C: [(u16, u16); 7] = [(0, 1), (0, 2), (1, 3), (2, 3), (2, 4), (3, 3), (4, 4)];
+
+fn table(priorities: &[u16], owners: &[u16], edges: &[(u16, u16)]) -> Vec<u16> {
+    let mut words = vec![priorities.len() as u16, edges.len() as u16];
+    words.extend(priorities.iter().chain(owners));
+    words.extend(edges.iter().map(|edge| edge.0));
+    words.extend(edges.iter().map(|edge| edge.1));
+    words
+}
+
+fn c() -> Vec<u16> {
+    table(&[2, 0, 0, 1, 4], &[0; 5], &EDGES_OF_C)
+}
+
+/// C with a vertex 5 of priority 2, Even's, with an edge to 2.
+fn d() -> Vec<u16> {
+    let edges = [&EDGES_OF_C[..], &[(5, 2)]].concat();
+    table(&[2, 0, 0, 1, 4, 2], &[0; 6], &edges)
+}
+
+/// A game of n vertices, each with the first m / n vertices as successors.
+fn regular(n: usize, m: usize) -> Vec<u16> {
+    let degree = m / n;
+    let edges: Vec<(u16, u16)> =
+        (0..m).map(|i| ((i / degree) as u16, (i % degree) as u16)).collect();
+    table(&vec![0; n], &vec![0; n], &edges)
+}
+
+fn refused(number: u32, place: usize) -> Answer {
+    Answer { number, place, ..Answer::default() }
+}
+
+fn memory_for(game: &[u16]) -> Memory {
+    let n = game[0] as usize;
+    Memory {
+        marks: vec![7; n * n],
+        spare: vec![7; n * n],
+        classes: vec![7; n],
+        output: vec![7; game.len()],
+    }
+}
+
+/// The edges of an output table of k vertices and e edges, sorted.
+fn edges(output: &[u16]) -> Vec<(u16, u16)> {
+    let (k, e) = (output[0] as usize, output[1] as usize);
+    let ends = &output[2 + 2 * k..2 + 2 * k + 2 * e];
+    let mut edges: Vec<(u16, u16)> = (0..e).map(|i| (ends[i], ends[e + i])).collect();
+    edges.sort();
+    edges
+}
+
+/// The reduced game's edges.
+fn reduced_edges(game: &[u16]) -> Vec<(u16, u16)> {
+    let mut memory = memory_for(game);
+    assert_eq!(Oracle::exact().reduce(game, &mut memory).number, 0);
+    edges(&memory.output)
+}
+
+#[test]
+fn p1_single_vertex() {
+    let game = [1, 1, 1, 1, 0, 0];
+    let mut memory = memory_for(&game);
+    assert_eq!(
+        Oracle::exact().order(&game, &mut memory),
+        Answer { passes: 1, ..Answer::default() }
+    );
+    assert_eq!((memory.marks, memory.spare), (vec![1], vec![1]));
+    let mut memory = memory_for(&game);
+    assert_eq!(
+        Oracle::exact().classes(&game, &mut memory),
+        Answer { classes: 1, ..Answer::default() }
+    );
+    assert_eq!(memory.classes, [0]);
+}
+
+#[test]
+fn p2_to_p7_refusals_of_the_reader() {
+    let rows: [(&[u16], u32, usize); 6] = [
+        (&[], 1, 0),
+        (&[0, 0], 2, 0),
+        (&[1, 0, 0, 0], 8, 0),
+        (&[1, 1, 0, 2, 0, 0], 5, 3),
+        (&[1, 1, 0, 0, 0, 1], 6, 5),
+        (&[1, 2, 0, 0, 0, 0, 0, 0], 7, 5),
+    ];
+    for (game, number, place) in rows {
+        assert_eq!(Oracle::exact().read(game), refused(number, place));
+    }
+}
+
+#[test]
+fn p8_game_b() {
+    let mut memory = memory_for(&B);
+    let answer = Oracle::exact().reduce(&B, &mut memory);
+    assert_eq!(answer, Answer { classes: 2, vertices: 2, edges: 2, ..Answer::default() });
+    assert_eq!(memory.marks, [1, 0, 1, 0, 1, 0, 1, 0, 1]);
+    assert_eq!(memory.output[..6], [2, 2, 0, 1, 0, 0]);
+    assert_eq!(edges(&memory.output), [(0, 1), (1, 1)]);
+    assert_eq!(memory.output[10..], [7; 4]);
+}
+
+#[test]
+fn p9_and_p10_game_c() {
+    let mut game = c();
+    let mut memory = memory_for(&game);
+    assert_eq!(Oracle::exact().order(&game, &mut memory).passes, 2);
+    assert_eq!((memory.marks[5 + 2], memory.marks[2 * 5 + 1]), (1, 0));
+    let quotient = Oracle::exact().quotient(&game, &mut memory);
+    assert_eq!((quotient.classes, quotient.edges), (5, 7));
+    let mut kept = EDGES_OF_C.to_vec();
+    kept.remove(0);
+    assert_eq!(reduced_edges(&game), kept);
+    game[2 + 5] = 1;
+    let mut kept = EDGES_OF_C.to_vec();
+    kept.remove(1);
+    assert_eq!(reduced_edges(&game), kept);
+}
+
+#[test]
+fn p11_relation_of_one_pair() {
+    let mut memory = memory_for(&c());
+    memory.marks.fill(0);
+    assert_eq!(Oracle::exact().accept_relation(&c(), &memory), Answer::default());
+    memory.marks[2 * 5 + 1] = 1;
+    assert_eq!(Oracle::exact().accept_relation(&c(), &memory), refused(10, 11));
+}
+
+#[test]
+fn p12_to_p14_plans() {
+    let plan = [3, 3, 0, 2, 4, 0, 1, 2, 1, 2, 2];
+    assert_eq!(Oracle::exact().accept_plan(&c(), 0, &plan), Answer::default());
+    assert_eq!(Oracle::exact().accept_plan(&c(), 1, &plan), refused(15, 0));
+    let one = [1, 1, 1, 1, 0, 0];
+    assert_eq!(Oracle::exact().accept_plan(&one, 0, &[1, 1, 0, 0, 0]), refused(16, 0));
+}
+
+#[test]
+fn game_d() {
+    let mut memory = memory_for(&d());
+    let answer = Oracle::exact().quotient(&d(), &mut memory);
+    assert_eq!(memory.classes, [0, 1, 2, 3, 4, 0]);
+    assert_eq!(answer, Answer { classes: 5, vertices: 5, edges: 6, ..Answer::default() });
+}
+
+#[test]
+fn limits() {
+    let accepted = |vertices, edges| Answer { vertices, edges, ..Answer::default() };
+    assert_eq!(Oracle::exact().read(&regular(256, 4096)), accepted(256, 4096));
+    assert_eq!(Oracle::exact().read(&regular(64, 4096)), accepted(64, 4096));
+    assert_eq!(Oracle::exact().read(&regular(257, 257)), refused(2, 0));
+    assert_eq!(Oracle::exact().read(&regular(1, 4097)), refused(3, 1));
+    let mut memory = memory_for(&B);
+    memory.marks.pop();
+    let old = memory.clone();
+    assert_eq!(Oracle::exact().order(&B, &mut memory), refused(21, 9));
+    assert_eq!(Oracle::exact().accept_relation(&B, &memory), refused(21, 9));
+    assert_eq!(memory, old);
+}
+
+#[test]
+fn lengths_in_their_sequence() {
+    let mut memory = Memory::default();
+    let mut seen = Vec::new();
+    for _ in 0..5 {
+        let answer = Oracle::exact().reduce(&B, &mut memory);
+        seen.push((answer.number, answer.place));
+        match answer.number {
+            21 => memory.marks.resize(9, 5),
+            22 => memory.spare.resize(9, 5),
+            23 => memory.classes.resize(3, 5),
+            _ => memory.output.resize(14, 5),
+        }
+    }
+    assert_eq!(seen, [(21, 9), (22, 9), (23, 3), (24, 14), (0, 0)]);
+}
+
+#[test]
+fn kinds() {
+    let kinds = [(1..=8, 1), (9..=10, 2), (11..=16, 3), (21..=24, 4), (31..=99, 5)];
+    for number in (0..200).chain([u32::MAX]) {
+        let kind = kinds.iter().find(|(range, _)| range.contains(&number)).map_or(0, |row| row.1);
+        assert_eq!(Oracle::exact().kind(number), kind);
+    }
+}
+
+#[test]
+fn report_of_b() {
+    let bytes: Vec<u8> = B.iter().flat_map(|word| word.to_le_bytes()).collect();
+    let text = "game 3 3\npasses 1\nclasses 2\n\
+                vertex 0 class 0\nvertex 1 class 1\nvertex 2 class 0\nreduced 2 2\n";
+    assert_eq!(Oracle::exact().report(&bytes), text);
+    assert_eq!(Oracle::exact().report(&bytes[..27]), text, "a last half word gets high byte 0");
+    assert_eq!(Oracle::exact().report(&[1, 0, 0, 0, 0, 0, 0, 0]), "refused 8 at 0\n");
+    assert_eq!(Oracle::exact().report(&[]), "refused 1 at 0\n");
+    let long = [[1, 0, 1, 0].repeat(4), vec![9; 20_000]].concat();
+    assert_eq!(Oracle::exact().report(&long), "refused 4 at 8707\n");
+}

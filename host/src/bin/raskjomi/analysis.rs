@@ -1,0 +1,102 @@
+//! The library's answers on a game, with memory of the lengths needed.
+
+use crate::failure::Failure;
+use crate::input::{Input, Unit};
+use crate::locate::game_refused;
+use crate::table::{sort_edges, Table};
+use raskjomi::{Refusal, Size};
+
+/// A game that the reader accepts.
+pub struct Game {
+    pub input: Input,
+    size: Size,
+}
+
+/// The order's marks and its passes.
+pub struct Order {
+    pub marks: Vec<u8>,
+    pub passes: u32,
+}
+
+/// The class of each vertex, and a table of the classes with its edges sorted.
+pub struct Merged {
+    pub classes: Vec<u16>,
+    words: Vec<u16>,
+}
+
+/// A call of the library that writes a table.
+type WriteTable = fn(&[u16], &mut [u8], &mut [u8], &mut [u16], &mut [u16]) -> Result<Size, Refusal>;
+
+impl Game {
+    /// Reads a game table.
+    pub fn load(path: &str) -> Result<Game, Failure> {
+        let input = Input::read(path, Unit::Word)?;
+        match raskjomi::read(&input.numbers) {
+            Ok(size) => Ok(Game { input, size }),
+            Err(refusal) => Err(game_refused(refusal, &input)),
+        }
+    }
+
+    /// The game's table.
+    pub fn table(&self) -> Table<'_> {
+        Table::new(&self.input.numbers)
+    }
+
+    /// The order.
+    pub fn order(&self) -> Result<Order, Failure> {
+        let (mut marks, mut spare) = self.marks();
+        let passes = raskjomi::order(&self.input.numbers, &mut marks, &mut spare);
+        Ok(Order { marks, passes: self.told(passes)? })
+    }
+
+    /// The classes alone.
+    pub fn classes(&self) -> Result<Vec<u16>, Failure> {
+        let (mut marks, mut spare) = self.marks();
+        let mut classes = vec![0; self.size.vertices];
+        self.told(raskjomi::classes(&self.input.numbers, &mut marks, &mut spare, &mut classes))?;
+        Ok(classes)
+    }
+
+    /// The classes with the quotient game.
+    pub fn quotient(&self) -> Result<Merged, Failure> {
+        self.merged(raskjomi::quotient)
+    }
+
+    /// The classes with the reduced game.
+    pub fn reduced(&self) -> Result<Merged, Failure> {
+        self.merged(raskjomi::reduce)
+    }
+
+    fn merged(&self, write: WriteTable) -> Result<Merged, Failure> {
+        let (mut marks, mut spare) = self.marks();
+        let (mut classes, mut words) = (vec![0; self.size.vertices], vec![0; self.size.words()]);
+        self.told(write(&self.input.numbers, &mut marks, &mut spare, &mut classes, &mut words))?;
+        sort_edges(&mut words);
+        Ok(Merged { classes, words })
+    }
+
+    fn marks(&self) -> (Vec<u8>, Vec<u8>) {
+        (vec![0; self.size.marks()], vec![0; self.size.marks()])
+    }
+
+    fn told<T>(&self, verdict: Result<T, Refusal>) -> Result<T, Failure> {
+        verdict.map_err(|refusal| game_refused(refusal, &self.input))
+    }
+}
+
+impl Merged {
+    /// The table of the classes.
+    pub fn table(&self) -> Table<'_> {
+        Table::new(&self.words)
+    }
+}
+
+/// The vertices of each class, from the class of each vertex.
+pub fn members(classes: &[u16]) -> Vec<Vec<usize>> {
+    let count = classes.iter().max().map_or(0, |&class| class as usize + 1);
+    let mut members = vec![Vec::new(); count];
+    for (vertex, &class) in classes.iter().enumerate() {
+        members[class as usize].push(vertex);
+    }
+    members
+}

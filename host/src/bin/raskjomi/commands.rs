@@ -1,0 +1,176 @@
+//! The commands.
+
+use crate::analysis::{members, Game, Merged};
+use crate::arguments::{Arguments, Form};
+use crate::failure::Failure;
+use crate::help::{self, COMMANDS};
+use crate::input::{Input, Unit};
+use crate::locate::{plan_refused, relation_refused};
+use crate::{dot as picture, text};
+use raskjomi::Kind;
+
+/// What a command writes to standard output, or how it fails.
+type Written = Result<Vec<u8>, Failure>;
+
+/// Runs the command that the words name.
+pub fn run(words: &[String]) -> Written {
+    let Some((name, rest)) = words.split_first() else {
+        return Err(Failure::usage("no command; `raskjomi --help` lists the commands"));
+    };
+    if matches!(name.as_str(), "--help" | "-h" | "help") {
+        return Ok(help::overview().into());
+    }
+    let command = COMMANDS.iter().find(|command| command.name == name);
+    let command = command.ok_or_else(|| {
+        Failure::usage(format!("no command `{name}`; `raskjomi --help` lists the commands"))
+    })?;
+    if rest.iter().any(|word| matches!(word.as_str(), "--help" | "-h")) {
+        return Ok(help::of(command).into());
+    }
+    (command.run)(&Arguments::parse(command, rest)?)
+}
+
+/// `report`: the lines of the report program, or a sentence on one vertex.
+pub fn report(arguments: &Arguments) -> Written {
+    let game = Game::load(arguments.file(0)).map_err(Failure::with_verdict)?;
+    let reduced = game.reduced()?;
+    if let Some(vertex) = arguments.value("--vertex") {
+        return vertex_sentence(&game, &reduced, vertex).map(Vec::from);
+    }
+    let (table, classes) = (game.table(), &reduced.classes);
+    let mut report = format!("game {} {}\n", table.n(), table.m());
+    report += &format!("passes {}\nclasses {}\n", game.order()?.passes, reduced.table().n());
+    for (vertex, class) in classes.iter().enumerate() {
+        report += &format!("vertex {vertex} class {class}\n");
+    }
+    report += &format!("reduced {} {}\n", reduced.table().n(), reduced.table().m());
+    Ok(report.into())
+}
+
+/// The vertex's class, its other members, and what that means for a win.
+fn vertex_sentence(game: &Game, reduced: &Merged, vertex: &str) -> Result<String, Failure> {
+    let last = game.table().n() - 1;
+    let v = vertex.parse::<usize>().ok().filter(|&v| v <= last).ok_or_else(|| {
+        Failure::usage(format!(
+            "no vertex `{vertex}`; write --vertex with a number from 0 to {last}"
+        ))
+    })?;
+    let class = reduced.classes[v];
+    let mut others = members(&reduced.classes).swap_remove(class as usize);
+    others.retain(|&other| other != v);
+    let listed = text::listed(&others);
+    let (company, equals) = match others.len() {
+        0 => ("is alone in".to_string(), String::new()),
+        1 => (format!("and vertex {listed} share"), format!("from vertex {listed}, and ")),
+        _ => (format!("and vertices {listed} share"), format!("from each of {listed}, and ")),
+    };
+    Ok(format!(
+        "Vertex {v} {company} class {class}: a player wins from {v} exactly if the player wins \
+         {equals}from vertex {class} of the reduced game.\n"
+    ))
+}
+
+/// `order`.
+pub fn order(arguments: &Arguments) -> Written {
+    let form = arguments.form()?;
+    let game = Game::load(arguments.file(0))?;
+    let (order, table) = (game.order()?, game.table());
+    Ok(match form {
+        Form::Text => text::marks(&order.marks, table.n(), order.passes).into(),
+        Form::Words => order.marks,
+        Form::Dot => picture::order(&table, &order.marks).into(),
+    })
+}
+
+/// `classes`.
+pub fn classes(arguments: &Arguments) -> Written {
+    let form = arguments.form()?;
+    let game = Game::load(arguments.file(0))?;
+    let classes = game.classes()?;
+    Ok(match form {
+        Form::Text => text::classes(&classes).into(),
+        Form::Words => text::bytes(&classes),
+        Form::Dot => picture::game(&game.table(), &classes).into(),
+    })
+}
+
+/// `quotient`.
+pub fn quotient(arguments: &Arguments) -> Written {
+    table(arguments, "quotient", Game::quotient)
+}
+
+/// `reduce`.
+pub fn reduce(arguments: &Arguments) -> Written {
+    table(arguments, "reduced", Game::reduced)
+}
+
+fn table(
+    arguments: &Arguments,
+    name: &str,
+    write: fn(&Game) -> Result<Merged, Failure>,
+) -> Written {
+    let form = arguments.form()?;
+    let game = Game::load(arguments.file(0))?;
+    let merged = write(&game)?;
+    let (table, title) = (merged.table(), format!("{name} game of {}", game.input.name));
+    Ok(match form {
+        Form::Text => text::table(&title, &table).into(),
+        Form::Words => text::bytes(table.words()),
+        Form::Dot => picture::merged(name, &table, &merged.classes).into(),
+    })
+}
+
+/// Both inputs of a check, of which one at most is standard input.
+fn two_inputs(arguments: &Arguments, unit: Unit) -> Result<(Input, Input), Failure> {
+    if arguments.file(0) == "-" && arguments.file(1) == "-" {
+        return Err(Failure::usage("both inputs are standard input; name a file for one of them"));
+    }
+    Ok((Input::read(arguments.file(0), Unit::Word)?, Input::read(arguments.file(1), unit)?))
+}
+
+/// `check-relation`.
+pub fn check_relation(arguments: &Arguments) -> Written {
+    let (game, relation) = two_inputs(arguments, Unit::Byte)?;
+    let marks: Vec<u8> = relation.numbers.iter().map(|&mark| mark as u8).collect();
+    match raskjomi::accept_relation(&game.numbers, &marks) {
+        Ok(()) => Ok("accepted\n".into()),
+        Err(refusal) => Err(relation_refused(refusal, &game, &relation).with_verdict()),
+    }
+}
+
+/// `check-plan`.
+pub fn check_plan(arguments: &Arguments) -> Written {
+    let player = arguments.player()?;
+    let (game, plan) = two_inputs(arguments, Unit::Word)?;
+    match raskjomi::accept_plan(&game.numbers, player, &plan.numbers) {
+        Ok(()) => Ok("accepted\n".into()),
+        Err(refusal) => Err(plan_refused(refusal, &game, &plan).with_verdict()),
+    }
+}
+
+/// `explain`.
+pub fn explain(arguments: &Arguments) -> Written {
+    let word = arguments.file(0);
+    let number = word.parse::<u32>().ok();
+    let (number, told) =
+        number.and_then(|n| Some((n, raskjomi::explain(n)?))).ok_or_else(|| {
+            Failure::usage(format!("`{word}` is no refusal number; they are 1 to 16 and 21 to 24"))
+        })?;
+    let lines = [
+        format!("refusal {number}, about {}", Kind::of(number)),
+        format!("meaning: {}", told.meaning),
+        format!("place: {}", told.place),
+        format!("what to do: {}", told.remedy),
+    ];
+    Ok((lines.join("\n") + "\n").into())
+}
+
+/// `dot`.
+pub fn dot(arguments: &Arguments) -> Written {
+    let game = Game::load(arguments.file(0))?;
+    if arguments.has("--reduced") {
+        let reduced = game.reduced()?;
+        return Ok(picture::merged("reduced", &reduced.table(), &reduced.classes).into());
+    }
+    Ok(picture::game(&game.table(), &game.classes()?).into())
+}

@@ -1,0 +1,169 @@
+//! What each command takes, and its help.
+
+use crate::arguments::Arguments;
+use crate::commands;
+use crate::failure::Failure;
+use std::ops::RangeInclusive;
+
+/// An option, and what its value is called if it has one.
+pub struct Opt {
+    pub name: &'static str,
+    pub value: Option<&'static str>,
+}
+
+/// A command of the program.
+pub struct Command {
+    pub name: &'static str,
+    pub usage: &'static str,
+    pub summary: &'static str,
+    pub details: &'static str,
+    pub example: &'static str,
+    pub files: RangeInclusive<usize>,
+    pub options: &'static [Opt],
+    pub run: fn(&Arguments) -> Result<Vec<u8>, Failure>,
+}
+
+const AS: &[Opt] = &[Opt { name: "--as", value: Some("text, words or dot") }];
+
+/// How games are given, for every command that takes one.
+const GAMES: &str = "A game comes from a file, or from standard input where no file or - is named: \
+                     16-bit words, low byte first, or decimal text with numbers between blanks or \
+                     slashes and comments after #. Which of the two it is shows by itself. The words \
+                     are: number of vertices, number of edges, priorities, owners (0 Even, 1 Odd), \
+                     sources of the edges, targets of the edges.";
+
+/// The commands, in the sequence of the help.
+pub const COMMANDS: [Command; 9] = [
+    Command {
+        name: "report",
+        usage: "report [GAME] [--vertex V]",
+        summary: "sizes, passes, the class of each vertex and the reduced game's sizes",
+        details:
+            "With --vertex, one sentence on the vertex: its class, who else is in it, and what \
+                  that means for a win.",
+        example: "raskjomi report games/b.txt --vertex 2",
+        files: 0..=1,
+        options: &[Opt { name: "--vertex", value: Some("a vertex") }],
+        run: commands::report,
+    },
+    Command {
+        name: "order",
+        usage: "order [GAME] [--as text|words|dot]",
+        summary: "the direct simulation order",
+        details:
+            "Text: a row of marks for each vertex. Words: the marks as bytes. Dot: an arrow from \
+                  each vertex to those that it is below.",
+        example: "raskjomi order games/c.txt",
+        files: 0..=1,
+        options: AS,
+        run: commands::order,
+    },
+    Command {
+        name: "classes",
+        usage: "classes [GAME] [--as text|words|dot]",
+        summary: "the class of each vertex",
+        details: "Words: a word for each vertex. Dot: the game with its classes.",
+        example: "raskjomi classes games/lift-doors.txt",
+        files: 0..=1,
+        options: AS,
+        run: commands::classes,
+    },
+    Command {
+        name: "quotient",
+        usage: "quotient [GAME] [--as text|words|dot]",
+        summary: "the quotient game, a vertex for each class",
+        details: "Text and words are game tables, which every command reads.",
+        example: "raskjomi quotient games/d.txt",
+        files: 0..=1,
+        options: AS,
+        run: commands::quotient,
+    },
+    Command {
+        name: "reduce",
+        usage: "reduce [GAME] [--as text|words|dot]",
+        summary: "the reduced game: the quotient without edges that its players have no use for",
+        details: "Text and words are game tables, which every command reads.",
+        example: "raskjomi reduce games/lift-doors.txt",
+        files: 0..=1,
+        options: AS,
+        run: commands::reduce,
+    },
+    Command {
+        name: "check-relation",
+        usage: "check-relation GAME RELATION",
+        summary: "whether a relation is a direct simulation",
+        details:
+            "The relation is given as n × n marks in rows, 1 for a pair that is in it, else 0: \
+                  bytes, or decimal text. The output of `order` is one.",
+        example: "raskjomi order games/c.txt | raskjomi check-relation games/c.txt -",
+        files: 2..=2,
+        options: &[],
+        run: commands::check_relation,
+    },
+    Command {
+        name: "check-plan",
+        usage: "check-plan GAME PLAN --player even|odd",
+        summary: "whether a plan wins for a player from the vertex of its position 0",
+        details:
+            "The plan is given as words or decimal text: number of positions, number of links, \
+                  the vertex of each position, sources of the links, targets of the links.",
+        example: "raskjomi check-plan games/lift-doors.txt games/lift-doors.plan.txt --player even",
+        files: 2..=2,
+        options: &[Opt { name: "--player", value: Some("even or odd") }],
+        run: commands::check_plan,
+    },
+    Command {
+        name: "explain",
+        usage: "explain NUMBER",
+        summary: "what a refusal number means, what its place counts, and what to do",
+        details: "",
+        example: "raskjomi explain 8",
+        files: 1..=1,
+        options: &[],
+        run: commands::explain,
+    },
+    Command {
+        name: "dot",
+        usage: "dot [GAME] [--reduced]",
+        summary: "Graphviz text of the game with its classes, or of the reduced game",
+        details: "Even's vertices are diamonds, Odd's are boxes.",
+        example: "raskjomi dot games/d.txt | dot -Tsvg > d.svg",
+        files: 0..=1,
+        options: &[Opt { name: "--reduced", value: None }],
+        run: commands::dot,
+    },
+];
+
+/// The help of the whole program.
+pub fn overview() -> String {
+    let mut text = String::from("raskjomi reduces parity games and judges plans on them\n\n");
+    text += "usage: raskjomi COMMAND ..., with COMMAND one of\n";
+    for command in &COMMANDS {
+        text += &format!("  {:15} {}\n", command.name, command.summary);
+    }
+    text += "\n`raskjomi COMMAND --help` tells more, with an example.\n";
+    text + "Exit status: 0 accepted, 1 refused, 2 bad usage.\n\n" + &wrapped(GAMES)
+}
+
+/// The help of one command.
+pub fn of(command: &Command) -> String {
+    let mut text = format!("usage: raskjomi {}\n\n{}\n", command.usage, command.summary);
+    for part in [command.details, if command.usage.contains("GAME") { GAMES } else { "" }] {
+        if !part.is_empty() {
+            text += &format!("\n{}", wrapped(part));
+        }
+    }
+    text + &format!("\nexample: {}\n", command.example)
+}
+
+/// The words in lines of at most 90 characters.
+fn wrapped(text: &str) -> String {
+    let (mut lines, mut line) = (String::new(), String::new());
+    for word in text.split(' ') {
+        if line.chars().count() + word.chars().count() > 90 {
+            lines += &(std::mem::take(&mut line).trim_end().to_string() + "\n");
+        }
+        line += &format!("{word} ");
+    }
+    lines + line.trim_end() + "\n"
+}

@@ -1,0 +1,63 @@
+//! A view of an accepted game table.
+
+/// The words of a table that the library accepted or wrote.
+#[derive(Clone, Copy)]
+pub struct Table<'a> {
+    words: &'a [u16],
+}
+
+impl<'a> Table<'a> {
+    /// The table at the start of the words.
+    pub fn new(words: &'a [u16]) -> Table<'a> {
+        let length = 2 + 2 * words[0] as usize + 2 * words[1] as usize;
+        Table { words: &words[..length] }
+    }
+
+    /// The number of vertices.
+    pub fn n(&self) -> usize {
+        self.words[0] as usize
+    }
+
+    /// The number of edges.
+    pub fn m(&self) -> usize {
+        self.words[1] as usize
+    }
+
+    /// All words.
+    pub fn words(&self) -> &'a [u16] {
+        self.words
+    }
+
+    /// The priorities of the vertices.
+    pub fn priorities(&self) -> &'a [u16] {
+        &self.words[2..2 + self.n()]
+    }
+
+    /// The owners of the vertices, 0 Even and 1 Odd.
+    pub fn owners(&self) -> &'a [u16] {
+        &self.words[2 + self.n()..2 + 2 * self.n()]
+    }
+
+    /// The sources of the edges, then their targets.
+    pub fn ends(&self) -> (&'a [u16], &'a [u16]) {
+        self.words[2 + 2 * self.n()..].split_at(self.m())
+    }
+
+    /// The edges in table order.
+    pub fn edges(&self) -> impl Iterator<Item = (u16, u16)> + 'a {
+        let (sources, targets) = self.ends();
+        sources.iter().copied().zip(targets.iter().copied())
+    }
+}
+
+/// Puts the edges of a table into ascending sequence; the library leaves theirs open.
+pub fn sort_edges(words: &mut [u16]) {
+    let table = Table::new(words);
+    let (first, count) = (2 + 2 * table.n(), table.m());
+    let mut edges: Vec<(u16, u16)> = table.edges().collect();
+    edges.sort();
+    for (i, (source, target)) in edges.into_iter().enumerate() {
+        words[first + i] = source;
+        words[first + count + i] = target;
+    }
+}

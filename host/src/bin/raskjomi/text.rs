@@ -1,0 +1,63 @@
+//! Outputs as decimal text, which the commands read back, and as bytes.
+
+use crate::analysis::members;
+use crate::table::Table;
+use std::fmt::{Display, Write};
+
+/// Numbers in a line.
+const A_LINE: usize = 20;
+
+/// Numbers between blanks, in lines.
+fn lines<T: Display>(numbers: &[T], a_line: usize) -> String {
+    let line = |chunk: &[T]| {
+        let words: Vec<String> = chunk.iter().map(T::to_string).collect();
+        words.join(" ") + "\n"
+    };
+    numbers.chunks(a_line).map(line).collect()
+}
+
+/// A list as people write it: "1, 2 and 3".
+pub fn listed(numbers: &[usize]) -> String {
+    let words: Vec<String> = numbers.iter().map(usize::to_string).collect();
+    match words.split_last() {
+        Some((last, rest)) if !rest.is_empty() => format!("{} and {last}", rest.join(", ")),
+        _ => words.concat(),
+    }
+}
+
+/// A table, each part under a comment.
+pub fn table(title: &str, table: &Table) -> String {
+    let (sources, targets) = table.ends();
+    let parts = [
+        ("vertices, edges", &table.words()[..2]),
+        ("priorities", table.priorities()),
+        ("owners: 0 Even, 1 Odd", table.owners()),
+        ("sources of the edges", sources),
+        ("targets of the edges", targets),
+    ];
+    let mut text = format!("# {title}\n");
+    for (name, numbers) in parts {
+        write!(text, "# {name}\n{}", lines(numbers, A_LINE)).expect("a string takes all");
+    }
+    text
+}
+
+/// The marks, a row for each vertex.
+pub fn marks(marks: &[u8], n: usize, passes: u32) -> String {
+    let title = format!("# order: row v, column w is 1 if v is below w; passes {passes}\n");
+    title + &lines(marks, n)
+}
+
+/// The class of each vertex, under the members of each class.
+pub fn classes(classes: &[u16]) -> String {
+    let mut text = format!("# classes {}\n", members(classes).len());
+    for (class, members) in members(classes).iter().enumerate() {
+        writeln!(text, "# class {class}: {}", listed(members)).expect("a string takes all");
+    }
+    text + "# the class of each vertex\n" + &lines(classes, A_LINE)
+}
+
+/// Words as bytes, low byte first.
+pub fn bytes(words: &[u16]) -> Vec<u8> {
+    words.iter().flat_map(|word| word.to_le_bytes()).collect()
+}

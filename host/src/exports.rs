@@ -1,0 +1,127 @@
+//! The archive's exports as they are: their declarations, and a safe function over each with
+//! slices for pointer and length. This is the one module with `unsafe` code.
+//!
+//! Nothing but a test compares the declarations with the exports' source.
+#![allow(unsafe_code)]
+
+/// An export's answer. Number 0 is "accepted", with the counts that belong to the call; any other
+/// number is a refusal with its place. All other fields are 0.
+#[repr(C)]
+#[derive(Clone, Copy, Debug, Default, PartialEq, Eq)]
+pub struct RaskjomiAnswer {
+    pub number: u32,
+    pub passes: u32,
+    pub classes: u32,
+    pub vertices: u32,
+    pub edges: u32,
+    pub place: usize,
+}
+
+#[rustfmt::skip]
+extern "C" {
+    fn raskjomi_read(game: *const u16, game_len: usize) -> RaskjomiAnswer;
+    fn raskjomi_order(
+        game: *const u16, game_len: usize,
+        marks: *mut u8, marks_len: usize,
+        spare: *mut u8, spare_len: usize,
+    ) -> RaskjomiAnswer;
+    fn raskjomi_accept_relation(
+        game: *const u16, game_len: usize,
+        marks: *const u8, marks_len: usize,
+    ) -> RaskjomiAnswer;
+    fn raskjomi_classes(
+        game: *const u16, game_len: usize,
+        marks: *mut u8, marks_len: usize,
+        spare: *mut u8, spare_len: usize,
+        classes: *mut u16, classes_len: usize,
+    ) -> RaskjomiAnswer;
+    fn raskjomi_quotient(
+        game: *const u16, game_len: usize,
+        marks: *mut u8, marks_len: usize,
+        spare: *mut u8, spare_len: usize,
+        classes: *mut u16, classes_len: usize,
+        output: *mut u16, output_len: usize,
+    ) -> RaskjomiAnswer;
+    fn raskjomi_reduce(
+        game: *const u16, game_len: usize,
+        marks: *mut u8, marks_len: usize,
+        spare: *mut u8, spare_len: usize,
+        classes: *mut u16, classes_len: usize,
+        output: *mut u16, output_len: usize,
+    ) -> RaskjomiAnswer;
+    fn raskjomi_accept_plan(
+        game: *const u16, game_len: usize,
+        player: u32,
+        plan: *const u16, plan_len: usize,
+    ) -> RaskjomiAnswer;
+    fn raskjomi_kind(number: u32) -> u32;
+}
+
+/// Calls an export with the slices that it reads, then those lent to it: each goes as a pointer, then
+/// a length.
+macro_rules! call {
+    ($export:ident; shared $($shared:ident),*; lent $($lent:ident),*) => {
+        // SAFETY: each pointer and length are those of one live slice, the lent slices are borrowed
+        // for this call alone, and the exports are proved for slices of any length and content.
+        unsafe { $export($($shared.as_ptr(), $shared.len(),)* $($lent.as_mut_ptr(), $lent.len(),)*) }
+    };
+}
+
+/// The reader, on any words.
+pub fn read(game: &[u16]) -> RaskjomiAnswer {
+    call!(raskjomi_read; shared game; lent)
+}
+
+/// The order.
+pub fn order(game: &[u16], marks: &mut [u8], spare: &mut [u8]) -> RaskjomiAnswer {
+    call!(raskjomi_order; shared game; lent marks, spare)
+}
+
+/// The relation acceptor.
+pub fn accept_relation(game: &[u16], marks: &[u8]) -> RaskjomiAnswer {
+    call!(raskjomi_accept_relation; shared game, marks; lent)
+}
+
+/// The classes.
+pub fn classes(
+    game: &[u16],
+    marks: &mut [u8],
+    spare: &mut [u8],
+    classes: &mut [u16],
+) -> RaskjomiAnswer {
+    call!(raskjomi_classes; shared game; lent marks, spare, classes)
+}
+
+/// The quotient game.
+pub fn quotient(
+    game: &[u16],
+    marks: &mut [u8],
+    spare: &mut [u8],
+    classes: &mut [u16],
+    output: &mut [u16],
+) -> RaskjomiAnswer {
+    call!(raskjomi_quotient; shared game; lent marks, spare, classes, output)
+}
+
+/// The reduced game.
+pub fn reduce(
+    game: &[u16],
+    marks: &mut [u8],
+    spare: &mut [u8],
+    classes: &mut [u16],
+    output: &mut [u16],
+) -> RaskjomiAnswer {
+    call!(raskjomi_reduce; shared game; lent marks, spare, classes, output)
+}
+
+/// The plan acceptor.
+pub fn accept_plan(game: &[u16], player: u32, plan: &[u16]) -> RaskjomiAnswer {
+    // SAFETY: as in `call!`; the player goes as a number between the two slices.
+    unsafe { raskjomi_accept_plan(game.as_ptr(), game.len(), player, plan.as_ptr(), plan.len()) }
+}
+
+/// The kind of a refusal number.
+pub fn kind(number: u32) -> u32 {
+    // SAFETY: only a number goes in and comes out.
+    unsafe { raskjomi_kind(number) }
+}

@@ -1,0 +1,185 @@
+//! Safe calls of a proved reducer of parity games.
+//!
+//! A parity game is lent as a table of 16-bit words: the numbers n of vertices and m of edges, then
+//! n priorities, n owners (0 [`EVEN`], 1 [`ODD`]), m sources and m targets. The lowest priority seen
+//! for ever decides a play, and even favours Even. The library judges such tables, writes their
+//! direct simulation order, classes, quotient and reduced game, and judges foreign relations and
+//! winning plans. Every call works in memory that the caller lends, of any length and content.
+//!
+//! ```
+//! // Three vertices with priorities 0, 1, 0 and owners Even, Even, Odd, and an edge from each to 1.
+//! let game = [3, 3, 0, 1, 0, 0, 0, 1, 0, 1, 2, 1, 1, 1];
+//! let size = raskjomi::read(&game)?;
+//! let (mut marks, mut spare) = (vec![0; size.marks()], vec![0; size.marks()]);
+//! let (mut classes, mut output) = (vec![0; size.vertices], vec![0; size.words()]);
+//! let reduced = raskjomi::reduce(&game, &mut marks, &mut spare, &mut classes, &mut output)?;
+//! // Vertices 0 and 2 are merged, so two vertices and two edges are left.
+//! assert_eq!(classes, [0, 1, 0]);
+//! assert_eq!((reduced.vertices, reduced.edges), (2, 2));
+//! # Ok::<(), raskjomi::Refusal>(())
+//! ```
+#![deny(unsafe_code)]
+#![warn(missing_docs)]
+
+#[allow(missing_docs)]
+pub mod exports;
+mod refusal;
+
+use exports::RaskjomiAnswer;
+pub use refusal::{explain, Explanation, Kind, Refusal};
+
+/// The player for whom an even lowest priority wins.
+pub const EVEN: u32 = 0;
+/// The player for whom an odd lowest priority wins.
+pub const ODD: u32 = 1;
+
+/// The numbers of vertices and edges of a table.
+#[derive(Clone, Copy, Debug, PartialEq, Eq)]
+pub struct Size {
+    /// The number n of vertices.
+    pub vertices: usize,
+    /// The number m of edges.
+    pub edges: usize,
+}
+
+impl Size {
+    /// The bytes to lend for marks, and for the spare: n × n.
+    pub fn marks(&self) -> usize {
+        self.vertices * self.vertices
+    }
+
+    /// The words of a table of this size, and the words to lend for an output: 2 + 2n + 2m.
+    pub fn words(&self) -> usize {
+        2 + 2 * self.vertices + 2 * self.edges
+    }
+}
+
+/// The answer if it accepts, else its refusal.
+fn verdict(answer: RaskjomiAnswer) -> Result<RaskjomiAnswer, Refusal> {
+    match answer.number {
+        0 => Ok(answer),
+        number => Err(Refusal { number, place: answer.place }),
+    }
+}
+
+fn size(answer: RaskjomiAnswer) -> Size {
+    Size { vertices: answer.vertices as usize, edges: answer.edges as usize }
+}
+
+/// Judges a game table.
+///
+/// ```
+/// assert_eq!(raskjomi::read(&[1, 1, 0, 0, 0, 0])?.edges, 1);
+/// let refusal = raskjomi::read(&[1, 1, 0, 2, 0, 0]).unwrap_err();
+/// assert_eq!((refusal.number, refusal.place), (5, 3));
+/// # Ok::<(), raskjomi::Refusal>(())
+/// ```
+pub fn read(game: &[u16]) -> Result<Size, Refusal> {
+    verdict(exports::read(game)).map(size)
+}
+
+/// Writes the direct simulation order into the first n × n bytes of both buffers: byte v × n + w is
+/// 1 if v is below w, else 0. Gives the number of passes.
+///
+/// ```
+/// let game = [3, 3, 0, 1, 0, 0, 0, 1, 0, 1, 2, 1, 1, 1];
+/// let (mut marks, mut spare) = ([0; 9], [0; 9]);
+/// assert_eq!(raskjomi::order(&game, &mut marks, &mut spare)?, 1);
+/// assert_eq!(marks, [1, 0, 1, 0, 1, 0, 1, 0, 1]);
+/// # Ok::<(), raskjomi::Refusal>(())
+/// ```
+pub fn order(game: &[u16], marks: &mut [u8], spare: &mut [u8]) -> Result<u32, Refusal> {
+    verdict(exports::order(game, marks, spare)).map(|answer| answer.passes)
+}
+
+/// Judges a relation: whether the pairs that the first n × n bytes mark form a direct simulation.
+///
+/// ```
+/// let game = [3, 3, 0, 1, 0, 0, 0, 1, 0, 1, 2, 1, 1, 1];
+/// assert!(raskjomi::accept_relation(&game, &[1, 0, 0, 0, 1, 0, 0, 0, 1]).is_ok());
+/// // Vertices 0 and 1 have different priorities.
+/// let refusal = raskjomi::accept_relation(&game, &[0, 1, 0, 0, 0, 0, 0, 0, 0]).unwrap_err();
+/// assert_eq!((refusal.number, refusal.place), (10, 1));
+/// ```
+pub fn accept_relation(game: &[u16], marks: &[u8]) -> Result<(), Refusal> {
+    verdict(exports::accept_relation(game, marks)).map(|_| ())
+}
+
+/// Writes the order as [`order`] does, and the class of each vertex into the first n class words.
+/// Gives the number of classes. Vertices share a class if each is below the other.
+///
+/// ```
+/// let game = [3, 3, 0, 1, 0, 0, 0, 1, 0, 1, 2, 1, 1, 1];
+/// let (mut marks, mut spare, mut classes) = ([0; 9], [0; 9], [0; 3]);
+/// assert_eq!(raskjomi::classes(&game, &mut marks, &mut spare, &mut classes)?, 2);
+/// assert_eq!(classes, [0, 1, 0]);
+/// # Ok::<(), raskjomi::Refusal>(())
+/// ```
+pub fn classes(
+    game: &[u16],
+    marks: &mut [u8],
+    spare: &mut [u8],
+    classes: &mut [u16],
+) -> Result<usize, Refusal> {
+    verdict(exports::classes(game, marks, spare, classes)).map(|answer| answer.classes as usize)
+}
+
+/// Writes order and classes as [`classes`] does, and the table of the quotient game into the output:
+/// a vertex for each class, and an edge from C to D if every member of C has a successor in D.
+/// Gives the table's size. The sequence of its edges is left open.
+///
+/// ```
+/// let game = [3, 3, 0, 1, 0, 0, 0, 1, 0, 1, 2, 1, 1, 1];
+/// let (mut marks, mut spare, mut classes, mut output) = ([0; 9], [0; 9], [0; 3], [0; 14]);
+/// let size = raskjomi::quotient(&game, &mut marks, &mut spare, &mut classes, &mut output)?;
+/// assert_eq!((size.vertices, size.edges), (2, 2));
+/// assert_eq!(output[..6], [2, 2, 0, 1, 0, 0]);
+/// # Ok::<(), raskjomi::Refusal>(())
+/// ```
+pub fn quotient(
+    game: &[u16],
+    marks: &mut [u8],
+    spare: &mut [u8],
+    classes: &mut [u16],
+    output: &mut [u16],
+) -> Result<Size, Refusal> {
+    verdict(exports::quotient(game, marks, spare, classes, output)).map(size)
+}
+
+/// Writes as [`quotient`] does, but the reduced game: the quotient without its edges to little
+/// brothers, which its player has no use for. The winner from each vertex is the winner from the
+/// vertex's class in the reduced game.
+///
+/// ```
+/// // Vertex 0 is Even's and has edges to 1 and 2; 1 is below 2, so the edge to 1 goes.
+/// let game = [5, 7, 2, 0, 0, 1, 4, 0, 0, 0, 0, 0, 0, 0, 1, 2, 2, 3, 4, 1, 2, 3, 3, 4, 3, 4];
+/// let (mut marks, mut spare, mut classes, mut output) = ([0; 25], [0; 25], [0; 5], [0; 26]);
+/// let size = raskjomi::reduce(&game, &mut marks, &mut spare, &mut classes, &mut output)?;
+/// assert_eq!((size.vertices, size.edges), (5, 6));
+/// # Ok::<(), raskjomi::Refusal>(())
+/// ```
+pub fn reduce(
+    game: &[u16],
+    marks: &mut [u8],
+    spare: &mut [u8],
+    classes: &mut [u16],
+    output: &mut [u16],
+) -> Result<Size, Refusal> {
+    verdict(exports::reduce(game, marks, spare, classes, output)).map(size)
+}
+
+/// Judges a plan for a player, [`EVEN`] or [`ODD`]: whether it wins from the vertex of its position
+/// 0. A plan is a finite-memory strategy, given as p positions, l links, the vertex of each
+/// position, and the links' sources and targets as positions.
+///
+/// ```
+/// let game = [5, 7, 2, 0, 0, 1, 4, 0, 0, 0, 0, 0, 0, 0, 1, 2, 2, 3, 4, 1, 2, 3, 3, 4, 3, 4];
+/// // From 0 to 2 to 4, and round at 4, whose priority is even.
+/// let plan = [3, 3, 0, 2, 4, 0, 1, 2, 1, 2, 2];
+/// assert!(raskjomi::accept_plan(&game, raskjomi::EVEN, &plan).is_ok());
+/// let refusal = raskjomi::accept_plan(&game, raskjomi::ODD, &plan).unwrap_err();
+/// assert_eq!((refusal.number, refusal.place), (15, 0));
+/// ```
+pub fn accept_plan(game: &[u16], player: u32, plan: &[u16]) -> Result<(), Refusal> {
+    verdict(exports::accept_plan(game, player, plan)).map(|_| ())
+}

@@ -1,0 +1,224 @@
+//! Refusals in words.
+
+use crate::exports;
+use std::fmt;
+
+/// A call turned its input, or the memory lent to it, down. All lent memory has its old content.
+#[derive(Clone, Copy, Debug, PartialEq, Eq)]
+pub struct Refusal {
+    /// Which condition failed.
+    pub number: u32,
+    /// Where; what it counts depends on the number, see [`Explanation::place`].
+    pub place: usize,
+}
+
+impl Refusal {
+    /// What the refusal is about.
+    pub fn kind(&self) -> Kind {
+        Kind::of(self.number)
+    }
+
+    /// What the refusal means, what its place counts and what to do, in words.
+    pub fn explanation(&self) -> Explanation {
+        explain(self.number).unwrap_or(UNKNOWN)
+    }
+}
+
+/// "refused", number and place, then one sentence.
+///
+/// ```
+/// let refusal = raskjomi::read(&[1, 0, 0, 0]).unwrap_err();
+/// assert_eq!(refusal.to_string(), "refused 8 at 0: a vertex has no edge out");
+/// ```
+impl fmt::Display for Refusal {
+    fn fmt(&self, f: &mut fmt::Formatter) -> fmt::Result {
+        write!(f, "refused {} at {}: {}", self.number, self.place, self.explanation().meaning)
+    }
+}
+
+impl std::error::Error for Refusal {}
+
+/// What a refusal number is about.
+#[derive(Clone, Copy, Debug, PartialEq, Eq)]
+pub enum Kind {
+    /// The number is no refusal's.
+    None,
+    /// The game table.
+    Game,
+    /// The relation.
+    Relation,
+    /// The plan.
+    Plan,
+    /// The lent memory.
+    Memory,
+    /// A number kept for later additions.
+    Later,
+}
+
+impl Kind {
+    /// The kind of any number.
+    ///
+    /// ```
+    /// use raskjomi::Kind;
+    /// assert_eq!(Kind::of(8), Kind::Game);
+    /// assert_eq!(Kind::of(24), Kind::Memory);
+    /// assert_eq!(Kind::of(17), Kind::None);
+    /// ```
+    pub fn of(number: u32) -> Kind {
+        match exports::kind(number) {
+            1 => Kind::Game,
+            2 => Kind::Relation,
+            3 => Kind::Plan,
+            4 => Kind::Memory,
+            5 => Kind::Later,
+            _ => Kind::None,
+        }
+    }
+}
+
+impl fmt::Display for Kind {
+    fn fmt(&self, f: &mut fmt::Formatter) -> fmt::Result {
+        f.write_str(match self {
+            Kind::None => "no refusal",
+            Kind::Game => "the game table",
+            Kind::Relation => "the relation",
+            Kind::Plan => "the plan",
+            Kind::Memory => "the lent memory",
+            Kind::Later => "a later addition",
+        })
+    }
+}
+
+/// A refusal number in words.
+#[derive(Clone, Copy, Debug, PartialEq, Eq)]
+pub struct Explanation {
+    /// The condition that failed.
+    pub meaning: &'static str,
+    /// What the refusal's place counts.
+    pub place: &'static str,
+    /// What to do about it.
+    pub remedy: &'static str,
+}
+
+const UNKNOWN: Explanation = row(
+    "this number belongs to no refusal of the library",
+    "unknown",
+    "compare the versions of the library and of this program",
+);
+
+const fn row(meaning: &'static str, place: &'static str, remedy: &'static str) -> Explanation {
+    Explanation { meaning, place, remedy }
+}
+
+/// The number in words, if it is one of the library's refusals.
+///
+/// ```
+/// let five = raskjomi::explain(5).unwrap();
+/// assert_eq!(five.meaning, "an owner is above 1");
+/// assert_eq!(five.place, "the first such word of the table");
+/// assert!(raskjomi::explain(17).is_none());
+/// ```
+pub fn explain(number: u32) -> Option<Explanation> {
+    let rows = match number {
+        1..=8 => &GAME[number as usize - 1],
+        9..=10 => &RELATION[number as usize - 9],
+        11..=16 => &PLAN[number as usize - 11],
+        21..=24 => &MEMORY[number as usize - 21],
+        _ => return None,
+    };
+    Some(*rows)
+}
+
+const GAME: [Explanation; 8] = [
+    row(
+        "the table has fewer than 2 words",
+        "the number of words",
+        "begin the table with its sizes: the number of vertices, then the number of edges",
+    ),
+    row(
+        "the number of vertices is 0 or above 256",
+        "word 0, which holds it",
+        "give the table 1 to 256 vertices",
+    ),
+    row(
+        "the number of edges is above 4,096",
+        "word 1, which holds it",
+        "give the table at most 4,096 edges",
+    ),
+    row(
+        "the table's length doesn't fit its sizes",
+        "the number of words",
+        "write 2 sizes, n priorities, n owners, m sources and m targets: 2 + 2n + 2m words",
+    ),
+    row(
+        "an owner is above 1",
+        "the first such word of the table",
+        "write 0 for Even's vertices and 1 for Odd's",
+    ),
+    row(
+        "an edge starts or ends at a vertex that isn't there",
+        "the first such word of the table",
+        "vertices count from 0, so write a number below the number of vertices",
+    ),
+    row(
+        "an edge is equal to an earlier one",
+        "the source word of the first such edge",
+        "write each edge a single time, and lower the number of edges",
+    ),
+    row(
+        "a vertex has no edge out",
+        "the lowest such vertex",
+        "give every vertex a successor; a loop serves where play ends",
+    ),
+];
+
+const RELATION: [Explanation; 2] = [
+    row("a mark is above 1", "the first such byte", "write 1 for a pair in the relation, else 0"),
+    row(
+        "a marked pair has unequal priorities or fails the test on successors",
+        "the first such pair (v, w), as v × n + w",
+        "the relation is no direct simulation: unmark the pair, or mark the pairs of successors \
+         that it needs",
+    ),
+];
+
+const PLAN: [Explanation; 6] = [
+    row("the player is neither 0 nor 1", "always 0", "name player 0 for Even or 1 for Odd"),
+    row(
+        "the plan's sizes are out of limits or don't fit its length",
+        "always 0",
+        "write 1 to 4,096 for the positions p, at most 16,384 for the links l, then p vertices, \
+         l sources and l targets: 2 + p + 2l words",
+    ),
+    row(
+        "a position's vertex or a link's end isn't there",
+        "the first such word of the plan",
+        "write a vertex below n, or a position below p",
+    ),
+    row(
+        "a link follows no edge of the game",
+        "the number of the first such link, from 0",
+        "link only positions whose vertices have an edge between them",
+    ),
+    row(
+        "a position lacks a link that it needs",
+        "the lowest such position",
+        "give the player's positions a link, and the opponent's one for every successor",
+    ),
+    row(
+        "a closed walk has a lowest priority of the opponent's parity",
+        "the lowest position that lies on such a walk and has its lowest priority",
+        "the plan doesn't win: choose other links for the player on this walk",
+    ),
+];
+
+const MEMORY: [Explanation; 4] = [
+    row("the marks are too short", "the length needed, n × n bytes", "give at least n × n marks"),
+    row("the spare is too short", "the length needed, n × n bytes", "lend at least n × n bytes"),
+    row("the class words are too few", "the length needed, n words", "lend at least n words"),
+    row(
+        "the output is too short",
+        "the length needed, 2 + 2n + 2m words of the input's sizes",
+        "lend an output as long as the input table, even if the result is shorter",
+    ),
+];

@@ -1,0 +1,222 @@
+//! The program `cases` prints a line for each of its cases: a name, then the verdict, and after a call
+//! that writes also the lent memory. The oracle, on the same input, gives the same text.
+
+mod common;
+
+use common::root;
+use oracle::{Answer, Memory, Oracle};
+use std::fmt::Display;
+use std::fs;
+
+const P1: [u16; 6] = [1, 1, 1, 1, 0, 0];
+const LACKING: [u16; 4] = [1, 0, 0, 0];
+const B: [u16; 14] = [3, 3, 0, 1, 0, 0, 0, 1, 0, 1, 2, 1, 1, 1];
+const C: [u16; 26] =
+    [5, 7, 2, 0, 0, 1, 4, 0, 0, 0, 0, 0, 0, 0, 1, 2, 2, 3, 4, 1, 2, 3, 3, 4, 3, 4];
+const D: [u16; 30] =
+    [6, 8, 2, 0, 0, 1, 4, 2, 0, 0, 0, 0, 0, 0, 0, 0, 1, 2, 2, 3, 4, 5, 1, 2, 3, 3, 4, 3, 4, 2];
+
+/// The text of the program, line by line.
+struct Text {
+    oracle: Oracle,
+    lines: Vec<String>,
+}
+
+impl Text {
+    fn verdict(&mut self, name: &str, answer: Answer, counts: &[u32]) {
+        let Answer { number, place, .. } = answer;
+        self.lines.push(match number {
+            0 => format!("{name} accepted{}", spaced(counts)),
+            _ => format!("{name} refused {number} at {place}"),
+        });
+    }
+
+    fn memory<T: Display>(&mut self, name: &str, words: &[T]) {
+        self.lines.push(format!("{name}{}", spaced(words)));
+    }
+
+    fn reads(&mut self, name: &str, game: &[u16]) {
+        let answer = self.oracle.read(game);
+        self.verdict(name, answer, &[answer.vertices, answer.edges]);
+    }
+
+    fn kinds(&mut self, numbers: &[u32]) {
+        for &number in numbers {
+            let kind = self.oracle.kind(number);
+            self.memory("kind", &[number, kind]);
+        }
+    }
+
+    fn orders(&mut self, name: &str, game: &[u16], marks: usize, spare: usize) {
+        let mut memory = sevens(marks, spare, 0, 0);
+        let answer = self.oracle.order(game, &mut memory);
+        self.verdict(name, answer, &[answer.passes]);
+        self.memory("marks", &memory.marks);
+        self.memory("spare", &memory.spare);
+    }
+
+    fn relates(&mut self, name: &str, game: &[u16], marks: &[u8]) {
+        let memory = Memory { marks: marks.to_vec(), ..Memory::default() };
+        let answer = self.oracle.accept_relation(game, &memory);
+        self.verdict(name, answer, &[]);
+    }
+
+    fn tables(&mut self, name: &str, game: &[u16], classes: usize, output: usize) {
+        let mut memory = sevens(36, 36, classes, output);
+        let answer = match name.ends_with("_quotient") {
+            true => self.oracle.quotient(game, &mut memory),
+            false => self.oracle.reduce(game, &mut memory),
+        };
+        self.verdict(name, answer, &[answer.classes, answer.vertices, answer.edges]);
+        self.memory("classes", &memory.classes);
+        self.memory("output", &memory.output);
+    }
+
+    fn plans(&mut self, name: &str, game: &[u16], player: u32, plan: &[u16]) {
+        let answer = self.oracle.accept_plan(game, player, plan);
+        self.verdict(name, answer, &[]);
+    }
+}
+
+fn spaced<T: Display>(words: &[T]) -> String {
+    words.iter().map(|word| format!(" {word}")).collect()
+}
+
+fn sevens(marks: usize, spare: usize, classes: usize, output: usize) -> Memory {
+    let (marks, spare) = (vec![7; marks], vec![7; spare]);
+    Memory { marks, spare, classes: vec![7; classes], output: vec![7; output] }
+}
+
+/// 256 vertices and 4,096 edges: 16 from each vertex v, to v + 0, .., v + 15, modulo 256.
+fn largest() -> Vec<u16> {
+    let mut game = vec![0; 8706];
+    (game[0], game[1]) = (256, 4096);
+    for j in 0..4096 {
+        game[514 + j] = (j % 256) as u16;
+        game[4610 + j] = ((j % 256 + j / 256) % 256) as u16;
+    }
+    game
+}
+
+fn reading(text: &mut Text) {
+    text.reads("P1", &P1);
+    text.reads("P2", &[]);
+    text.reads("P3", &[0, 0]);
+    text.reads("P4", &LACKING);
+    text.reads("P5", &[1, 1, 0, 2, 0, 0]);
+    text.reads("P6", &[1, 1, 0, 0, 0, 1]);
+    text.reads("P7", &[1, 2, 0, 0, 0, 0, 0, 0]);
+    text.reads("B", &B);
+    text.reads("C", &C);
+    text.reads("D", &D);
+    text.reads("one_word", &[7]);
+    text.reads("sizes_alone", &[1, 1]);
+    text.reads("one_word_short", &[1, 1, 1, 1, 0]);
+    text.reads("one_word_long", &[1, 1, 1, 1, 0, 0, 0]);
+    text.reads("both_sizes_too_large", &[257, 4097]);
+    text.reads("late_owner_before_early_source", &[2, 2, 0, 0, 0, 2, 2, 1, 0, 0]);
+    text.reads("late_source_before_early_target", &[2, 2, 0, 0, 0, 0, 0, 2, 2, 0]);
+    text.reads("target_at_n", &[2, 2, 0, 0, 0, 0, 0, 1, 1, 2]);
+    text.reads("first_of_two_repeats", &[2, 4, 0, 0, 0, 0, 0, 1, 1, 0, 1, 0, 0, 1]);
+    text.reads("repeat_before_lacking", &[3, 3, 0, 0, 0, 0, 0, 0, 1, 1, 2, 0, 0, 0]);
+    text.reads("lacking_0_and_2", &[3, 1, 0, 0, 0, 0, 0, 0, 1, 1]);
+    text.reads("lacking_last", &[3, 2, 0, 0, 0, 0, 0, 0, 1, 0, 2, 2]);
+}
+
+/// The largest table with one word changed.
+fn limits(text: &mut Text) {
+    let changes = [
+        ("n_256_m_4096", 0, 256),
+        ("n_257", 0, 257),
+        ("n_0", 0, 0),
+        ("m_4097", 1, 4097),
+        ("m_4095", 1, 4095),
+        ("priority_65535", 2, 65535),
+        ("last_owner_2", 513, 2),
+        ("first_source_256", 514, 256),
+        ("last_target_256", 8705, 256),
+        ("last_edge_repeats", 8705, 0),
+    ];
+    for (name, at, word) in changes {
+        let mut game = largest();
+        game[at] = word;
+        text.reads(name, &game);
+    }
+    text.kinds(&[0, 1, 8, 9, 10, 11, 16, 17, 20, 21, 24, 25, 30, 31, 99, 100, u32::MAX]);
+}
+
+fn orders(text: &mut Text) {
+    text.orders("P1_order", &P1, 2, 1);
+    text.orders("B_order", &B, 10, 11);
+    text.orders("C_order", &C, 25, 25);
+    text.orders("D_order", &D, 36, 37);
+    text.orders("order_refused_game", &LACKING, 1, 1);
+    text.orders("marks_one_byte_short", &B, 8, 8);
+    text.orders("spare_one_byte_short", &B, 9, 8);
+}
+
+fn relations(text: &mut Text) {
+    text.relates("B_order_accepted", &B, &[1, 0, 1, 0, 1, 0, 1, 0, 1]);
+    text.relates("empty_relation", &B, &[0; 9]);
+    text.relates("bytes_beyond_ignored", &B, &[0, 0, 0, 0, 0, 0, 0, 0, 0, 9]);
+    text.relates("relation_refused_game", &LACKING, &[1]);
+    text.relates("relation_short", &B, &[2; 8]);
+    text.relates("late_byte_before_early_pair", &B, &[0, 1, 0, 0, 0, 0, 0, 0, 2]);
+    text.relates("unequal_priorities", &B, &[0, 1, 0, 1, 0, 0, 0, 0, 0]);
+    text.relates("missing_pair", &B, &[1, 0, 0, 0, 0, 0, 0, 0, 0]);
+    let mut only = [0; 25];
+    only[11] = 1;
+    text.relates("P11", &C, &only);
+}
+
+fn plans(text: &mut Text) {
+    let plan = [3, 3, 0, 2, 4, 0, 1, 2, 1, 2, 2];
+    text.plans("P12", &C, 0, &plan);
+    text.plans("P13", &C, 1, &plan);
+    text.plans("P14", &P1, 0, &[1, 1, 0, 0, 0]);
+    text.plans("plan_refused_game", &LACKING, 2, &plan);
+    text.plans("player_2", &C, 2, &[]);
+    text.plans("plan_of_no_word", &C, 0, &[]);
+    text.plans("plan_of_one_word", &C, 0, &[3]);
+    text.plans("plan_one_word_short", &C, 0, &plan[..10]);
+    text.plans("plan_one_word_long", &C, 0, &[1, 0, 4, 4]);
+    text.plans("p_0", &C, 0, &[0, 0]);
+    for (name, p, l) in [("p_4096_l_16384", 4096, 16384), ("p_4097", 4097, 16384), ("l_16385", 4096, 16385)] {
+        let mut words = vec![0; 36866];
+        (words[0], words[1]) = (p, l);
+        text.plans(name, &[1, 1, 0, 0, 0, 0], 0, &words);
+    }
+}
+
+fn bad_plans(text: &mut Text) {
+    text.plans("vertex_at_n", &C, 0, &[2, 1, 4, 5, 2, 0]);
+    text.plans("link_source_at_p", &C, 0, &[1, 1, 4, 1, 0]);
+    text.plans("link_target_at_p", &C, 0, &[1, 1, 4, 0, 1]);
+    text.plans("link_along_no_edge", &C, 0, &[2, 3, 4, 3, 0, 1, 1, 0, 1, 0]);
+    text.plans("own_position_without_link", &C, 0, &[2, 1, 4, 3, 0, 0]);
+    text.plans("opponent_with_one_answer", &C, 1, &[3, 3, 2, 4, 4, 0, 1, 2, 1, 1, 2]);
+    text.plans("unreached_walk_of_wrong_parity", &C, 0, &[2, 2, 4, 3, 0, 1, 0, 1]);
+    text.plans("repeated_links", &C, 0, &[1, 2, 4, 0, 0, 0, 0]);
+    let ring = [2, 2, 2, 1, 0, 0, 0, 1, 1, 0];
+    text.plans("lowest_priority_not_first", &ring, 0, &[2, 2, 0, 1, 0, 1, 1, 0]);
+}
+
+fn tables(text: &mut Text) {
+    for call in ["reduced", "quotient"] {
+        text.tables(&format!("B_{call}"), &B, 3, 14);
+        text.tables(&format!("C_{call}"), &C, 5, 26);
+        text.tables(&format!("D_{call}"), &D, 7, 31);
+    }
+    text.tables("classes_one_word_short", &D, 5, 29);
+    text.tables("output_one_word_short", &D, 6, 29);
+}
+
+#[test]
+fn cases_are_the_oracles() {
+    let mut text = Text { oracle: Oracle::exact(), lines: Vec::new() };
+    for part in [reading, limits, orders, relations, plans, bad_plans, tables] {
+        part(&mut text);
+    }
+    let expected = fs::read_to_string(root().join("crates/cases/stdout")).expect("the program's output is stored");
+    assert_eq!(text.lines.join("\n") + "\n", expected);
+}

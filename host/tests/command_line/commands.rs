@@ -1,0 +1,169 @@
+//! Each command and each output form.
+
+use crate::common::root;
+use crate::run::{bytes, file, numbers, run, run_on, shipped, words};
+use oracle::{Memory, Oracle};
+use std::process::Command;
+
+const GAMES: [&str; 4] = ["b.txt", "c.txt", "d.txt", "lift-doors.txt"];
+
+fn path(name: &str) -> String {
+    format!("games/{name}")
+}
+
+/// The oracle's answers on a shipped game.
+fn expected(name: &str) -> Memory {
+    let game = shipped(name);
+    let n = game[0] as usize;
+    let (marks, classes) = (vec![0; n * n], vec![0; n]);
+    let mut memory = Memory { spare: marks.clone(), marks, classes, output: vec![0; game.len()] };
+    assert_eq!(Oracle::exact().reduce(&game, &mut memory).number, 0);
+    memory
+}
+
+#[test]
+fn report_is_the_report_programs() {
+    for name in GAMES {
+        let words = bytes(&shipped(name));
+        let text = Oracle::exact().report(&words);
+        assert_eq!(run(&["report", &path(name)]).text(), text);
+        assert_eq!(run_on(&["report"], &words).text(), text, "from standard input");
+        assert_eq!(run_on(&["report", "-"], &words[..words.len() - 1]).text(), text, "half a word");
+    }
+}
+
+#[test]
+fn report_on_one_vertex() {
+    let of_b = |vertex| run(&["report", "games/b.txt", "--vertex", vertex]).text();
+    let merged =
+        "Vertex 2 and vertex 0 share class 0: a player wins from 2 exactly if the player wins \
+                  from vertex 0, and from vertex 0 of the reduced game.\n";
+    assert_eq!(of_b("2"), merged);
+    let alone =
+        "Vertex 1 is alone in class 1: a player wins from 1 exactly if the player wins from \
+                 vertex 1 of the reduced game.\n";
+    assert_eq!(of_b("1"), alone);
+    let three = "4 4 / 0 0 0 1 / 0 0 0 0 / 0 1 2 3 / 3 3 3 3";
+    let three = run_on(&["report", "--vertex", "1"], three.as_bytes()).text();
+    assert!(three.starts_with("Vertex 1 and vertices 0 and 2 share class 0: "), "{three}");
+    assert!(three.contains(" from each of 0 and 2, and from vertex 0 "), "{three}");
+}
+
+#[test]
+fn order_in_each_form() {
+    for name in GAMES {
+        let marks = expected(name).marks;
+        let text = run(&["order", &path(name)]).text();
+        let read: Vec<u8> = numbers(&text).iter().map(|&mark| mark as u8).collect();
+        assert_eq!(read, marks);
+        assert_eq!(run(&["order", &path(name), "--as", "words"]).bytes(), marks);
+        assert_eq!(
+            run_on(&["check-relation", &path(name), "-"], text.as_bytes()).text(),
+            "accepted\n"
+        );
+        assert_eq!(run_on(&["check-relation", &path(name), "-"], &marks).text(), "accepted\n");
+    }
+    let text = run(&["order", "games/c.txt", "--as", "text"]).text();
+    assert_eq!(
+        text.lines().next(),
+        Some("# order: row v, column w is 1 if v is below w; passes 2")
+    );
+    let dot = run(&["order", "games/c.txt", "--as", "dot"]).text();
+    assert!(dot.contains("  1 -> 2;\n") && !dot.contains("2 -> 1"), "{dot}");
+}
+
+#[test]
+fn classes_in_each_form() {
+    for name in GAMES {
+        let classes = expected(name).classes;
+        assert_eq!(numbers(&run(&["classes", &path(name)]).text()), classes);
+        assert_eq!(words(&run(&["classes", &path(name), "--as", "words"]).bytes()), classes);
+        let dot = run(&["classes", &path(name), "--as", "dot"]).text();
+        assert_eq!(dot, run(&["dot", &path(name)]).text());
+    }
+    let text = run(&["classes", "games/d.txt"]).text();
+    assert!(text.starts_with("# classes 5\n# class 0: 0 and 5\n"), "{text}");
+}
+
+#[test]
+fn tables_in_each_form() {
+    for command in ["quotient", "reduce"] {
+        for name in GAMES {
+            let text = run(&[command, &path(name)]).text();
+            let binary = run(&[command, &path(name), "--as", "words"]).bytes();
+            assert_eq!(words(&binary), numbers(&text));
+            let (from_text, from_binary) = (text.as_bytes(), &binary[..]);
+            let sizes = |input| run_on(&["report"], input).text().lines().last().map(String::from);
+            assert_eq!(sizes(from_text), sizes(from_binary), "both forms are read back");
+        }
+    }
+    assert_eq!(numbers(&run(&["quotient", "games/d.txt"]).text())[..2], [5, 6]);
+    let c = shipped("c.txt");
+    let reduced = numbers(&run(&["reduce", "games/c.txt"]).text());
+    assert_eq!(reduced[..2], [5, 6]);
+    assert_eq!(reduced[2..12], c[2..12], "priorities and owners");
+    assert_eq!(reduced[12..], [0, 1, 2, 2, 3, 4, 2, 3, 3, 4, 3, 4], "all edges but 0 to 1");
+    let dot = run(&["reduce", "games/d.txt", "--as", "dot"]).text();
+    assert_eq!(dot, run(&["dot", "games/d.txt", "--reduced"]).text());
+}
+
+#[test]
+fn pictures() {
+    let game = run(&["dot", "games/b.txt"]).text();
+    let frame = "subgraph cluster_0 { label=\"class 0\"; \
+                 0 [shape=diamond, label=\"0\\npriority 0\"]; 2 [shape=box, label=\"2\\npriority 0\"]; }";
+    assert!(game.starts_with("digraph game {\n") && game.ends_with("}\n"), "{game}");
+    assert!(game.contains(frame), "{game}");
+    assert!(game.contains("  0 -> 1;\n  1 -> 1;\n  2 -> 1;\n"), "{game}");
+    let reduced = run(&["dot", "--reduced", "games/b.txt"]).text();
+    assert!(
+        reduced.contains("0 [shape=diamond, label=\"class 0: 0 and 2\\npriority 0\"];"),
+        "{reduced}"
+    );
+    let quotient = run(&["quotient", "games/d.txt", "--as", "dot"]).text();
+    assert!(quotient.starts_with("digraph quotient {\n"), "{quotient}");
+}
+
+#[test]
+fn shipped_plans_win() {
+    for (game, plan) in [("c.txt", "c.plan.txt"), ("lift-doors.txt", "lift-doors.plan.txt")] {
+        let words = ["check-plan", &path(game), &path(plan), "--player", "even"];
+        assert_eq!(run(&words).text(), "accepted\n");
+    }
+    let plan = file("plan.bin", &bytes(&shipped("c.plan.txt")));
+    let words = ["check-plan", "--player", "0", "-", &plan];
+    assert_eq!(run_on(&words, &bytes(&shipped("c.txt"))).text(), "accepted\n");
+}
+
+#[test]
+fn explain_each_number() {
+    for number in (1..=16).chain(21..=24) {
+        let text = run(&["explain", &number.to_string()]).text();
+        assert!(text.starts_with(&format!("refusal {number}, about the ")), "{text}");
+        let heads: Vec<&str> =
+            text.lines().skip(1).filter_map(|line| line.split(':').next()).collect();
+        assert_eq!(heads, ["meaning", "place", "what to do"]);
+    }
+}
+
+#[test]
+fn help_of_each_command_has_an_example_that_runs() {
+    let overview = run(&["--help"]).text();
+    assert_eq!(run(&["help"]).text(), overview);
+    let listed: Vec<&str> =
+        overview.lines().filter_map(|line| line.strip_prefix("  ")?.split(' ').next()).collect();
+    assert_eq!(listed.len(), 9, "{listed:?}");
+    for command in listed {
+        let help = run(&[command, "--help"]).text();
+        assert!(help.starts_with(&format!("usage: raskjomi {command} ")), "{help}");
+        let example =
+            help.lines().find_map(|line| line.strip_prefix("example: ")).expect("an example");
+        // Graphviz needn't be installed.
+        let example = example.split(" | dot ").next().expect("a command");
+        let program = format!("'{}'", env!("CARGO_BIN_EXE_raskjomi"));
+        let line = example.replace("raskjomi ", &format!("{program} "));
+        let ran =
+            Command::new("sh").args(["-c", &line]).current_dir(root()).output().expect("a shell");
+        assert!(ran.status.success() && !ran.stdout.is_empty(), "{example}: {ran:?}");
+    }
+}

@@ -1,0 +1,57 @@
+//! Bad usage: status 2, nothing on standard output, one line that says what to do.
+
+use crate::run::{file, run, run_on};
+
+/// The words are turned down with a message that has the parts.
+fn bad(words: &[&str], parts: &[&str]) {
+    assert_eq!(run(words).fails(2, parts), "");
+}
+
+#[test]
+fn commands_and_options() {
+    bad(&[], &["no command", "--help"]);
+    bad(&["shrink"], &["no command `shrink`", "--help"]);
+    bad(&["report", "--all"], &["no option --all", "raskjomi report --help"]);
+    bad(&["report", "a", "b"], &["arguments: 2 instead of 0 to 1", "raskjomi report --help"]);
+    bad(&["check-plan", "games/c.txt", "--player", "even"], &["arguments: 1 instead of 2"]);
+    bad(&["order", "games/c.txt", "--as"], &["--as needs text, words or dot"]);
+    bad(&["order", "games/c.txt", "--as", "svg"], &["no form `svg`", "--as text"]);
+    bad(&["check-plan", "a", "b"], &["no player", "--player even"]);
+    bad(&["check-plan", "a", "b", "--player", "2"], &["no player `2`", "--player odd"]);
+    bad(&["check-relation", "-", "-"], &["both inputs", "name a file"]);
+    bad(&["explain"], &["arguments: 0 instead of 1"]);
+    for word in ["17", "0", "31", "x", "-1"] {
+        bad(
+            &["explain", word],
+            &[&format!("`{word}` is no refusal number"), "1 to 16 and 21 to 24"],
+        );
+    }
+    for vertex in ["3", "x", "-1"] {
+        let parts = [&*format!("no vertex `{vertex}`"), "from 0 to 2"];
+        bad(&["report", "games/b.txt", "--vertex", vertex], &parts);
+    }
+}
+
+#[test]
+fn files() {
+    bad(&["report", "games/none.txt"], &["games/none.txt: ", "name a file"]);
+    bad(&["report", "games"], &["games: ", "name a file"]);
+    bad(&["check-relation", "games/b.txt", "none"], &["none: ", "name a file"]);
+}
+
+#[test]
+fn words_of_text() {
+    let parts = ["line 2, word 3: `x`", "from 0 to 65535", "comments after #"];
+    let bad_word = file("bad-word.txt", b"# a game\n1 1 x 0 / 0 0\n");
+    bad(&["reduce", &bad_word], &[&parts[..], &["bad-word.txt: "]].concat());
+    let input = |text: &str| run_on(&["report"], text.as_bytes());
+    assert_eq!(
+        input("1 1\n0 / 65536 0 0").fails(2, &["standard input: line 2, word 2: `65536`"]),
+        ""
+    );
+    for text in ["+1", "-1", "1.5", "0x1", "1,1", "١"] {
+        input(text).fails(2, &[&format!("standard input: line 1, word 1: `{text}`")]);
+    }
+    let relation = run_on(&["check-relation", "games/b.txt", "-"], b"1 0\n256");
+    relation.fails(2, &["line 2, word 1: `256`", "from 0 to 255"]);
+}

@@ -1,0 +1,9 @@
+//! The built command line: each command, each output form, each kind of error.
+
+#[path = "../common/mod.rs"]
+mod common;
+
+mod commands;
+mod errors;
+mod refusals;
+mod run;

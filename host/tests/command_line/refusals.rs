@@ -1,0 +1,79 @@
+//! Refusals: status 1, and a message with file, place, meaning and remedy.
+
+use crate::run::{bytes, file, run, run_on, shipped};
+
+/// Games as text, the refusal, and where it is.
+const GAMES: [(&str, &str, &str); 9] = [
+    ("# nothing", "1 at 0", "after the last of 0 words"),
+    ("1", "1 at 1", "after line 1, word 1, the last of 1"),
+    ("0 1", "2 at 0", "line 1, word 1"),
+    ("1 4097", "3 at 1", "line 1, word 2"),
+    ("1 1 0 0\n0", "4 at 5", "after line 2, word 1, the last of 5"),
+    ("1 1 # sizes\n0 2 / 0 0", "5 at 3", "line 2, word 2"),
+    ("1 1 / 0 0\n# ends\n0 1", "6 at 5", "line 3, word 2"),
+    ("1 2 / 0 0 /\n0 0 /\n0 0", "7 at 5", "line 2, word 2"),
+    ("2 1\n0\n7\n0 0\n0 / 0", "8 at 1", "line 3, word 1 (vertex 1)"),
+];
+
+#[test]
+fn games_in_text() {
+    for (text, verdict, place) in GAMES {
+        let game = file("refused.txt", text.as_bytes());
+        let parts = [&*format!("refused.txt: {place}: refused {verdict}: "), "; "];
+        assert_eq!(run(&["report", &game]).fails(1, &parts), format!("refused {verdict}\n"));
+        for command in ["order", "classes", "quotient", "reduce", "dot"] {
+            assert_eq!(run(&[command, &game]).fails(1, &parts), "", "{command} writes nothing");
+        }
+        let words = ["check-plan", &game, "games/c.plan.txt", "--player", "even"];
+        assert_eq!(run(&words).fails(1, &parts), format!("refused {verdict}\n"));
+        let words = ["check-relation", &game, "games/c.txt"];
+        assert_eq!(run(&words).fails(1, &parts), format!("refused {verdict}\n"));
+    }
+}
+
+#[test]
+fn games_in_binary() {
+    let parts = ["standard input: word 3 from 0: refused 5 at 3: an owner is above 1; write 0"];
+    let out = run_on(&["report"], &bytes(&[1, 1, 0, 2, 0, 0])).fails(1, &parts);
+    assert_eq!(out, "refused 5 at 3\n");
+    assert_eq!(run_on(&["report"], &[]).fails(1, &["refused 1 at 0"]), "refused 1 at 0\n");
+    assert_eq!(run_on(&["report"], &[255; 8]).fails(1, &["word 0 from 0"]), "refused 2 at 0\n");
+}
+
+#[test]
+fn relations() {
+    let rows: [(&str, &str, &str); 3] = [
+        ("1 0 0\n0 1 0\n0 0", "21 at 9", "after line 3, word 2, the last of 8"),
+        ("1 1 0\n0 3 0\n0 0 1", "9 at 4", "line 2, word 2"),
+        ("1 0 0\n0 1 0\n0 1 1", "10 at 7", "line 3, word 2 (pair 2, 1)"),
+    ];
+    for (text, verdict, place) in rows {
+        let relation = file("relation.txt", text.as_bytes());
+        let parts = [&*format!("relation.txt: {place}: refused {verdict}: ")];
+        let out = run(&["check-relation", "games/b.txt", &relation]).fails(1, &parts);
+        assert_eq!(out, format!("refused {verdict}\n"));
+    }
+    run_on(&["check-relation", "games/b.txt", "-"], &[0, 1, 2, 0, 0, 0, 0, 0, 0])
+        .fails(1, &["standard input: byte 2 from 0: refused 9 at 2"]);
+}
+
+#[test]
+fn plans() {
+    let rows: [(&str, &str, &str, &str); 6] = [
+        ("even", "3", "12 at 0", "line 1, word 1"),
+        ("even", "1 1 0 0", "12 at 0", "line 1, word 1"),
+        ("even", "2 1 / 0 2\n0 2", "13 at 5", "line 2, word 2"),
+        ("even", "2 2 / 0 2\n0 1\n1 0", "14 at 1", "line 2, word 2 (link 1)"),
+        ("odd", "2 1 / 0\n2\n0 1", "15 at 0", "line 1, word 3 (position 0)"),
+        ("even", "2 2 / 1\n3\n0 1\n1 1", "16 at 1", "line 2, word 1 (position 1)"),
+    ];
+    for (player, text, verdict, place) in rows {
+        let plan = file("plan.txt", text.as_bytes());
+        let parts = [&*format!("plan.txt: {place}: refused {verdict}: ")];
+        let out = run(&["check-plan", "games/c.txt", &plan, "--player", player]).fails(1, &parts);
+        assert_eq!(out, format!("refused {verdict}\n"));
+    }
+    let other = bytes(&shipped("c.plan.txt"));
+    run_on(&["check-plan", "games/c.txt", "-", "--player", "odd"], &other)
+        .fails(1, &["standard input: word 2 from 0 (position 0): refused 15 at 0"]);
+}

@@ -1,0 +1,107 @@
+//! The Rust declarations say what the exports' source says: names, parameters in their sequence,
+//! results, and the fields of the answer. Nothing else compares the two.
+
+mod common;
+
+use common::root;
+use std::collections::BTreeMap;
+use std::fs;
+use std::path::{Path, PathBuf};
+
+/// A function's parameters, as "name: type", and its result.
+type Signature = (Vec<String>, String);
+
+/// The text without comments, with single blanks.
+fn plain(text: &str) -> String {
+    let code = text.lines().map(|line| line.split("//").next().unwrap_or_default());
+    let words: Vec<&str> = code.flat_map(str::split_whitespace).collect();
+    words.join(" ")
+}
+
+/// The text of every Rattle file below a folder.
+fn rattle(folder: &Path) -> String {
+    let entries =
+        fs::read_dir(folder).unwrap_or_else(|error| panic!("{}: {error}", folder.display()));
+    let mut paths: Vec<PathBuf> = entries.map(|entry| entry.expect("an entry").path()).collect();
+    paths.sort();
+    let text = |path: &PathBuf| match path.extension() {
+        _ if path.is_dir() => rattle(path),
+        Some(ending) if ending == "rt" => fs::read_to_string(path).expect("text"),
+        _ => String::new(),
+    };
+    paths.iter().map(text).collect::<Vec<String>>().join("\n")
+}
+
+/// What stands between `open` and the first `close` after it.
+fn between<'a>(text: &'a str, open: &str, close: &str) -> &'a str {
+    let start = text.find(open).unwrap_or_else(|| panic!("no `{open}` in the text")) + open.len();
+    let length = text[start..].find(close).unwrap_or_else(|| panic!("no `{close}` after `{open}`"));
+    &text[start..start + length]
+}
+
+/// The parts of a list with commas, each with blanks trimmed.
+fn parts(list: &str) -> Vec<&str> {
+    list.split(',').map(str::trim).filter(|part| !part.is_empty()).collect()
+}
+
+/// The functions that follow each `start` in the text, by their names.
+fn functions(text: &str, start: &str) -> BTreeMap<String, Signature> {
+    let function = |rest: &str| {
+        let (name, rest) = rest.split_once('(').expect("parameters");
+        let (parameters, rest) = rest.split_once(')').expect("the parameters' end");
+        let result = rest.trim_start().strip_prefix("->").expect("each export has a result");
+        let result = result.split([';', ' ', '{']).find(|word| !word.is_empty()).expect("a type");
+        let result = result.rsplit("::").next().expect("a name").to_string();
+        let parameters = parts(parameters).into_iter().map(String::from).collect();
+        (name.trim().to_string(), (parameters, result))
+    };
+    text.split(start).skip(1).map(function).collect()
+}
+
+/// A Rattle parameter as Rust declares it: a slice goes as a pointer, then a length.
+fn declared(parameter: &str) -> Vec<String> {
+    let (name, kind) = parameter.split_once(": ").expect("a name and a type");
+    let slice = |pointer: &str, element: &str| {
+        vec![format!("{name}: *{pointer} {element}"), format!("{name}_len: usize")]
+    };
+    let element = |prefix: &str| kind.strip_prefix(prefix)?.strip_suffix(']');
+    match (element("&["), element("&mut [")) {
+        (Some(element), _) => slice("const", element),
+        (_, Some(element)) => slice("mut", element),
+        _ => vec![parameter.to_string()],
+    }
+}
+
+fn exports_in_rattle() -> BTreeMap<String, Signature> {
+    let source = plain(&rattle(&root().join("crates/abi/src")));
+    let exports = functions(&source, "pub extern \"C\" fn ");
+    let in_rust = |(name, (parameters, result)): (String, Signature)| {
+        let parameters = parameters.iter().flat_map(|parameter| declared(parameter)).collect();
+        (name, (parameters, result))
+    };
+    exports.into_iter().map(in_rust).collect()
+}
+
+fn declarations_in_rust() -> String {
+    plain(&fs::read_to_string(root().join("host/src/exports.rs")).expect("the declarations"))
+}
+
+#[test]
+fn functions_are_those_of_the_exports() {
+    let declarations = declarations_in_rust();
+    let block = between(&declarations, "extern \"C\" {", "}");
+    let declared = functions(block, "fn ");
+    assert_eq!(declared, exports_in_rattle());
+    assert_eq!(declared.len(), 8);
+}
+
+#[test]
+fn answer_has_the_fields_of_the_exports() {
+    let head = "pub struct RaskjomiAnswer {";
+    let source = plain(&rattle(&root().join("crates")));
+    assert!(source.contains(&format!("#[repr(C)] {head}")), "the answer is laid out as C does");
+    let declarations = declarations_in_rust();
+    let fields = parts(between(&declarations, head, "}"));
+    assert_eq!(fields, parts(between(&source, head, "}")));
+    assert_eq!(fields.len(), 6);
+}

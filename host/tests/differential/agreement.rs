@@ -1,0 +1,80 @@
+//! Library and oracle agree on every case, and every refusal number is reached many times.
+
+use crate::calls::Call;
+use crate::common::say;
+use crate::samples::cases;
+use generator::Lcg;
+use oracle::Oracle;
+use std::collections::BTreeMap;
+use std::thread;
+
+/// Games of at most so many vertices, and how many of them in a shard.
+const GAMES: [(usize, usize); 5] = [(4, 4000), (12, 4000), (40, 1500), (100, 300), (256, 200)];
+const SHARDS: u64 = 2;
+/// How often each call gives each of its refusals, at the least.
+const REACHED: usize = 50;
+
+/// How often each call gave each number; 0 is "accepted".
+type Counts = BTreeMap<(Call, u32), usize>;
+
+/// Compares all cases of the shard's games and counts the answers.
+fn compare(shard: u64) -> Counts {
+    let mut lcg = Lcg::new(1000 + shard);
+    let mut counts = Counts::new();
+    for (most, games) in GAMES {
+        for case in (0..games).flat_map(|_| cases(&mut lcg, most)) {
+            let expected = case.expected(&Oracle::exact());
+            assert_eq!(case.actual(), expected, "{case:?}");
+            assert_eq!(case.safe_answer(), expected.answer, "{case:?}");
+            *counts.entry((case.call, expected.answer.number)).or_default() += 1;
+        }
+    }
+    counts
+}
+
+/// Prints how often each number was given, by all calls together.
+fn print(counts: &Counts) {
+    let games: usize = GAMES.iter().map(|row| row.1).sum::<usize>() * SHARDS as usize;
+    let mut by_number: BTreeMap<u32, usize> = BTreeMap::new();
+    for ((_, number), count) in counts {
+        *by_number.entry(*number).or_default() += count;
+    }
+    let calls: usize = by_number.values().sum();
+    say(format!("{games} games, {calls} calls; answers by number: {by_number:?}"));
+}
+
+#[test]
+fn library_and_oracle_agree_and_every_refusal_is_reached() {
+    let shards: Vec<_> = (0..SHARDS).map(|shard| thread::spawn(move || compare(shard))).collect();
+    let mut counts = Counts::new();
+    for shard in shards {
+        for (answer, count) in shard.join().expect("no case differs") {
+            *counts.entry(answer).or_default() += count;
+        }
+    }
+    print(&counts);
+    for call in Call::ON_MEMORY.into_iter().chain([Call::AcceptPlan]) {
+        let given = |number: &u32| counts.get(&(call, *number)) >= Some(&REACHED);
+        let often: Vec<u32> = (0..1000).filter(given).collect();
+        let expected: Vec<u32> = [vec![0], call.refusals()].concat();
+        assert_eq!(often, expected, "{call:?} gives all of its answers often, and no others");
+    }
+}
+
+#[test]
+fn kinds_agree() {
+    for number in (0..1000).chain([u32::MAX - 1, u32::MAX]) {
+        assert_eq!(raskjomi::exports::kind(number), Oracle::exact().kind(number), "{number}");
+    }
+}
+
+/// The library explains exactly the numbers that it gives.
+#[test]
+fn every_refusal_is_explained() {
+    for number in 0..1000 {
+        let given = matches!(number, 1..=16 | 21..=24);
+        assert_eq!(raskjomi::explain(number).is_some(), given, "{number}");
+        let known = (1..=4).contains(&Oracle::exact().kind(number));
+        assert_eq!(given, known, "{number}");
+    }
+}

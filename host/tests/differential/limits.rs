@@ -1,0 +1,112 @@
+//! The largest sizes, and one beyond them.
+
+use crate::calls::{Call, Case};
+use generator::{chain, complete, largest_plan, random, two_rings, Lcg, Table};
+use oracle::{Memory, Oracle};
+
+/// Memory of the exact lengths.
+pub fn exact_memory(table: &Table) -> Memory {
+    let n = table.n();
+    Memory {
+        marks: vec![9; n * n],
+        spare: vec![8; n * n],
+        classes: vec![7; n],
+        output: vec![6; table.words().len()],
+    }
+}
+
+/// The largest games: dense ones of 64 and 256 vertices, a chain, and the largest plan's.
+pub fn largest_games() -> Vec<Table> {
+    let mut lcg = Lcg::new(77);
+    let mut games: Vec<Table> =
+        [1, 2, 8].map(|priorities| random(&mut lcg, 256, 4096, priorities)).into();
+    games.extend([complete(64), chain(256), largest_plan(&mut lcg).0]);
+    games
+}
+
+/// A case for each call with a game at the largest sizes; the relation judged is the order.
+pub fn largest_cases() -> Vec<Case> {
+    let mut cases = Vec::new();
+    for table in largest_games() {
+        let words = table.words();
+        let mut with_order = exact_memory(&table);
+        Oracle::exact().order(&words, &mut with_order);
+        cases.extend(Call::ON_MEMORY.map(|call| match call {
+            Call::AcceptRelation => Case::on_memory(call, &words, with_order.clone()),
+            _ => Case::on_memory(call, &words, exact_memory(&table)),
+        }));
+    }
+    let (table, plan) = largest_plan(&mut Lcg::new(78));
+    cases.extend([0, 1].map(|player| Case::of_plan(&table.words(), player, plan.words())));
+    cases
+}
+
+fn agree(case: &Case) -> u32 {
+    let expected = case.expected(&Oracle::exact());
+    assert_eq!(case.actual(), expected, "{:?}", case.call);
+    expected.answer.number
+}
+
+#[test]
+fn largest_sizes_agree() {
+    let numbers: Vec<u32> = largest_cases().iter().map(agree).collect();
+    assert!(numbers.contains(&0));
+}
+
+#[test]
+fn one_beyond_a_limit_is_refused() {
+    let game = |n: usize, m: usize| {
+        let edges = (0..m).map(|i| ((i % n) as u16, (i / n) as u16)).collect();
+        Table { priorities: vec![0; n], owners: vec![1; n], edges }
+    };
+    for (n, m, number) in [(256, 4096, 0), (257, 4096, 2), (256, 4097, 3), (64, 4096, 0)] {
+        let table = game(n, m);
+        for call in Call::ON_MEMORY {
+            let mut memory = exact_memory(&table);
+            memory.marks.fill(0);
+            let case = Case::on_memory(call, &table.words(), memory);
+            assert_eq!(agree(&case), number, "{call:?}");
+        }
+    }
+}
+
+#[test]
+fn one_byte_or_word_short_is_refused() {
+    let table = chain(256);
+    type Shorten = fn(&mut Memory);
+    let shortened: [(u32, Shorten); 4] = [
+        (21, |memory| memory.marks.truncate(memory.marks.len() - 1)),
+        (22, |memory| memory.spare.truncate(memory.spare.len() - 1)),
+        (23, |memory| memory.classes.truncate(memory.classes.len() - 1)),
+        (24, |memory| memory.output.truncate(memory.output.len() - 1)),
+    ];
+    for (number, shorten) in shortened {
+        let mut memory = exact_memory(&table);
+        shorten(&mut memory);
+        let case =
+            Case { call: Call::Reduce, game: table.words(), memory, player: 0, plan: vec![] };
+        assert_eq!(agree(&case), number);
+    }
+}
+
+/// Coprime rings take the product of their lengths in passes.
+#[test]
+fn two_rings_agree() {
+    let table = two_rings(40, 41);
+    let case = Case::on_memory(Call::Order, &table.words(), exact_memory(&table));
+    assert_eq!(agree(&case), 0);
+    assert_eq!(case.actual().answer.passes, 40 * 41 + 1);
+}
+
+/// A place is a length, and may need more than 32 bits.
+#[test]
+fn place_beyond_32_bits() {
+    let length = (1usize << 32) + 5;
+    if Vec::<u16>::new().try_reserve_exact(length).is_err() {
+        return;
+    }
+    let mut words = vec![0u16; length];
+    (words[0], words[1]) = (1, 1);
+    let refusal = raskjomi::read(&words).unwrap_err();
+    assert_eq!((refusal.number, refusal.place), (4, length));
+}

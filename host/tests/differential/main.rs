@@ -1,0 +1,13 @@
+//! The library against the oracle: many games, damaged tables, relations, plans and buffers, every
+//! byte compared after every call.
+
+#[path = "../common/mod.rs"]
+mod common;
+
+mod agreement;
+mod calls;
+mod limits;
+mod samples;
+mod threads;
+mod traps;
+mod winners;

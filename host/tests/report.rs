@@ -1,0 +1,97 @@
+//! The report program, run on many inputs, prints what the oracle says.
+
+#[path = "../rattle.rs"]
+mod rattle;
+
+mod common;
+
+use common::{root, say};
+use generator::{any_game, damaged, random, Lcg, Table};
+use oracle::{Oracle, Trap};
+use std::collections::BTreeMap;
+use std::io::Write;
+use std::path::Path;
+use std::process::{Command, Stdio};
+use std::thread;
+
+/// What the program prints for the input. It may stop reading before the input ends.
+fn report(program: &Path, input: &[u8]) -> String {
+    let mut child = Command::new(program)
+        .stdin(Stdio::piped())
+        .stdout(Stdio::piped())
+        .spawn()
+        .expect("the report program starts");
+    let (mut stdin, bytes) = (child.stdin.take().expect("piped"), input.to_vec());
+    let writer = thread::spawn(move || drop(stdin.write_all(&bytes)));
+    let output = child.wait_with_output().expect("the report program ends");
+    writer.join().expect("the input is written or turned away");
+    assert!(output.status.success(), "{:?}", output.status);
+    String::from_utf8(output.stdout).expect("text")
+}
+
+fn bytes(words: &[u16]) -> Vec<u8> {
+    words.iter().flat_map(|word| word.to_le_bytes()).collect()
+}
+
+/// Games, damaged tables of each kind, odd byte counts, nothing, and tables that are too long.
+fn inputs() -> Vec<Vec<u8>> {
+    let mut lcg = Lcg::new(5);
+    let mut inputs = vec![vec![], vec![1], bytes(&[3, 3, 0, 1, 0, 0, 0, 1, 0, 1, 2, 1, 1, 1])];
+    for most in [3, 8, 20, 60, 256] {
+        for _ in 0..20 {
+            let table = any_game(&mut lcg, most);
+            inputs.push(bytes(&table.words()));
+            inputs.push(odd(&mut lcg, &table));
+        }
+        for number in (1..=8).chain(1..=8) {
+            let table = any_game(&mut lcg, most);
+            inputs.push(bytes(&damaged(&mut lcg, &table, number)));
+        }
+    }
+    let largest = bytes(&random(&mut lcg, 256, 4096, 3).words());
+    for more in [0, 1, 2, 3, 4, 100, 200_000] {
+        inputs.push([largest.clone(), vec![1; more]].concat());
+    }
+    inputs
+}
+
+/// The table's bytes without the last, or with one more.
+fn odd(lcg: &mut Lcg, table: &Table) -> Vec<u8> {
+    let mut bytes = bytes(&table.words());
+    if lcg.once_in(2) {
+        bytes.pop();
+    } else {
+        bytes.push(lcg.below(256) as u8);
+    }
+    bytes
+}
+
+/// The refusal number of a report, 0 for none.
+fn number(text: &str) -> u32 {
+    let mut words = text.split_whitespace();
+    match words.next() {
+        Some("refused") => words.next().and_then(|word| word.parse().ok()).expect("a number"),
+        _ => 0,
+    }
+}
+
+#[test]
+fn report_program_and_oracle_agree() {
+    let program = rattle::built(root(), "bin/report", &["check", "report"]);
+    let inputs = inputs();
+    let texts: Vec<String> = inputs.iter().map(|input| report(&program, input)).collect();
+    let mut counts = BTreeMap::new();
+    for (input, text) in inputs.iter().zip(&texts) {
+        assert_eq!(*text, Oracle::exact().report(input), "on {} bytes", input.len());
+        *counts.entry(number(text)).or_insert(0) += 1;
+    }
+    say(format!("{} reports; by refusal number: {counts:?}", inputs.len()));
+    assert!((0..=8).all(|number| counts.get(&number) >= Some(&8)), "{counts:?}");
+    for trap in [Trap::HalfWordDropped, Trap::ReportUnlimited] {
+        let misled = Oracle::with(trap);
+        let differs = |(input, text): (&Vec<u8>, &String)| misled.report(input) != *text;
+        let needed = inputs.iter().zip(&texts).position(differs);
+        let needed = needed.unwrap_or_else(|| panic!("{trap:?} goes unnoticed")) + 1;
+        say(format!("{trap:?}: reports needed {needed}"));
+    }
+}
