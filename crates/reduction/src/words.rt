@@ -22,10 +22,10 @@ pub fn copy(words: &mut [u16], at: usize, from: &[u16], count: usize)
     requires { ⌜ (at + count ≤ length (now words)) × (count ≤ length (now from)) ⌝ }
     ensures { λ r. ⌜ now (words .exit) ≡ placed at (tabulate count (λ i. getD (now (from .entry)) i 0)) (now (words .entry)) ⌝ }
 {
-    let mut i = 0;
-    while i < count {
-        words[at + i] = from[i];
-        i += 1;
+    let mut j = 0;
+    while j < count {
+        words[at + j] = from[j];
+        j += 1;
     }
 }
 
@@ -35,9 +35,9 @@ pub fn gather(words: &mut [u16], at: usize, from: &[u16], start: usize, picks: &
     requires { ⌜ ((i : ℕ) → i < count → start + getD (now picks) i 0 < length (now from)) ⌝ }
     ensures { λ r. ⌜ now (words .exit) ≡ placed at (tabulate count (λ i. getD (now (from .entry)) (start + getD (now (picks .entry)) i 0) 0)) (now (words .entry)) ⌝ }
 {
-    let mut i = 0;
-    while i < count {
-        words[at + i] = from[start + picks[i] as usize];
-        i += 1;
+    let mut c = 0;
+    while c < count {
+        words[at + c] = from[start + picks[c] as usize];
+        c += 1;
     }
 }

@@ -10,10 +10,10 @@ use Rattle.reduction.proofs.words.copy.Statement.{statement}
 use Rattle.reduction.proofs.words.copy.Tie as tie
 
 abbrev Inv-loop : tie.InvT-loop
-Inv-loop words₀ at from count i₀ words i = (i ≤ count) × (length words ≡ length words₀) × (words ≡ placed at (tabulate i (λ j. getD from j 0)) words₀)
+Inv-loop words₀ at from count j₀ words j = (j ≤ count) × (length words ≡ length words₀) × (words ≡ placed at (tabulate j (λ i. getD from i 0)) words₀)
 
 abbrev μ-loop : tie.MeasureT-loop
-μ-loop words₀ at from count i₀ words i = count - i
+μ-loop words₀ at from count j₀ words j = count - j
 
 loop-holds : tie.Need-loop-holds Inv-loop μ-loop
 loop-holds c = (search needs, search needs, placed-start _ _ _)
@@ -33,8 +33,8 @@ mul-words-2 c = search needs
 slice-write-words : tie.Need-slice-write-words Inv-loop μ-loop
 slice-write-words c = search needs
 
-add-i : tie.Need-add-i Inv-loop μ-loop
-add-i c = search needs
+add-j : tie.Need-add-j Inv-loop μ-loop
+add-j c = search needs
 
 loop-less : tie.Need-loop-less Inv-loop μ-loop
 loop-less c = search needs
@@ -42,14 +42,14 @@ loop-less c = search needs
 loop-again : tie.Need-loop-again Inv-loop μ-loop
 loop-again c =
     let l = c .before .before .loop in
-    (search needs, simp length-set (l .inv .1), rw (l .inv .2) (placed-more _ _ (l .i) _ (omega arith)))
+    (search needs, simp length-set (l .inv .1), rw (l .inv .2) (placed-more _ _ (l .j) _ (omega arith)))
 
 same-length : tie.Need-same-length Inv-loop μ-loop
 same-length c = search needs
 
 returns : tie.Need-returns Inv-loop μ-loop
 returns c =
-    let e : c .before .loop .i ≡ c .before .before .args .count = omega arith in
+    let e : c .before .loop .j ≡ c .before .before .args .count = omega arith in
     rw e at (c .before .loop .inv .2)
 
 pub copy-spec : {M : Type 1} → statement M
@@ -64,7 +64,7 @@ copy-spec =
     add-words
     mul-words-2
     slice-write-words
-    add-i
+    add-j
     loop-less
     loop-again
     same-length

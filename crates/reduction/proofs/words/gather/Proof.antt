@@ -11,15 +11,15 @@ use Rattle.reduction.proofs.words.gather.Statement.{statement}
 use Rattle.reduction.proofs.words.gather.Tie as tie
 
 abbrev Inv-loop : tie.InvT-loop
-Inv-loop words₀ at from start picks count i₀ words i = (i ≤ count) × (length words ≡ length words₀) × (words ≡ placed at (tabulate i (λ j. getD from (start + getD picks j 0) 0)) words₀)
+Inv-loop words₀ at from start picks count c₀ words c = (c ≤ count) × (length words ≡ length words₀) × (words ≡ placed at (tabulate c (λ j. getD from (start + getD picks j 0) 0)) words₀)
 
 abbrev μ-loop : tie.MeasureT-loop
-μ-loop words₀ at from start picks count i₀ words i = count - i
+μ-loop words₀ at from start picks count c₀ words c = count - c
 
 -- the picked word is there
 picked : (c : tie.In-loop Inv-loop μ-loop)
-    → let a = c .before .before .args in a .start + getD (a .picks .now) (c .before .loop .i) 0 < length (a .from .now)
-picked c = c .before .before .pre .1 (c .before .loop .i) (c .loop-test .taken)
+    → let a = c .before .before .args in a .start + getD (a .picks .now) (c .before .loop .c) 0 < length (a .from .now)
+picked c = c .before .before .pre .1 (c .before .loop .c) (c .loop-test .taken)
 
 loop-holds : tie.Need-loop-holds Inv-loop μ-loop
 loop-holds c = (search needs, search needs, placed-start _ _ _)
@@ -51,8 +51,8 @@ mul-words-3 c = search needs
 slice-write-words : tie.Need-slice-write-words Inv-loop μ-loop
 slice-write-words c = search needs
 
-add-i : tie.Need-add-i Inv-loop μ-loop
-add-i c = search needs
+add-c : tie.Need-add-c Inv-loop μ-loop
+add-c c = search needs
 
 loop-less : tie.Need-loop-less Inv-loop μ-loop
 loop-less c = search needs
@@ -60,14 +60,14 @@ loop-less c = search needs
 loop-again : tie.Need-loop-again Inv-loop μ-loop
 loop-again c =
     let l = c .before .before .before .loop in
-    (search needs, simp length-set (l .inv .1), rw (l .inv .2) (placed-more _ _ (l .i) _ (omega arith)))
+    (search needs, simp length-set (l .inv .1), rw (l .inv .2) (placed-more _ _ (l .c) _ (omega arith)))
 
 same-length : tie.Need-same-length Inv-loop μ-loop
 same-length c = search needs
 
 returns : tie.Need-returns Inv-loop μ-loop
 returns c =
-    let e : c .before .loop .i ≡ c .before .before .args .count = omega arith in
+    let e : c .before .loop .c ≡ c .before .before .args .count = omega arith in
     rw e at (c .before .loop .inv .2)
 
 pub gather-spec : {M : Type 1} → statement M
@@ -86,7 +86,7 @@ gather-spec =
     add-words-2
     mul-words-3
     slice-write-words
-    add-i
+    add-c
     loop-less
     loop-again
     same-length
