@@ -1,3 +1,4 @@
+// A part of this crate's calls; no host calls it.
 // The successor index of a game table: edges grouped by source, by counting, in O(n + m) steps.
 ghost use mathlib.Core.Path.{_≡_};
 ghost use Prim.Native.Nat.{ℕ, _+_, _<_, _≤_};

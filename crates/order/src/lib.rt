@@ -27,7 +27,7 @@ pub enum Ordering {
     Refused(Refusal),
 }
 
-// The refusal of the reader's verdict, to hand on.
+// The refusal of the reader's verdict, to hand on. A part of the calls; no host calls it.
 pub fn refusal_of(reading: Reading) -> Refusal
     ensures { λ r. ⌜ r ≡ refusalOf reading ⌝ }
 {
@@ -40,7 +40,8 @@ pub fn refusal_of(reading: Reading) -> Refusal
     }
 }
 
-// Writes the order of a well-formed table into buffers that are long enough, over an index in local arrays of 8,706 bytes.
+// Writes the order of a well-formed table into buffers that are long enough, over an index in local arrays of 8,706 bytes. A part of the
+// calls that leave the order; no host calls it.
 pub fn fill_order(game: &[u16], marks: &mut [u8], spare: &mut [u8]) -> u32
     requires { ⌜ WellFormed (now game) ⌝ }
     requires { ⌜ (pairCount (now game) ≤ length (now marks)) × (pairCount (now game) ≤ length (now spare)) ⌝ }

@@ -1,3 +1,4 @@
+// A part of this crate's calls; no host calls it.
 // The passes of document 01, "The order", over marks in buffers.
 use crate::pairs::Pair;
 use crate::pairs::next_pair;

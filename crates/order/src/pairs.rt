@@ -1,3 +1,4 @@
+// A part of this crate's calls; no host calls it.
 // The pair test of direct simulation, over a successor index.
 use crate::index::Run;
 use crate::index::run_of;

@@ -1,3 +1,4 @@
+// A part of this crate's calls; no host calls it.
 // Refusal 15: positions that lack a needed link. `edge_starts` and `edge_targets` index the game's edges, `starts` and `targets` the links.
 use crate::index::index;
 use crate::links::vertex_of;

@@ -1,3 +1,4 @@
+// A part of this crate's calls; no host calls it.
 // Refusals 13 and 14: the words of a plan, and its links along edges.
 ghost use mathlib.Core.Path.{_≡_};
 ghost use mathlib.Core.Bool.{cond};

@@ -1,3 +1,4 @@
+// A part of this crate's calls; no host calls it.
 // Refusal 16: the search for a position of the wrong parity that returns. `rank` has the priority of each position.
 use crate::links::vertex_of;
 ghost use mathlib.Core.Path.{_≡_};

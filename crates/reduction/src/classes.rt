@@ -1,3 +1,4 @@
+// A part of this crate's calls; no host calls it.
 // The classes of a game whose marks hold its order.
 ghost use mathlib.Core.Path.{_≡_};
 ghost use Prim.Native.Nat.{ℕ, _+_, _*_, _<_, _≤_};

@@ -1,3 +1,4 @@
+// A part of this crate's calls; no host calls it.
 // Which quotient edges the reduced game drops: those to a class d with a rival, another quotient edge of the same class to one that is no
 // worse than d for the owner. Document 004's table 4 decides; the prose beside it says the reverse.
 ghost use mathlib.Core.Path.{_≡_};

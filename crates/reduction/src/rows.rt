@@ -1,3 +1,4 @@
+// A part of this crate's calls; no host calls it.
 // The edges of one class. A class d gets an edge from class c exactly if every member of c reaches it: the members are passed one by one,
 // and the count of d goes from s to s + 1 at member number s only where that member, too, has a successor in d.
 ghost use mathlib.Core.Path.{_≡_};

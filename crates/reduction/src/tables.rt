@@ -1,3 +1,4 @@
+// A part of this crate's calls; no host calls it.
 // The table of a game of classes.
 use crate::TableCounts;
 use crate::classes;
