@@ -3,9 +3,9 @@ use mathlib.Core.Path.{_≡_}
 use mathlib.Core.Bool.{Bool, not}
 use mathlib.Core.List.{List}
 use Prim.Native.Nat.{ℕ, suc, _+_, _*_, _≤_}
-use lib.ListN.{set}
+use lib.ListN.{length, set}
 use Rattle.theory.specs.Bools.{_&_, bit}
-use Rattle.theory.specs.Range.{first, count}
+use Rattle.theory.specs.Range.{first, count, tabulate}
 use Rattle.theory.specs.Passes.{Marks, marked, Test, nextPass, pass, settled, rounds, pairStart, pairTest}
 use Rattle.theory.specs.Game.{even}
 use Rattle.theory.specs.Order.{equalPriority, test, orderMarks, orderPasses}
@@ -53,6 +53,17 @@ clears g marks v w = isMark marks (v * vertexCount g + w) & not (test even (game
 pub record PairDone (g marks old new : List ℕ) (v w c : ℕ) : Type 0 where
   pub spare : new ≡ set old (v * vertexCount g + w) (bit (keeps g marks v w))
   pub count : c ≡ bit (clears g marks v w)
+
+-- what held the bytes of f for the pairs before (v, 0) now holds them for those before (v, w)
+abbrev pub RowWritten : List ℕ → (ℕ → Bool) → ℕ → ℕ → List ℕ → List ℕ → Type 0
+RowWritten g f v w old new =
+    (base : List ℕ) → pairCount g ≤ length base → old ≡ written (bytes (tabulate (v * vertexCount g) f)) base
+    → new ≡ written (bytes (tabulate (v * vertexCount g + w) f)) base
+
+-- the pairs (v, 0) to (v, w - 1) are done: their new marks are in the spare buffer, and c of them were cleared
+pub record RowDone (g marks old new : List ℕ) (v w c : ℕ) : Type 0 where
+  pub spare : RowWritten g (keptAt g marks) v w old new
+  pub count : count (v * vertexCount g) (clearedAt g marks) + c ≡ count (v * vertexCount g + w) (clearedAt g marks)
 
 -- a pass is done: the new marks are in the spare buffer, and c marks were cleared
 pub record PassDone (g marks old new : List ℕ) (c : ℕ) : Type 0 where

@@ -3,12 +3,13 @@ use mathlib.Core.Path.{_≡_, refl, sym, ap₂, _∙_}
 use mathlib.Core.Logic.{_⊎_, inl, inr}
 use mathlib.Core.Bool.{Bool, false, not, So}
 use mathlib.Core.List.{List}
-use Prim.Native.Nat.{ℕ, suc, _+_, _*_, _<_}
+use Prim.Native.Nat.{ℕ, suc, _+_, _*_, _≤_, _<_}
+use native.Mathlib.Nat.{add-zero, suc-mul}
 use native.Mathlib.Omega.{arith}
 use native.Mathlib.Numerals.{add-one}
 use lib.Arith.{digits-lt, digits-div, digits-mod}
-use lib.ListN.{length, drop}
-use Rattle.theory.specs.Bools.{_&_}
+use lib.ListN.{length, drop, set}
+use Rattle.theory.specs.Bools.{_&_, bit}
 use Rattle.theory.specs.BoolsLaws.{decide, clash, So-ext, So-not, and-in, and-out, not-in, not-out, imp-in, imp-out}
 use Rattle.theory.specs.Range.{count, tabulate}
 use Rattle.theory.specs.RangeLaws.{all-in, all-out, first-step, first-hit, first-ge}
@@ -21,13 +22,12 @@ use Rattle.theory.specs.SimulationLaws.{moves-mono}
 use Rattle.theory.specs.Order.{equalPriority, test, orderMarks, marksBetween, orderPasses}
 use Rattle.theory.specs.OrderLaws.{Holds, moves-in, moves-out}
 use Rattle.table.specs.Table.{vertexCount, gameOf}
-use Rattle.order.specs.CountingLaws.{count-none}
+use Rattle.order.specs.CountingLaws.{count-step, count-none}
 use Rattle.table.specs.Verdict.{written}
 use Rattle.order.specs.Bytes.{bytes, isMark, marksOf, relation}
-use Rattle.order.specs.BytesLaws.{length-bytes, marks-written, written-over, drop-written}
+use Rattle.order.specs.BytesLaws.{length-bytes, fill-more, marks-written, written-over, drop-written}
 use Rattle.order.specs.IndexLaws.{game-n}
-use Rattle.order.specs.RowOrder.{PairAt}
-use Rattle.order.specs.Clearing.{cleared, Unsettled, pairCount, equalPairs, pairPasses, marksAfter, keptAt, clearedAt, keeps, clears, PassDone}
+use Rattle.order.specs.Clearing.{cleared, Unsettled, pairCount, equalPairs, pairPasses, marksAfter, keptAt, clearedAt, keeps, clears, RowWritten, PairDone, RowDone, PassDone}
 
 -- ---- a pass that clears nothing is the last
 
@@ -97,30 +97,64 @@ test-ext a g h H K v w e =
 
 -- ---- pass 0 and a later pass, pair by pair
 
-pub equal-of : (g : List ℕ) (k v w : ℕ) → PairAt (vertexCount g) k v w → equalPairs g k ≡ equalPriority (gameOf g) (gameOf g) v w
+pub equal-of : (g : List ℕ) (v w : ℕ) → w < vertexCount g → equalPairs g (v * vertexCount g + w) ≡ equalPriority (gameOf g) (gameOf g) v w
 unfolding pairStart
-equal-of g k v w p = rw (← p .number, digits-div v (p .column), digits-mod v (p .column))
+equal-of g v w h = rw (digits-div v h, digits-mod v h)
 
 module _ (g marks : List ℕ) where
   mark-of : (i : ℕ) → i < pairCount g → marked (marksOf (pairCount g) marks) i ≡ isMark marks i
   unfolding marksOf
   mark-of i h = getD-tabulate (pairCount g) (isMark marks) false i h
 
-  module _ (k v w : ℕ) (p : PairAt (vertexCount g) k v w) (h : k < pairCount g) where
-    test-of : pairPasses g (marked (marksOf (pairCount g) marks)) k ≡ test even (gameOf g) (gameOf g) (relation (vertexCount g) marks) v w
+  module _ (v w : ℕ) (hv : v < vertexCount g) (hw : w < vertexCount g) where
+    test-of : pairPasses g (marked (marksOf (pairCount g) marks)) (v * vertexCount g + w)
+        ≡ test even (gameOf g) (gameOf g) (relation (vertexCount g) marks) v w
     unfolding pairTest relation relOf
     test-of =
-        rw (← p .number, digits-div v (p .column), digits-mod v (p .column))
+        rw (digits-div v hw, digits-mod v hw)
         (test-ext even (gameOf g) (gameOf g) _ _ v w
         (λ x y hx hy. mark-of (x * vertexCount g + y) (digits-lt (rw (game-n g) at hx) (rw (game-n g) at hy))))
 
-    pub kept-at : keptAt g marks k ≡ keeps g marks v w
+    pub kept-at : keptAt g marks (v * vertexCount g + w) ≡ keeps g marks v w
     unfolding keeps
-    kept-at = ap₂ _&_ (rw (p .number) (mark-of k h)) test-of
+    kept-at = ap₂ _&_ (mark-of (v * vertexCount g + w) (digits-lt hv hw)) test-of
 
-    pub cleared-at : clearedAt g marks k ≡ clears g marks v w
+    pub cleared-at : clearedAt g marks (v * vertexCount g + w) ≡ clears g marks v w
     unfolding clears
-    cleared-at = ap₂ (λ a b. a & not b) (rw (p .number) (mark-of k h)) test-of
+    cleared-at = ap₂ (λ a b. a & not b) (mark-of (v * vertexCount g + w) (digits-lt hv hw)) test-of
+
+-- ---- pair by pair in a row, and row by row
+
+module _ (g : List ℕ) (f : ℕ → Bool) where
+  pub row-start : (v : ℕ) (old : List ℕ) → RowWritten g f v 0 old old
+  row-start v old base h e = rw (add-zero (v * vertexCount g)) e
+
+  pub row-next : (v w : ℕ) (old new : List ℕ) → v < vertexCount g → w < vertexCount g → RowWritten g f v w old new
+      → RowWritten g f v (w + 1) old (set new (v * vertexCount g + w) (bit (f (v * vertexCount g + w))))
+  row-next v w old new hv hw r base h e =
+      let s : v * vertexCount g + (w + 1) ≡ v * vertexCount g + w + 1 = omega arith in
+      rw (s, r base h e) (fill-more f (v * vertexCount g + w) base (omega (arith, digits-lt hv hw, h)))
+
+  pub row-end : (v : ℕ) (base old new : List ℕ) → pairCount g ≤ length base → old ≡ written (bytes (tabulate (v * vertexCount g) f)) base
+      → RowWritten g f v (vertexCount g) old new → new ≡ written (bytes (tabulate ((v + 1) * vertexCount g) f)) base
+  row-end v base old new h e r = rw (add-one v, suc-mul v (vertexCount g)) (r base h e)
+
+module _ (g marks : List ℕ) where
+  pub done-start : (v : ℕ) (old : List ℕ) → RowDone g marks old old v 0 0
+  done-start v old = record { spare = row-start g (keptAt g marks) v old; count = rw (add-zero (v * vertexCount g)) (add-zero _) }
+
+  pub done-next : (v w c d : ℕ) (old mid new : List ℕ) → v < vertexCount g → w < vertexCount g → RowDone g marks old mid v w c → PairDone g marks mid new v w d
+      → RowDone g marks old new v (w + 1) (c + d)
+  done-next v w c d old mid new hv hw r p = record {
+    spare = rw (p .spare, ← kept-at g marks v w hv hw) (row-next g (keptAt g marks) v w old mid hv hw (r .spare));
+    count =
+        let s : v * vertexCount g + (w + 1) ≡ v * vertexCount g + w + 1 = omega arith in
+        rw (s, count-step (v * vertexCount g + w) (clearedAt g marks), cleared-at g marks v w hv hw, ← p .count, ← r .count) (omega arith);
+  }
+
+  pub count-end : (v c d : ℕ) (old new : List ℕ) → c ≡ count (v * vertexCount g) (clearedAt g marks) → RowDone g marks old new v (vertexCount g) d
+      → c + d ≡ count ((v + 1) * vertexCount g) (clearedAt g marks)
+  count-end v c d old new e r = rw (add-one v, suc-mul v (vertexCount g), e) (r .count)
 
 -- ---- the passes of a table's game, between two buffers
 

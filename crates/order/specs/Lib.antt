@@ -10,8 +10,6 @@ pub mod SearchLaws
 pub mod IndexLaws
 pub mod Ready
 pub mod PairLaws
-pub mod RowOrder
-pub mod RowOrderLaws
 pub mod Clearing
 pub mod ClearingLaws
 pub mod Handed

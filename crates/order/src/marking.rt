@@ -1,7 +1,5 @@
 // A part of this crate's calls; no host calls it.
 // The passes of document 01, "The order", over marks in buffers.
-use crate::pairs::Pair;
-use crate::pairs::next_pair;
 use crate::pairs::pair_passes;
 use crate::pairs::same_priority;
 ghost use mathlib.Core.Path.{_≡_};
@@ -15,7 +13,7 @@ ghost use Rattle.table.specs.Verdict.{written};
 ghost use Rattle.table.specs.WellFormed.{WellFormed};
 ghost use Rattle.order.specs.Bytes.{bytes};
 ghost use Rattle.order.specs.Ready.{PairReady, PassReady};
-ghost use Rattle.order.specs.Clearing.{pairCount, equalPairs, PairDone, PassDone, OrderDone};
+ghost use Rattle.order.specs.Clearing.{pairCount, equalPairs, RowWritten, PairDone, RowDone, PassDone, OrderDone};
 
 // The mark of (v, w) in pass 0.
 fn equal_mark(game: &[u16], v: usize, w: usize) -> u8
@@ -26,6 +24,21 @@ fn equal_mark(game: &[u16], v: usize, w: usize) -> u8
     if same_priority(game, v, w) { 1 } else { 0 }
 }
 
+// Pass 0 of the pairs of v.
+fn mark_row(game: &[u16], marks: &mut [u8], v: usize)
+    requires { ⌜ WellFormed (now game) ⌝ }
+    requires { ⌜ (v < vertexCount (now game)) × (pairCount (now game) ≤ length (now marks)) ⌝ }
+    ensures { λ r. ⌜ RowWritten (now (game .entry)) (equalPairs (now (game .entry))) v (vertexCount (now (game .entry))) (now (marks .entry)) (now (marks .exit)) ⌝ }
+{
+    let n = game[0] as usize;
+    let row = v * n;
+    let mut w = 0;
+    while w < n {
+        marks[row + w] = equal_mark(game, v, w);
+        w += 1;
+    }
+}
+
 // Pass 0.
 fn mark_equal(game: &[u16], marks: &mut [u8])
     requires { ⌜ WellFormed (now game) ⌝ }
@@ -33,17 +46,14 @@ fn mark_equal(game: &[u16], marks: &mut [u8])
     ensures { λ r. ⌜ now (marks .exit) ≡ written (bytes (tabulate (pairCount (now (game .entry))) (equalPairs (now (game .entry))))) (now (marks .entry)) ⌝ }
 {
     let n = game[0] as usize;
-    let size = n * n;
-    let mut at = Pair { v: 0, w: 0 };
-    let mut k = 0;
-    while k < size {
-        marks[k] = equal_mark(game, at.v, at.w);
-        at = next_pair(at, n);
-        k += 1;
+    let mut v = 0;
+    while v < n {
+        mark_row(game, marks, v);
+        v += 1;
     }
 }
 
-// Writes the mark of (v, w) after the pass; 1 if the pass clears it.
+// Writes the mark of (v, w), byte k, after the pass; 1 if the pass clears it.
 fn pass_pair(
     game: &[u16],
     offsets: &[u16],
@@ -52,12 +62,12 @@ fn pass_pair(
     spare: &mut [u8],
     v: usize,
     w: usize,
+    k: usize,
 ) -> u32
     requires { ⌜ PairReady (now game) (now offsets) (now targets) (now marks) v w ⌝ }
-    requires { ⌜ pairCount (now game) ≤ length (now spare) ⌝ }
+    requires { ⌜ (pairCount (now game) ≤ length (now spare)) × (k ≡ v * vertexCount (now game) + w) ⌝ }
     ensures { λ r. ⌜ PairDone (now (game .entry)) (now (marks .entry)) (now (spare .entry)) (now (spare .exit)) v w r ⌝ }
 {
-    let k = v * (game[0] as usize) + w;
     if marks[k] != 1 {
         spare[k] = 0;
         return 0;
@@ -70,20 +80,41 @@ fn pass_pair(
     0
 }
 
+// The pass for the pairs of v; how many marks it clears.
+fn pass_row(
+    game: &[u16],
+    offsets: &[u16],
+    targets: &[u16],
+    marks: &[u8],
+    spare: &mut [u8],
+    v: usize,
+) -> u32
+    requires { ⌜ PassReady (now game) (now offsets) (now targets) (now marks) (now spare) ⌝ }
+    requires { ⌜ v < vertexCount (now game) ⌝ }
+    ensures { λ r. ⌜ RowDone (now (game .entry)) (now (marks .entry)) (now (spare .entry)) (now (spare .exit)) v (vertexCount (now (game .entry))) r ⌝ }
+{
+    let n = game[0] as usize;
+    let row = v * n;
+    let mut cleared: u32 = 0;
+    let mut w = 0;
+    while w < n {
+        cleared += pass_pair(game, offsets, targets, marks, spare, v, w, row + w);
+        w += 1;
+    }
+    cleared
+}
+
 // A pass from marks to spare; how many marks it clears.
 fn pass(game: &[u16], offsets: &[u16], targets: &[u16], marks: &[u8], spare: &mut [u8]) -> u32
     requires { ⌜ PassReady (now game) (now offsets) (now targets) (now marks) (now spare) ⌝ }
     ensures { λ r. ⌜ PassDone (now (game .entry)) (now (marks .entry)) (now (spare .entry)) (now (spare .exit)) r ⌝ }
 {
     let n = game[0] as usize;
-    let pairs = n * n;
     let mut cleared: u32 = 0;
-    let mut at = Pair { v: 0, w: 0 };
-    let mut i = 0;
-    while i < pairs {
-        cleared += pass_pair(game, offsets, targets, marks, spare, at.v, at.w);
-        at = next_pair(at, n);
-        i += 1;
+    let mut v = 0;
+    while v < n {
+        cleared += pass_row(game, offsets, targets, marks, spare, v);
+        v += 1;
     }
     cleared
 }

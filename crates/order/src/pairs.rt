@@ -10,7 +10,6 @@ ghost use Rattle.theory.specs.Order.{equalPriority, test};
 ghost use Rattle.table.specs.Table.{vertexCount, gameOf};
 ghost use Rattle.table.specs.WellFormed.{WellFormed};
 ghost use Rattle.order.specs.Bytes.{relation};
-ghost use Rattle.order.specs.RowOrder.{PairAt};
 ghost use Rattle.order.specs.Ready.{PairReady};
 ghost use Rattle.order.specs.Search.{someFrom, hasMark, searchEnds, Reaches};
 
@@ -18,20 +17,6 @@ ghost use Rattle.order.specs.Search.{someFrom, hasMark, searchEnds, Reac
 pub struct Pair {
     pub v: usize,
     pub w: usize,
-}
-
-// The pair after this one in row order.
-pub fn next_pair(at: Pair, n: usize) -> Pair
-    requires { ⌜ (at .v < n) × (at .w < n) ⌝ }
-    ensures { λ r. ⌜ PairAt n (at .v * n + at .w + 1) (r .v) (r .w) ⌝ }
-{
-    let v = at.v;
-    let w = at.w + 1;
-    if w < n {
-        Pair { v, w }
-    } else {
-        Pair { v: v + 1, w: 0 }
-    }
 }
 
 // Whether a target y of the run has the wanted mark; y's mark is byte base + y * stride.
