@@ -5,8 +5,9 @@ use std::hint::black_box;
 use std::thread;
 use std::time::{Duration, Instant};
 
-/// How long a row is measured, at the least.
+/// How long and how often a row is measured, at the least.
 const A_ROW: Duration = Duration::from_secs(1);
+const TIMES: u32 = 3;
 
 /// The best times of two pieces of work that are run in turn, so that both meet the same load.
 pub fn best_times(
@@ -14,8 +15,9 @@ pub fn best_times(
     mut second: impl FnMut() -> u32,
 ) -> (Duration, Duration) {
     let mut best = (Duration::MAX, Duration::MAX);
-    let start = Instant::now();
-    while start.elapsed() < A_ROW {
+    let (start, mut times) = (Instant::now(), 0);
+    while times < TIMES || start.elapsed() < A_ROW {
+        times += 1;
         best.0 = best.0.min(time(&mut first));
         best.1 = best.1.min(time(&mut second));
     }
