@@ -1,20 +1,20 @@
 -- The plan acceptor passes exactly the plans within the limits that win from the vertex of position 0.
-use mathlib.Core.Path.{_≡_, refl, sym, ap, ap₂, _∙_, subst₂}
+use mathlib.Core.Path.{_≡_, refl, sym, ap, ap₂, _∙_, subst₂, fun-ext}
 use mathlib.Core.Logic.{_⊎_, inl, inr}
 use mathlib.Core.Bool.{Bool, true, false, not, So}
 use mathlib.Core.List.{List, [], _∷_, _++_}
-use Prim.Native.Nat.{ℕ, _<_}
+use Prim.Native.Nat.{ℕ, _<_, min}
 use native.Mathlib.Decide.{decLt}
 use native.Mathlib.Omega.{arith}
 use lib.Dec.{ltb}
-use lib.ListN.{getD, drop}
+use lib.ListN.{length, getD, drop}
 use borrow.Author.Tests.{ltb-false, le-ltb, not-false}
 use Rattle.theory.specs.Bools.{_&_}
 use Rattle.theory.specs.BoolsLaws.{clash, So-not}
 use Rattle.theory.specs.Range.{first}
 use Rattle.theory.specs.RangeLaws.{first-before, first-passes}
 use Rattle.theory.specs.Game.{own, Succ, parity}
-use Rattle.theory.specs.Plan.{linked, Walk, Wins}
+use Rattle.theory.specs.Plan.{linked, Walk, Winning, Wins}
 use Rattle.theory.specs.Returns.{Return}
 use Rattle.theory.specs.ReturnsLaws.{closed-in, closed-out}
 use Rattle.table.specs.Table.{vertexCount, playerOf, gameOf}
@@ -24,7 +24,7 @@ use Rattle.table.specs.Reading.{gameRows}
 use Rattle.table.specs.ReadingLaws.{well-clean}
 use Rattle.plan.specs.PlanTable.{positionCount, linkCount, vertexAt, linkSource, linkTarget, planOf}
 use Rattle.plan.specs.Acceptance.{strays, firstStray, anyLink, answers, lacksLink, firstLackingLink, returns, positionPriority, hasLink, returnsWrong, firstReturn, planRows, planAnswer}
-use Rattle.plan.specs.PlanTableLaws.{planOf-length, planOf-vertex, planOf-link, link-in, link-out, anyLink-out}
+use Rattle.plan.specs.PlanTableLaws.{planOf-length, planOf-vertex, planOf-links, planOf-link, link-in, link-out, anyLink-out}
 use Rattle.plan.specs.PlanFormed.{PlanSized, PlanFormed, WordsPass}
 use Rattle.plan.specs.PlanFormedLaws.{good-size, good-words}
 use Rattle.plan.specs.AcceptanceRules.{LacksMove, LacksAnswer, Accepts}
@@ -194,3 +194,22 @@ module _ (g : List ℕ) (player : ℕ) (w : List ℕ) where
       (judge-clean _ []
       (clean-append (wordRows g player w) _ (words-clean g player w (record { game = a .game; number = a .number; formed = f }))
       (links-clean g player w (wins-passes g player w (a .sized) (vertexAt w 0) (a .wins)))))
+
+-- repeated links are harmless: plans within the limits with the same positions and the same links, however often each stands there,
+-- are accepted together
+pub repeats-accepted : (g : List ℕ) (player : ℕ) (w w′ : List ℕ) → PlanSized w′ → planOf w .vertices ≡ planOf w′ .vertices
+    → ((i j : ℕ) → hasLink w i j ≡ hasLink w′ i j) → planAnswer g player w ≡ accepted [] → planAnswer g player w′ ≡ accepted []
+repeats-accepted g player w w′ s at link e =
+    let a = plan-accepted g player w [] e .0 in
+    let l = planOf-links w ∙ (fun-ext λ i. fun-ext λ j. link i j) ∙ sym (planOf-links w′) in
+    let v : vertexAt w 0 ≡ vertexAt w′ 0 =
+    sym (planOf-vertex w 0 (a .sized .some)) ∙ ap (λ (vs : List ℕ). getD vs 0 0) at ∙ planOf-vertex w′ 0 (s .some) in
+    plan-accepts g player w′
+    (record {
+      game = a .game;
+      number = a .number;
+      sized = s;
+      wins =
+          rw (← v)
+          (subst₂ (λ (vs : List ℕ) (r : ℕ → ℕ → Bool). Winning min (playerOf player) (gameOf g) (length vs) (λ i. getD vs i 0) r (vertexAt w 0)) at l (a .wins));
+    })
