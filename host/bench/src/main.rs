@@ -86,23 +86,32 @@ fn line(cells: [&str; 8]) -> String {
     )
 }
 
+/// Measures a row and prints its line; the ratio.
+fn show(Row { name, game, work }: Row) -> f64 {
+    let (n, m) = (game[0].to_string(), game[1].to_string());
+    let Figures { passes, times, stack } = match work {
+        Work::Reduce => reduce_figures(game),
+        Work::AcceptPlan(plan) => plan_figures(game, plan),
+    };
+    let [library, baseline] = [times.0, times.1].map(|time| time.as_secs_f64() * 1e6);
+    let ratio = library / baseline;
+    let passes = passes.map_or("-".into(), |passes| passes.to_string());
+    let stack = stack.map_or("-".into(), |size| size.to_string());
+    let [a, b, c] = [format!("{library:.1}"), format!("{baseline:.1}"), format!("{ratio:.2}")];
+    println!("{}", line([&name, &n, &m, &passes, &a, &b, &c, &stack]));
+    ratio
+}
+
 fn main() {
     let heads = ["game", "n", "m", "passes", "library µs", "baseline µs", "ratio", "KiB"];
     println!("{}", line(heads));
-    for Row { name, game, work } in rows::rows() {
-        let (n, m) = (game[0].to_string(), game[1].to_string());
-        let Figures { passes, times, stack } = match work {
-            Work::Reduce => reduce_figures(game),
-            Work::AcceptPlan(plan) => plan_figures(game, plan),
-        };
-        let [library, baseline] = [times.0, times.1].map(|time| time.as_secs_f64() * 1e6);
-        let passes = passes.map_or("-".into(), |passes| passes.to_string());
-        let stack = stack.map_or("-".into(), |size| size.to_string());
-        let [a, b, ratio] = [
-            format!("{library:.1}"),
-            format!("{baseline:.1}"),
-            format!("{:.2}", library / baseline),
-        ];
-        println!("{}", line([&name, &n, &m, &passes, &a, &b, &ratio, &stack]));
+    let mut largest = 0f64;
+    for row in rows::rows() {
+        let counts = row.game[0] == 256;
+        let ratio = show(row);
+        if counts {
+            largest = largest.max(ratio);
+        }
     }
+    println!("largest ratio at n 256: {largest:.2}");
 }
