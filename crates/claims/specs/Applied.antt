@@ -1,4 +1,4 @@
--- The theorems of `Demands` applied to game D, whose vertices 0 and 5 are class 0: plans of the smallest games that a reader can follow.
+-- The theorems of `Demands` applied to game D, whose vertices 0 and 5 are class 0, and to a game of Odd's: games that a reader can follow.
 use mathlib.Core.Path.{_≡_, refl}
 use mathlib.Core.Bool.{So}
 use mathlib.Core.List.{List, [], _∷_}
@@ -91,14 +91,26 @@ plan-0 = surely-wins even _ classPlan 0 refl
 pub up-5 : Won even (gameOf gameD) 5
 up-5 = even-up gameD (replicate 36 9) marksD (5 ∷ 5 ∷ 6 ∷ []) answerD leftD refl 0 5 (omega arith) (omega arith) refl (classPlan, plan-0)
 
--- ---- from vertex 3 down to vertex 3, along byte 21: Odd's loop of priority 1
+-- ---- a game of Odd's: 0 has the edge of 1 and one more, so 0 is below 1; from vertex 1 down to vertex 0, along byte 1
+
+-- 4 5 / 2 2 1 4 / 1 1 0 0 / 0 0 1 2 3 / 2 3 2 2 3
+abbrev pub gameO : List ℕ
+gameO = 4 ∷ 5 ∷ 2 ∷ 2 ∷ 1 ∷ 4 ∷ 1 ∷ 1 ∷ 0 ∷ 0 ∷ 0 ∷ 0 ∷ 1 ∷ 2 ∷ 3 ∷ 2 ∷ 3 ∷ 2 ∷ 2 ∷ 3 ∷ []
+
+abbrev marksO : List ℕ
+marksO = 1 ∷ 1 ∷ 0 ∷ 0 ∷ 0 ∷ 1 ∷ 0 ∷ 0 ∷ 0 ∷ 0 ∷ 1 ∷ 0 ∷ 0 ∷ 0 ∷ 0 ∷ 1 ∷ []
+
+-- what the order call leaves of it, computed
+pub leftO : LeavesOrder gameO (accepted (2 ∷ [])) (replicate 16 9) marksO
+unfolding compute gameOf playerOf isEdge written after bytes
+leftO = refl
 
 abbrev pub oddPlan : Plan
-oddPlan = record { vertices = 3 ∷ []; links = (0, 0) ∷ [] }
+oddPlan = record { vertices = 1 ∷ 2 ∷ []; links = (0, 1) ∷ (1, 1) ∷ [] }
 
-plan-3 : Wins odd (gameOf gameD) oddPlan 3
+plan-1 : Wins odd (gameOf gameO) oddPlan 1
 unfolding compute gameOf playerOf isEdge
-plan-3 = surely-wins odd _ oddPlan 3 refl
+plan-1 = surely-wins odd _ oddPlan 1 refl
 
-pub down-3 : Won odd (gameOf gameD) 3
-down-3 = odd-down gameD (replicate 36 9) marksD (5 ∷ 5 ∷ 6 ∷ []) answerD leftD refl 3 3 (omega arith) (omega arith) refl (oddPlan, plan-3)
+pub down-0 : Won odd (gameOf gameO) 0
+down-0 = odd-down gameO (replicate 16 9) marksO (2 ∷ []) (accepted (2 ∷ [])) leftO refl 0 1 (omega arith) (omega arith) refl (oddPlan, plan-1)

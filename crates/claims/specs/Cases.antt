@@ -19,7 +19,7 @@ use Rattle.reduction.specs.ClassTable.{ownerWord, tableWords}
 use Rattle.reduction.specs.Calls.{classRows, tableRows, classTotal, classWords}
 use Rattle.plan.specs.Acceptance.{badSize, beyond, firstBeyond, strays, firstStray, anyLink, answers, lacksLink, firstLackingLink, reaches, returns, positionPriority, hasLink, returnsWrong, firstReturn, planRows, planAnswer}
 
--- a call of the host, with its input; what it writes into starts as zeros, as long as needed
+-- a call of the host, with its input; what it writes into is as long as needed, and old words are 7
 pub data Call : Type 0 where
   read : List ℕ → Call
   writeOrder : List ℕ → Call
@@ -29,39 +29,43 @@ pub data Call : Type 0 where
   writeReduced : List ℕ → Call
   acceptPlan : List ℕ → ℕ → List ℕ → Call
 
--- the answer, and the words that the call writes
+-- the answer, and each lent list that the call may write into, as it is afterwards
 pub record Outcome : Type 0 where
   pub answer : Answer
   pub words : List (List ℕ)
 
-abbrev zeros : ℕ → List ℕ
-zeros k = replicate k 0
+abbrev sevens : ℕ → List ℕ
+sevens k = replicate k 7
 
 abbrev pairs : List ℕ → List ℕ
-pairs game = zeros (vertexCount game * vertexCount game)
+pairs game = sevens (vertexCount game * vertexCount game)
 
 abbrev answers-only : Answer → Outcome
 answers-only a = record { answer = a; words = [] }
 
--- the class words and the table of a game K of classes, its edges ascending
+-- marks or spare after a call
+abbrev ordered : Answer → List ℕ → List ℕ
+ordered a game = after a (bytes (orderMarks (gameOf game))) (pairs game)
+
+-- marks, spare, class words and the table of a game K of classes, its edges ascending
 abbrev tabulated : (Game → Game) → List ℕ → Outcome
 tabulated K game =
-    let classes = zeros (vertexCount game) in
-    let output = zeros (tableLength (vertexCount game) (tableEdges game)) in
+    let classes = sevens (vertexCount game) in
+    let output = sevens (tableLength (vertexCount game) (tableEdges game)) in
     let es = pairsOf (K (gameOf game) .n) (K (gameOf game) .edge) in
     let a = judge (tableRows game (pairs game) (pairs game) classes output) (classTotal game ∷ K (gameOf game) .n ∷ length es ∷ []) in
-    record { answer = a; words = after a (classWords game) classes ∷ after a (tableWords (K (gameOf game)) es) output ∷ [] }
+    record { answer = a; words = ordered a game ∷ ordered a game ∷ after a (classWords game) classes ∷ after a (tableWords (K (gameOf game)) es) output ∷ [] }
 
 abbrev pub outcome : Call → Outcome
 outcome (read game) = answers-only (readAnswer game)
 outcome (writeOrder game) =
     let a = orderAnswer game (pairs game) (pairs game) in
-    record { answer = a; words = after a (bytes (orderMarks (gameOf game))) (pairs game) ∷ [] }
+    record { answer = a; words = ordered a game ∷ ordered a game ∷ [] }
 outcome (acceptRelation game marks) = answers-only (relationAnswer game marks)
 outcome (writeClasses game) =
-    let classes = zeros (vertexCount game) in
+    let classes = sevens (vertexCount game) in
     let a = judge (classRows game (pairs game) (pairs game) classes) (classTotal game ∷ []) in
-    record { answer = a; words = after a (classWords game) classes ∷ [] }
+    record { answer = a; words = ordered a game ∷ ordered a game ∷ after a (classWords game) classes ∷ [] }
 outcome (writeQuotient game) = tabulated quotient game
 outcome (writeReduced game) = tabulated reduced game
 outcome (acceptPlan game player plan) = answers-only (planAnswer game player plan)
@@ -87,6 +91,9 @@ p1 = 1 ∷ 1 ∷ 1 ∷ 1 ∷ 0 ∷ 0 ∷ []
 abbrev gameB : List ℕ
 gameB = 3 ∷ 3 ∷ 0 ∷ 1 ∷ 0 ∷ 0 ∷ 0 ∷ 1 ∷ 0 ∷ 1 ∷ 2 ∷ 1 ∷ 1 ∷ 1 ∷ []
 
+abbrev marksB : List ℕ
+marksB = 1 ∷ 0 ∷ 1 ∷ 0 ∷ 1 ∷ 0 ∷ 1 ∷ 0 ∷ 1 ∷ []
+
 -- C, with the owner of vertex 0
 abbrev gameC : ℕ → List ℕ
 gameC owner =
@@ -94,13 +101,19 @@ gameC owner =
     ∷ 0 ∷ 0 ∷ 1 ∷ 2 ∷ 2 ∷ 3 ∷ 4
     ∷ 1 ∷ 2 ∷ 3 ∷ 3 ∷ 4 ∷ 3 ∷ 4 ∷ []
 
--- C without one of the edges of vertex 0: the one that is left leads to `target`; two words of the output stay zero
+abbrev marksC : List ℕ
+marksC = 1 ∷ 0 ∷ 0 ∷ 0 ∷ 0 ∷ 0 ∷ 1 ∷ 1 ∷ 0 ∷ 0 ∷ 0 ∷ 0 ∷ 1 ∷ 0 ∷ 0 ∷ 0 ∷ 0 ∷ 0 ∷ 1 ∷ 0 ∷ 0 ∷ 0 ∷ 0 ∷ 0 ∷ 1 ∷ []
+
+abbrev classesC : List ℕ
+classesC = 0 ∷ 1 ∷ 2 ∷ 3 ∷ 4 ∷ []
+
+-- C without one of the edges of vertex 0: the one that is left leads to `target`; two words of the output stay old
 abbrev reducedC : ℕ → ℕ → List ℕ
 reducedC owner target =
     5 ∷ 6 ∷ 2 ∷ 0 ∷ 0 ∷ 1 ∷ 4 ∷ owner ∷ 0 ∷ 0 ∷ 0 ∷ 0
     ∷ 0 ∷ 1 ∷ 2 ∷ 2 ∷ 3 ∷ 4
     ∷ target ∷ 3 ∷ 3 ∷ 4 ∷ 3 ∷ 4
-    ∷ 0 ∷ 0 ∷ []
+    ∷ 7 ∷ 7 ∷ []
 
 -- the plan of P12: 3 3 / 0 2 4 / 0 1 2 / 1 2 2
 abbrev planC : List ℕ
@@ -110,8 +123,8 @@ abbrev pub cases : List Case
 cases =
     -- P1: 1 1 1 1 0 0: marks 1, passes 1, one class
     judged (read p1) (accepted (1 ∷ 1 ∷ []))
-    ∷ wrote (writeOrder p1) (accepted (1 ∷ [])) ((1 ∷ []) ∷ [])
-    ∷ wrote (writeClasses p1) (accepted (1 ∷ [])) ((0 ∷ []) ∷ [])
+    ∷ wrote (writeOrder p1) (accepted (1 ∷ [])) ((1 ∷ []) ∷ (1 ∷ []) ∷ [])
+    ∷ wrote (writeClasses p1) (accepted (1 ∷ [])) ((1 ∷ []) ∷ (1 ∷ []) ∷ (0 ∷ []) ∷ [])
     -- P2: no words: 1 at 0
     ∷ judged (read []) (refused 1 0)
     -- P3: 0 0: 2 at 0
@@ -125,16 +138,15 @@ cases =
     -- P7: 1 2 0 0 0 0 0 0: 7 at 5
     ∷ judged (read (1 ∷ 2 ∷ 0 ∷ 0 ∷ 0 ∷ 0 ∷ 0 ∷ 0 ∷ [])) (refused 7 5)
     -- P8: B: mark rows 101, 010, 101; reduced 2 2 / 0 1 / 0 0, edges 0 to 1, 1 to 1
-    ∷ wrote (writeOrder gameB) (accepted (1 ∷ [])) ((1 ∷ 0 ∷ 1 ∷ 0 ∷ 1 ∷ 0 ∷ 1 ∷ 0 ∷ 1 ∷ []) ∷ [])
+    ∷ wrote (writeOrder gameB) (accepted (1 ∷ [])) (marksB ∷ marksB ∷ [])
     ∷ wrote (writeReduced gameB) (accepted (2 ∷ 2 ∷ 2 ∷ []))
-    ((0 ∷ 1 ∷ 0 ∷ []) ∷ (2 ∷ 2 ∷ 0 ∷ 1 ∷ 0 ∷ 0 ∷ 0 ∷ 1 ∷ 1 ∷ 1 ∷ 0 ∷ 0 ∷ 0 ∷ 0 ∷ []) ∷ [])
+    (marksB ∷ marksB ∷ (0 ∷ 1 ∷ 0 ∷ []) ∷ (2 ∷ 2 ∷ 0 ∷ 1 ∷ 0 ∷ 0 ∷ 0 ∷ 1 ∷ 1 ∷ 1 ∷ 7 ∷ 7 ∷ 7 ∷ 7 ∷ []) ∷ [])
     -- P9: C: 1 is below 2, not the reverse; passes 2; five classes, 7 quotient edges; the reduced game drops 0 to 1
-    ∷ wrote (writeOrder (gameC 0)) (accepted (2 ∷ []))
-    ((1 ∷ 0 ∷ 0 ∷ 0 ∷ 0 ∷ 0 ∷ 1 ∷ 1 ∷ 0 ∷ 0 ∷ 0 ∷ 0 ∷ 1 ∷ 0 ∷ 0 ∷ 0 ∷ 0 ∷ 0 ∷ 1 ∷ 0 ∷ 0 ∷ 0 ∷ 0 ∷ 0 ∷ 1 ∷ []) ∷ [])
-    ∷ wrote (writeQuotient (gameC 0)) (accepted (5 ∷ 5 ∷ 7 ∷ [])) ((0 ∷ 1 ∷ 2 ∷ 3 ∷ 4 ∷ []) ∷ gameC 0 ∷ [])
-    ∷ wrote (writeReduced (gameC 0)) (accepted (5 ∷ 5 ∷ 6 ∷ [])) ((0 ∷ 1 ∷ 2 ∷ 3 ∷ 4 ∷ []) ∷ reducedC 0 2 ∷ [])
+    ∷ wrote (writeOrder (gameC 0)) (accepted (2 ∷ [])) (marksC ∷ marksC ∷ [])
+    ∷ wrote (writeQuotient (gameC 0)) (accepted (5 ∷ 5 ∷ 7 ∷ [])) (marksC ∷ marksC ∷ classesC ∷ gameC 0 ∷ [])
+    ∷ wrote (writeReduced (gameC 0)) (accepted (5 ∷ 5 ∷ 6 ∷ [])) (marksC ∷ marksC ∷ classesC ∷ reducedC 0 2 ∷ [])
     -- P10: with vertex 0 Odd's it drops 0 to 2
-    ∷ wrote (writeReduced (gameC 1)) (accepted (5 ∷ 5 ∷ 6 ∷ [])) ((0 ∷ 1 ∷ 2 ∷ 3 ∷ 4 ∷ []) ∷ reducedC 1 1 ∷ [])
+    ∷ wrote (writeReduced (gameC 1)) (accepted (5 ∷ 5 ∷ 6 ∷ [])) (marksC ∷ marksC ∷ classesC ∷ reducedC 1 1 ∷ [])
     -- P11: C, only (2, 1) marked: 10 at 11
     ∷ judged (acceptRelation (gameC 0) (0 ∷ 0 ∷ 0 ∷ 0 ∷ 0 ∷ 0 ∷ 0 ∷ 0 ∷ 0 ∷ 0 ∷ 0 ∷ 1 ∷ 0 ∷ 0 ∷ 0 ∷ 0 ∷ 0 ∷ 0 ∷ 0 ∷ 0 ∷ 0 ∷ 0 ∷ 0 ∷ 0 ∷ 0 ∷ [])) (refused 10 11)
     -- P12: C, plan 3 3 / 0 2 4 / 0 1 2 / 1 2 2: passes for Even

@@ -1,17 +1,15 @@
 -- Demand 3 about what the promises name: tables that the reader accepts, marks that an accepted call leaves, relations that the acceptor
 -- passes, class words and written tables. Hypotheses are only: a call accepted, a byte is 1, a vertex is below n, a plan wins.
-use mathlib.Core.Path.{_≡_, refl, sym, ap, _∙_}
+use mathlib.Core.Path.{_≡_, sym, _∙_}
 use mathlib.Core.Logic.{_↔_}
-use mathlib.Core.Bool.{Bool, So}
+use mathlib.Core.Bool.{So}
 use mathlib.Core.List.{List, [], _∷_, _++_}
 use Prim.Native.Nat.{ℕ, _+_, _*_, _≤_, _<_}
 use native.Mathlib.Omega.{arith}
-use lib.Dec.{eqb}
 use lib.Arith.{digits-lt}
 use lib.ListN.{length, getD, take}
 use lib.Seq.{take-at}
 use borrow.Author.Tests.{eqb-true, eq-eqb}
-use Rattle.theory.specs.Range.{tabulate}
 use Rattle.theory.specs.ListLaws.{length-tabulate, getD-tabulate}
 use Rattle.theory.specs.Passes.{marked, relOf}
 use Rattle.theory.specs.Game.{Player, even, odd, Game, Total, edgeCount}
@@ -35,10 +33,10 @@ use Rattle.order.specs.BytesLaws.{mark-written}
 use Rattle.order.specs.RelationCall.{relationAnswer}
 use Rattle.order.specs.RelationRules.{Marked}
 use Rattle.order.specs.RelationRulesLaws.{passed-below}
-use Rattle.reduction.specs.ClassTable.{tableWords, Lists}
+use Rattle.reduction.specs.ClassTable.{tableWords}
 use Rattle.reduction.specs.ClassTableLaws.{length-tableWords, tableWords-well, tableWords-agree}
 use Rattle.reduction.specs.ListsLaws.{lists-length}
-use Rattle.reduction.specs.Calls.{classRows, tableRows, classTotal, classWords, TableCall}
+use Rattle.reduction.specs.Calls.{classRows, tableRows, classWords, TableCall}
 
 -- ---- the written order: what the marks hold after a call that, by its rules, leaves the order there
 
@@ -128,8 +126,12 @@ module _ (K : Game → Game) (faithful : Faithful K) (game marks spare classes o
   unfolding gameOf
   few = omega (arith, faithful .size G, well .vertices)
 
+  -- it has at most the game's m edges
+  pub table-edges : e ≤ tableEdges game
+  table-edges = omega (arith, counts .edges, lists-length (K G) (call .edges) (call .listed), faithful .edges G, edges-listed game)
+
   fits : length (call .edges) ≤ 4096
-  fits = omega (arith, lists-length (K G) (call .edges) (call .listed), faithful .edges G, edges-listed game, well .edges)
+  fits = omega (arith, counts .edges, table-edges, well .edges)
 
   table-well : WellFormed writtenTable
   table-well =

@@ -1,6 +1,7 @@
 -- Edges between classes. A class has a quotient edge above each successor of its representative's, and a reduced edge above each
 -- quotient edge; all is said for the owner a, with `worse a` as "no better for a than".
 use mathlib.Core.Path.{_≡_, refl, sym, ap, _∙_, subst}
+use mathlib.Core.Logic.{_≢_}
 use mathlib.Core.Bool.{Bool, true, false, not, So, false≢true}
 use Prim.Native.Nat.{ℕ, _<_}
 use native.Mathlib.Omega.{arith}
@@ -68,6 +69,11 @@ module _ (g : Game) where
 
   pub sameClass-down : (a : Player) (v w : ℕ) → So (sameClass (order g) v w) → So (worse a (order g) w v)
   sameClass-down a v w t = sameClass-up a w v (sameClass-sym (order g) v w t)
+
+  -- between different classes "no better" is "worse": document 004's table 4 asks for the latter, document 01 for the former
+  pub worse-strict : (a : Player) (d e : ℕ) → d < g .n → e < g .n → So (isLowest (g .n) (order g) d) → So (isLowest (g .n) (order g) e) → d ≢ e
+      → So (worse a (order g) d e) → ¬ So (worse a (order g) e d)
+  worse-strict a d e hd he ld le f s t = f (isLowest-one (g .n) (order g) order-preorder d e hd he ld le (sameClass-in a d e s t))
 
   -- ---- the computed quotient edge
 

@@ -147,6 +147,13 @@ module _ (g : Game) (E : Rel) (enough : Enough g E) where
     holds = sameClass-le (order g) (rep (classNumber (g .n) (order g) v)) v (representative-same (g .n) (order g) (order-preorder g) v h);
   }
 
+  -- every member has the priority of its class
+  pub class-priority : (v : ℕ) → v < g .n → g .priority v ≡ K .priority (classOf g v)
+  unfolding classOf classGame
+  class-priority v h =
+      let b = class-above v h in
+      b .simulation v (classOf g v) h (classNumber-lt (g .n) (order g) (order-preorder g) v h) (b .holds) .equal
+
 -- ---- the two games
 
 module _ (g : Game) where
@@ -184,3 +191,12 @@ module _ (g : Game) where
   pub classOf-reduced : (v : ℕ) → v < g .n → classOf g v < reduced g .n
   unfolding classOf reduced classGame
   classOf-reduced v h = classNumber-lt (g .n) (order g) (order-preorder g) v h
+
+  -- a class has its members' priority
+  pub quotient-priority : (v : ℕ) → v < g .n → g .priority v ≡ quotient g .priority (classOf g v)
+  unfolding quotient
+  quotient-priority = class-priority g (quotientEdge g (order g)) quotient-enough
+
+  pub reduced-priority : (v : ℕ) → v < g .n → g .priority v ≡ reduced g .priority (classOf g v)
+  unfolding reduced
+  reduced-priority = class-priority g (reducedEdge g (order g)) reduced-enough
