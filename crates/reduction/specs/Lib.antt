@@ -2,6 +2,8 @@ pub mod ClassTable
 pub mod ClassTableLaws
 pub mod ListsLaws
 pub mod Calls
+pub mod CallRules
+pub mod CallRulesLaws
 pub mod Placing
 pub mod PlacingLaws
 pub mod Numbering
