@@ -110,13 +110,14 @@ module _ (game marks spare classes : List ℕ) where
         → TableCall K game marks spare classes output (refused (f .number) (f .place)) marks spare classes output
     table-short well f e = table-old (f .number) (f .place) (stays _ _ (short [] well f e))
 
-    pub table-output-short : ClassesFit game marks spare classes → length output < needed
-        → TableCall K game marks spare classes output (refused 24 needed) marks spare classes output
-    table-output-short f h =
-        table-old 24 needed
+    pub table-output-short : ClassesFit game marks spare classes → (p : ℕ) → p ≡ needed → length output < p
+        → TableCall K game marks spare classes output (refused 24 p) marks spare classes output
+    table-output-short f p e h =
+        rw e
+        (table-old 24 needed
         (unfold tableRows in
         judge-past (classRows game marks spare classes) (memoryRow 24 needed output ∷ []) counts (classes-clean game marks spare classes f)
-        ∙ judge-hit _ _ _ (lt-ltb (length output) needed h))
+        ∙ judge-hit _ _ _ (lt-ltb (length output) needed (rw e at h))))
 
     pub table-written : TableFits game marks spare classes output → (marks′ spare′ classes′ output′ : List ℕ) (passes : ℕ) (c : TableCounts)
         → OrderDone game marks marks′ spare spare′ passes → TableDone K game classes classes′ output output′ c

@@ -1,10 +1,9 @@
 use mathlib.Core.Path.{_≡_, sym, ap, _∙_}
 use mathlib.Core.List.{[]}
-use Prim.Native.Nat.{_+_, _*_}
 use native.Mathlib.Omega.{arith}
 use lib.ListN.{length}
 use Rattle.table.specs.Verdict.{judge}
-use Rattle.table.specs.Table.{vertexCount, tableEdges, tableLength}
+use Rattle.table.specs.Table.{vertexCount}
 use Rattle.reduction.specs.Answers.{memoryRows, memoryAnswer}
 use Rattle.reduction.specs.NumberingLaws.{ordered-written}
 use Rattle.reduction.specs.CallRules.{ClassesFit, TableFits}
@@ -25,17 +24,8 @@ judged c = rw (← start c .pre .vertices) (c .judge-memory .ensures)
 fits : (c : tie.After-enum-told) → let a = start (c .before .before) .args in ClassesFit (a .game .now) (a .marks .now) (a .spare .now) (a .classes .now)
 fits c = memory-fits _ _ _ _ (start (c .before .before) .pre .well) (ap memoryAnswer (sym (c .enum-told .given .1)) ∙ judged (c .before .before))
 
--- the output's length needed
-needed : (s : tie.Start) → 2 + 2 * s .args .sizes .vertices + 2 * s .args .sizes .edges ≡ tableLength (vertexCount (s .args .game .now)) (tableEdges (s .args .game .now))
-needed s = omega (arith, s .pre .vertices, s .pre .edges)
-
 abbrev told-at : tie.After-fill-order → tie.After-enum-told
 told-at c = c .before .before .before .before .before .before
-
-all-fits : (c : tie.After-fill-order)
-    → let a = start (told-at c .before .before) .args in
-    TableFits (a .game .now) (a .marks .now) (a .spare .now) (a .classes .now) (a .output .now)
-all-fits c = record { classesFit = fits (told-at c); outputFit = omega (arith, needed (start (told-at c .before .before)), c .before .before .before .if1 .left) }
 
 judge-memory-requires : tie.Need-judge-memory-requires
 judge-memory-requires c κs = let p = c .before .before .before .before .before .pre in omega (arith, p .vertices, p .well .vertices)
@@ -67,7 +57,15 @@ returns-2 : tie.Need-returns-2
 returns-2 c =
     let t = c .before .before .before in
     let s = start (t .before .before) in
-    rw (needed s) (table-output-short _ _ _ _ _ _ (fits t) (rw (needed s) at (c .if1 .taken)))
+    table-output-short _ _ _ _ _ _ (fits t) _ (omega (arith, s .pre .vertices, s .pre .edges)) (c .if1 .taken)
+
+-- the output was long enough, too
+all-fits : (c : tie.After-fill-order)
+    → let a = start (told-at c .before .before) .args in
+    TableFits (a .game .now) (a .marks .now) (a .spare .now) (a .classes .now) (a .output .now)
+all-fits c =
+    let s = start (told-at c .before .before) in
+    record { classesFit = fits (told-at c); outputFit = omega (arith, s .pre .vertices, s .pre .edges, c .before .before .before .if1 .left) }
 
 fill-order-requires : tie.Need-fill-order-requires
 fill-order-requires c κs =
