@@ -8,9 +8,10 @@ pub mod Placing
 pub mod PlacingLaws
 pub mod Numbering
 pub mod NumberingLaws
+pub mod LittleBrothers
 pub mod Rows
 pub mod RowsLaws
-pub mod RivalsLaws
+pub mod LittleBrothersLaws
 pub mod PickedLaws
 pub mod Edges
 pub mod EdgesLaws
