@@ -14,8 +14,8 @@ use Rattle.table.specs.WellFormed.{WellFormed}
 use Rattle.table.specs.declared.Refusal.{Refusal}
 use Rattle.table.specs.declared.Reading.the-variants.{Refused}
 use Rattle.order.specs.Clearing.{OrderDone}
-use Rattle.reduction.specs.ClassTableLaws.{pairsOf-lists}
 use Rattle.order.specs.OrderCall.{memoryRow}
+use Rattle.reduction.specs.ClassTableLaws.{pairsOf-lists}
 use Rattle.reduction.specs.Calls.{classRows, tableRows, classTotal, classWords, ClassesCall, TableCall}
 use Rattle.reduction.specs.CallRules.{ClassesFit, TableFits}
 use Rattle.reduction.specs.CallRulesLaws.{classes-clean, table-clean}

@@ -2,7 +2,7 @@
 // The edges of one class. A class d gets an edge from class c exactly if every member of c reaches it: the members are passed one by one,
 // and the count of d goes from s to s + 1 at member number s only where that member, too, has a successor in d.
 ghost use mathlib.Core.Path.{_≡_};
-ghost use Prim.Native.Nat.{ℕ, _+_, _*_, _<_, _≤_};
+ghost use Prim.Native.Nat.{ℕ, _+_, _<_, _≤_};
 ghost use mathlib.Core.Bool.{cond};
 ghost use lib.Dec.{eqb};
 ghost use lib.ListN.{length, getD, set};

@@ -7,7 +7,6 @@ use lib.ListN.{length, getD}
 use Prim.Native.Nat.{ℕ, _≤_, _<_}
 use mathlib.Core.Path.{_≡_, ap, _∙_}
 use mathlib.Core.Logic.{⊎-elim}
-use Prim.Native.Nat.{_≤_, _<_}
 use native.Mathlib.Omega.{arith}
 use Rattle.table.specs.Table.{gameOf}
 use Rattle.reduction.specs.NumberingLaws.{classes-few}
