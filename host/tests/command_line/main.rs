@@ -5,5 +5,6 @@ mod common;
 
 mod commands;
 mod errors;
+mod outputs;
 mod refusals;
 mod run;
