@@ -114,6 +114,7 @@ fn pictures() {
                  0 [shape=diamond, label=\"0\\npriority 0\"]; 2 [shape=box, label=\"2\\npriority 0\"]; }";
     assert!(game.starts_with("digraph game {\n") && game.ends_with("}\n"), "{game}");
     assert!(game.contains(frame), "{game}");
+    assert!(game.contains("  1 [shape=diamond, label=\"1 (class 1)\\npriority 1\"];\n"), "{game}");
     assert!(game.contains("  0 -> 1;\n  1 -> 1;\n  2 -> 1;\n"), "{game}");
     let reduced = run(&["dot", "--reduced", "games/b.txt"]).text();
     assert!(
@@ -155,13 +156,15 @@ fn help_of_each_command_has_an_example_that_runs() {
     assert_eq!(listed.len(), 9, "{listed:?}");
     for command in listed {
         let help = run(&[command, "--help"]).text();
+        assert_eq!(run(&["help", command]).text(), help);
+        assert_eq!(run(&[command, "-h", "games/none"]).text(), help);
         assert!(help.starts_with(&format!("usage: raskjomi {command} ")), "{help}");
         let example =
             help.lines().find_map(|line| line.strip_prefix("example: ")).expect("an example");
         // Graphviz needn't be installed.
         let example = example.split(" | dot ").next().expect("a command");
         let program = format!("'{}'", env!("CARGO_BIN_EXE_raskjomi"));
-        let line = example.replace("raskjomi ", &format!("{program} "));
+        let line = example.replace("./raskjomi ", &format!("{program} "));
         let ran =
             Command::new("sh").args(["-c", &line]).current_dir(root()).output().expect("a shell");
         assert!(ran.status.success() && !ran.stdout.is_empty(), "{example}: {ran:?}");
