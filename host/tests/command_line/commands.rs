@@ -11,13 +11,18 @@ fn path(name: &str) -> String {
     format!("games/{name}")
 }
 
-/// The oracle's answers on a shipped game.
-fn expected(name: &str) -> Memory {
+/// The oracle's answers on a shipped game, with the table that the command writes.
+fn expected(command: &str, name: &str) -> Memory {
     let game = shipped(name);
     let n = game[0] as usize;
     let (marks, classes) = (vec![0; n * n], vec![0; n]);
     let mut memory = Memory { spare: marks.clone(), marks, classes, output: vec![0; game.len()] };
-    assert_eq!(Oracle::exact().reduce(&game, &mut memory).number, 0);
+    let answer = match command {
+        "quotient" => Oracle::exact().quotient(&game, &mut memory),
+        _ => Oracle::exact().reduce(&game, &mut memory),
+    };
+    assert_eq!(answer.number, 0);
+    memory.output.truncate(2 + 2 * answer.vertices as usize + 2 * answer.edges as usize);
     memory
 }
 
@@ -52,7 +57,7 @@ fn report_on_one_vertex() {
 #[test]
 fn order_in_each_form() {
     for name in GAMES {
-        let marks = expected(name).marks;
+        let marks = expected("order", name).marks;
         let text = run(&["order", &path(name)]).text();
         let read: Vec<u8> = numbers(&text).iter().map(|&mark| mark as u8).collect();
         assert_eq!(read, marks);
@@ -75,7 +80,7 @@ fn order_in_each_form() {
 #[test]
 fn classes_in_each_form() {
     for name in GAMES {
-        let classes = expected(name).classes;
+        let classes = expected("classes", name).classes;
         assert_eq!(numbers(&run(&["classes", &path(name)]).text()), classes);
         assert_eq!(words(&run(&["classes", &path(name), "--as", "words"]).bytes()), classes);
         let dot = run(&["classes", &path(name), "--as", "dot"]).text();
@@ -92,6 +97,7 @@ fn tables_in_each_form() {
             let text = run(&[command, &path(name)]).text();
             let binary = run(&[command, &path(name), "--as", "words"]).bytes();
             assert_eq!(words(&binary), numbers(&text));
+            assert_eq!(numbers(&text), expected(command, name).output);
             let (from_text, from_binary) = (text.as_bytes(), &binary[..]);
             let sizes = |input| run_on(&["report"], input).text().lines().last().map(String::from);
             assert_eq!(sizes(from_text), sizes(from_binary), "both forms are read back");
