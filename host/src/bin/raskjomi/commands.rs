@@ -149,8 +149,9 @@ pub fn check_relation(arguments: &Arguments) -> Written {
 
 /// A relation with more marks than pairs may belong to another game.
 fn tell_surplus(relation: &Input, pairs: usize) {
-    let (place, count) = (relation.at(pairs), relation.numbers.len());
+    let count = relation.numbers.len();
     if count > pairs {
+        let place = relation.at(pairs, "");
         tell(&format!("{place}: only the first {pairs} of {count} marks are judged"));
     }
 }

@@ -49,21 +49,22 @@ impl Input {
         Ok(Input { name, numbers, unit, places: Places::Binary(byte) })
     }
 
-    /// Where a number stands, or where the input ends, in words.
-    pub fn at(&self, index: usize) -> String {
+    /// Where a number stands, or where the input ends, in words and with a detail.
+    pub fn at(&self, index: usize, detail: &str) -> String {
         let count = self.numbers.len();
         let place = match count {
             0 => "no number in it".to_string(),
             _ if index < count => self.place(index),
             _ => format!("after {}, the last of {count}", self.place(count - 1)),
         };
+        let detail = if detail.is_empty() { String::new() } else { format!(" ({detail})") };
         let form = match self.places {
             Places::Text(_) => String::new(),
             Places::Binary(byte) => {
                 format!(", read as binary since byte {byte} is a control character")
             }
         };
-        format!("{}: {place}{form}", self.name)
+        format!("{}: {place}{detail}{form}", self.name)
     }
 
     fn place(&self, index: usize) -> String {
@@ -82,10 +83,10 @@ fn bytes(path: &str) -> io::Result<Vec<u8>> {
         if path == "-" { Box::new(io::stdin()) } else { Box::new(File::open(path)?) };
     let mut bytes = Vec::new();
     source.take(MOST_BYTES as u64 + 1).read_to_end(&mut bytes)?;
-    match bytes.len() > MOST_BYTES {
-        true => Err(io::Error::other("more than 16 MiB")),
-        false => Ok(bytes),
+    if bytes.len() > MOST_BYTES {
+        return Err(io::Error::other("more than 16 MiB"));
     }
+    Ok(bytes)
 }
 
 /// The first control character that isn't a blank. Any table, relation or plan that the library
