@@ -22,7 +22,7 @@ fn edges(table: &Table) -> Vec<String> {
     table.edges().map(|(source, target)| format!("{source} -> {target};")).collect()
 }
 
-/// The game; a frame holds the members of a class that has several, and a single one names its class.
+/// The game; a frame holds the members of a class that has several, a single one names its class.
 pub fn game(table: &Table, classes: &[u16]) -> String {
     let mut lines = Vec::new();
     for (class, members) in members(classes).iter().enumerate() {
