@@ -26,11 +26,12 @@ pub struct Command {
 const AS: &[Opt] = &[Opt { name: "--as", value: Some("text, words or dot") }];
 
 /// How games are given, for every command that takes one.
-const GAMES: &str = "A game comes from a file, or from standard input where no file or - is named: \
-                     16-bit words, low byte first, or decimal text with numbers between blanks or \
-                     slashes and comments after #. The bytes tell which of the two it is. The words \
-                     are: number of vertices, number of edges, priorities, owners (0 Even, 1 Odd), \
-                     sources of the edges, targets of the edges.";
+const GAMES: &str = "A game comes from a file, or from standard input, whose name is -; where the \
+                     usage has [GAME], naming none means standard input, too. It is decimal text, \
+                     with numbers between blanks or slashes and comments after #, or binary, 16-bit \
+                     words, low byte first: an input with a control character other than a blank is \
+                     binary. The words are: number of vertices, number of edges, priorities, owners \
+                     (0 Even, 1 Odd), sources of the edges, targets of the edges.";
 
 /// The commands, in the sequence of the help.
 pub const COMMANDS: [Command; 9] = [
@@ -62,7 +63,9 @@ pub const COMMANDS: [Command; 9] = [
         name: "classes",
         usage: "classes [GAME] [--as text|words|dot]",
         summary: "the class of each vertex",
-        details: "Words: a word for each vertex. Dot: the game with its classes.",
+        details:
+            "Text: the members of each class as comments, then the class of each vertex. Words: a word for each vertex, its \
+                  class. Dot: the game with its classes.",
         example: "./raskjomi classes games/lift-doors.txt",
         files: 0..=1,
         options: AS,
@@ -72,7 +75,9 @@ pub const COMMANDS: [Command; 9] = [
         name: "quotient",
         usage: "quotient [GAME] [--as text|words|dot]",
         summary: "the quotient game, a vertex for each class",
-        details: "Text and words are game tables, which every command reads.",
+        details:
+            "Text and words are game tables, which every command reads. Dot: a picture of it, \
+                  with the members of each class.",
         example: "./raskjomi quotient games/d.txt",
         files: 0..=1,
         options: AS,
@@ -82,7 +87,9 @@ pub const COMMANDS: [Command; 9] = [
         name: "reduce",
         usage: "reduce [GAME] [--as text|words|dot]",
         summary: "the reduced game: the quotient without edges that its players have no use for",
-        details: "Text and words are game tables, which every command reads.",
+        details:
+            "Text and words are game tables, which every command reads. Dot: a picture of it, \
+                  with the members of each class.",
         example: "./raskjomi reduce games/lift-doors.txt",
         files: 0..=1,
         options: AS,
@@ -117,7 +124,7 @@ pub const COMMANDS: [Command; 9] = [
         name: "explain",
         usage: "explain NUMBER",
         summary: "what a refusal number means, what its place counts, and what to do",
-        details: "",
+        details: "A refused input gets one of the numbers 1 to 16 and 21 to 24.",
         example: "./raskjomi explain 8",
         files: 1..=1,
         options: &[],
@@ -143,7 +150,8 @@ pub fn overview() -> String {
         text += &format!("  {:15} {}\n", command.name, command.summary);
     }
     text += "\n`raskjomi COMMAND --help` tells more, with an example.\n";
-    text + "Exit status: 0 accepted, 1 refused, 2 bad usage.\n\n" + &wrapped(GAMES)
+    text + "Exit status: 0 accepted, 1 refused, 2 bad usage, an unreadable file or a bad word.\n\n"
+        + &wrapped(GAMES)
 }
 
 /// The help of one command.
