@@ -12,7 +12,6 @@ pub mod Ready
 pub mod PairLaws
 pub mod Clearing
 pub mod ClearingLaws
-pub mod Handed
 pub mod OrderCall
 pub mod OrderCallLaws
 pub mod RelationCall

@@ -8,13 +8,13 @@ use table::Acceptance;
 use table::Reading;
 use table::Refusal;
 use table::acceptor::refused;
+use table::refusal_of;
 ghost use mathlib.Core.Path.{_≡_};
 ghost use Prim.Native.Nat.{_≤_};
 ghost use lib.ListN.{length};
 ghost use Rattle.table.specs.Acceptance.{acceptanceAnswer};
 ghost use Rattle.table.specs.WellFormed.{WellFormed};
 ghost use Rattle.order.specs.Clearing.{pairCount, OrderDone};
-ghost use Rattle.order.specs.Handed.{refusalOf};
 ghost use Rattle.order.specs.OrderCall.{orderingAnswer, OrderWritten};
 ghost use Rattle.order.specs.RelationCall.{relationAnswer};
 
@@ -25,19 +25,6 @@ pub struct Passes {
 pub enum Ordering {
     Accepted(Passes),
     Refused(Refusal),
-}
-
-// The refusal of the reader's verdict, to hand on. A part of the calls; no host calls it.
-pub fn refusal_of(reading: Reading) -> Refusal
-    ensures { λ r. ⌜ r ≡ refusalOf reading ⌝ }
-{
-    match reading {
-        Reading::Refused(refusal) => refusal,
-        Reading::Accepted(_) => Refusal {
-            number: 0,
-            place: 0,
-        },
-    }
 }
 
 // Writes the order of a well-formed table into buffers that are long enough, over an index in local arrays of 8,706 bytes. A part of the

@@ -7,6 +7,7 @@ mod returns;
 use table::Acceptance;
 use table::Reading;
 use table::acceptor::refused;
+use table::refusal_of;
 ghost use mathlib.Core.Path.{_≡_};
 ghost use mathlib.Core.List.{[]};
 ghost use lib.ListN.{drop};
@@ -23,10 +24,10 @@ pub fn accept_plan(game: &[u16], player: u32, plan: &[u16]) -> Acceptance
     ensures { λ r. ⌜ acceptanceAnswer r ≡ planAnswer (now (game .entry)) player (now (plan .entry)) ⌝ }
 {
     let reading = table::read(game);
-    let Reading::Refused(refusal) = reading else {
-        return judge_plan(game, player, plan);
+    let Reading::Accepted(_) = reading else {
+        return Acceptance::Refused(refusal_of(reading));
     };
-    Acceptance::Refused(refusal)
+    judge_plan(game, player, plan)
 }
 
 // 11 to 16, for a game that the reader accepts.

@@ -8,6 +8,7 @@ mod words;
 use table::Reading;
 use table::Refusal;
 use table::Sizes;
+use table::refusal_of;
 ghost use mathlib.Core.Path.{_≡_};
 ghost use mathlib.Core.List.{[]};
 ghost use Prim.Native.Nat.{_≤_};
@@ -80,7 +81,7 @@ pub fn write_classes(
 {
     let reading = table::read(game);
     let Reading::Accepted(sizes) = reading else {
-        return Classification::Refused(order::refusal_of(reading));
+        return Classification::Refused(refusal_of(reading));
     };
     let memory = judge_memory(sizes.vertices, marks.len(), spare.len(), classes.len());
     if let Memory::Short(refusal) = memory {
@@ -133,7 +134,7 @@ pub fn write_quotient(
 {
     let reading = table::read(game);
     let Reading::Accepted(sizes) = reading else {
-        return Tabulation::Refused(order::refusal_of(reading));
+        return Tabulation::Refused(refusal_of(reading));
     };
     tabulate_classes(game, sizes, marks, spare, classes, output, false)
 }
@@ -150,7 +151,7 @@ pub fn write_reduced(
 {
     let reading = table::read(game);
     let Reading::Accepted(sizes) = reading else {
-        return Tabulation::Refused(order::refusal_of(reading));
+        return Tabulation::Refused(refusal_of(reading));
     };
     tabulate_classes(game, sizes, marks, spare, classes, output, true)
 }

@@ -8,6 +8,7 @@ use Rattle.theory.specs.Bools.{_or_}
 use Rattle.theory.specs.Range.{anyBelow, first}
 use Rattle.table.specs.Table.{vertexCount, tableEdges, sourceAt, targetAt, tableLength, isEdge}
 use Rattle.table.specs.Verdict.{Row, Answer, accepted, refused, judge}
+use Rattle.table.specs.declared.Refusal.{Refusal}
 use Rattle.table.specs.declared.Reading.{Reading}
 use Rattle.table.specs.declared.Reading.the-variants.{Accepted, Refused}
 
@@ -59,3 +60,8 @@ readAnswer g = judge (gameRows g) (vertexCount g ∷ tableEdges g ∷ [])
 abbrev pub readingAnswer : Reading → Answer
 readingAnswer (Accepted c) = accepted (c .vertices ∷ c .edges ∷ [])
 readingAnswer (Refused f) = refused (f .number) (f .place)
+
+-- the refusal in the verdict, for a call to hand on; number 0 where there is none
+abbrev pub refusalOf : Reading → Refusal
+refusalOf (Accepted c) = record { number = 0; place = 0 }
+refusalOf (Refused f) = f

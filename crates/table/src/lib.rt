@@ -3,7 +3,7 @@ pub mod acceptor;
 mod reader;
 
 ghost use mathlib.Core.Path.{_≡_};
-ghost use Rattle.table.specs.Reading.{readAnswer, readingAnswer};
+ghost use Rattle.table.specs.Reading.{readAnswer, readingAnswer, refusalOf};
 ghost use Rattle.table.specs.Kind.{kindOf};
 
 // Document 01's number, and its place: a word, a byte, a vertex, a link, a position or a length.
@@ -73,6 +73,19 @@ fn refused(number: u32, place: usize) -> Reading
     ensures { λ r. ⌜ r ≡ Reading.Refused (record { number = number; place = place }) ⌝ }
 {
     Reading::Refused(Refusal { number, place })
+}
+
+// The refusal of the reader's verdict, for a call to hand on; number 0 where there is none. A part of the calls; no host calls it.
+pub fn refusal_of(reading: Reading) -> Refusal
+    ensures { λ r. ⌜ r ≡ refusalOf reading ⌝ }
+{
+    match reading {
+        Reading::Refused(refusal) => refusal,
+        Reading::Accepted(_) => Refusal {
+            number: 0,
+            place: 0,
+        },
+    }
 }
 
 // The kind of a refusal: 1 the game, 2 the relation, 3 the plan, 4 the memory, 5 later additions, 0 for any other number.

@@ -64,8 +64,8 @@ pub const COMMANDS: [Command; 9] = [
         usage: "classes [GAME] [--as text|words|dot]",
         summary: "the class of each vertex",
         details:
-            "Text: the members of each class as comments, then the class of each vertex. Words: a word for each vertex, its \
-                  class. Dot: the game with its classes.",
+            "Text: the members of each class as comments, then the class of each vertex. Words: \
+                  a word for each vertex, its class. Dot: the game with its classes.",
         example: "./raskjomi classes games/lift-doors.txt",
         files: 0..=1,
         options: AS,

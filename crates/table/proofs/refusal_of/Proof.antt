@@ -1,7 +1,7 @@
 -- Each case of the verdict is one of the definition.
 use borrow.Author.Needs.{needs}
-use Rattle.order.proofs.refusal_of.Statement.{statement}
-use Rattle.order.proofs.refusal_of.Tie as tie
+use Rattle.table.proofs.refusal_of.Statement.{statement}
+use Rattle.table.proofs.refusal_of.Tie as tie
 
 enum-known-reading : tie.Need-enum-known-reading
 enum-known-reading c = search needs
