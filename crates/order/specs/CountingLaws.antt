@@ -4,9 +4,9 @@ use mathlib.Core.Bool.{Bool, false}
 use Prim.Native.Nat.{ℕ, zero, suc, _+_, _<_}
 use native.Mathlib.Omega.{arith}
 use native.Mathlib.Numerals.{add-one}
-use lib.ListN.{getD, replicate}
 use Rattle.theory.specs.Bools.{bit}
 use Rattle.theory.specs.Range.{count}
+pub use Rattle.theory.specs.ListLaws.{zeros}
 
 pub count-step : (i : ℕ) (p : ℕ → Bool) → count (i + 1) p ≡ count i p + bit (p i)
 unfolding count
@@ -16,9 +16,3 @@ pub count-none : (n : ℕ) (p : ℕ → Bool) → ((i : ℕ) → i < n → p i �
 unfolding count bit
 count-none zero p f = refl
 count-none (suc n) p f = rw (f n (omega arith)) (omega (arith, count-none n p (λ i h. f i (omega arith))))
-
--- a zeroed array
-pub zeros : (n k : ℕ) → getD {A = ℕ} (replicate n 0) k 0 ≡ 0
-zeros zero k = refl
-zeros (suc n) zero = refl
-zeros (suc n) (suc k) = zeros n k

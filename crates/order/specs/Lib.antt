@@ -1,12 +1,9 @@
 pub mod Index
-pub mod Places
-pub mod PlacesLaws
 pub mod CountingLaws
 pub mod Runs
 pub mod Bytes
 pub mod BytesLaws
 pub mod Search
-pub mod SearchLaws
 pub mod IndexLaws
 pub mod Ready
 pub mod PairLaws

@@ -5,13 +5,14 @@ use crate::index::run_of;
 ghost use mathlib.Core.Path.{_≡_};
 ghost use Prim.Native.Nat.{ℕ, _+_, _*_, _<_, _≤_};
 ghost use lib.ListN.{length, getD};
+ghost use Rattle.theory.specs.Range.{anyFrom};
 ghost use Rattle.theory.specs.Game.{even};
 ghost use Rattle.theory.specs.Order.{equalPriority, test};
 ghost use Rattle.table.specs.Table.{vertexCount, gameOf};
 ghost use Rattle.table.specs.WellFormed.{WellFormed};
 ghost use Rattle.order.specs.Bytes.{relation};
 ghost use Rattle.order.specs.Ready.{PairReady};
-ghost use Rattle.order.specs.Search.{someFrom, hasMark, searchEnds, Reaches};
+ghost use Rattle.order.specs.Search.{hasMark, searchEnds, Reaches};
 
 // A pair of vertices.
 pub struct Pair {
@@ -23,7 +24,7 @@ pub struct Pair {
 fn finds(marks: &[u8], targets: &[u16], ys: Run, base: usize, stride: usize, wanted: bool) -> bool
     requires { ⌜ ys .end ≤ length (now targets) ⌝ }
     requires { ⌜ ((k : ℕ) → ys .from ≤ k → k < ys .end → base + getD (now targets) k 0 * stride < length (now marks)) ⌝ }
-    ensures { λ r. ⌜ r ≡ someFrom (hasMark (now (marks .entry)) (now (targets .entry)) base stride wanted) (ys .from) (ys .end) ⌝ }
+    ensures { λ r. ⌜ r ≡ anyFrom (ys .from) (ys .end) (hasMark (now (marks .entry)) (now (targets .entry)) base stride wanted) ⌝ }
 {
     let end = ys.end;
     let mut k = ys.from;
@@ -54,7 +55,7 @@ fn some_ends(
 ) -> bool
     requires { ⌜ (xs .end ≤ length (now targets)) × (ys .end ≤ length (now targets)) × (across ≤ 256) ⌝ }
     requires { ⌜ Reaches (now marks) (now targets) (xs .from) (xs .end) (ys .from) (ys .end) across down ⌝ }
-    ensures { λ r. ⌜ r ≡ someFrom (searchEnds (now (marks .entry)) (now (targets .entry)) (ys .from) (ys .end) across down wanted found) (xs .from) (xs .end) ⌝ }
+    ensures { λ r. ⌜ r ≡ anyFrom (xs .from) (xs .end) (searchEnds (now (marks .entry)) (now (targets .entry)) (ys .from) (ys .end) across down wanted found) ⌝ }
 {
     let end = xs.end;
     let mut i = xs.from;

@@ -3,22 +3,26 @@ use mathlib.Core.Path.{_≡_, refl, sym, _∙_}
 use mathlib.Core.Bool.{true, false, not, So}
 use mathlib.Core.List.{List}
 use Prim.Native.Nat.{ℕ, _+_, _≤_, _<_}
+use native.Mathlib.Nat.{le-refl}
 use native.Mathlib.Decide.{ℕ-discrete}
 use native.Mathlib.Omega.{arith}
 use lib.Dec.{eqb}
 use lib.ListN.{getD}
 use borrow.Author.Tests.{eqb-true, eq-eqb, ne-eqb}
 use Rattle.theory.specs.BoolsLaws.{clash, So-ext, So-not, and-in, and-out, not-in, not-out, imp-out, imp-fails}
-use Rattle.theory.specs.RangeLaws.{all-out, all-fails, any-in, any-out}
+use Rattle.theory.specs.Range.{anyFrom}
+use Rattle.theory.specs.RangeLaws.{all-out, all-fails, any-in, any-out, from-in, from-end}
 use Rattle.theory.specs.Game.{own}
 use Rattle.table.specs.Table.{vertexCount, tableEdges, ownerAt, sourceAt, targetAt, playerOf, gameOf}
 use Rattle.table.specs.WellFormed.{WellFormed}
 use Rattle.table.specs.TableLaws.{player-zero, player-one, own-even, own-one, edge-in, edge-out}
+use Rattle.table.specs.Grouping.{among, EdgeIndex}
+use Rattle.table.specs.GroupingLaws.{among-any}
 use Rattle.plan.specs.PlanTable.{positionCount, vertexAt}
 use Rattle.plan.specs.Acceptance.{answers, lacksLink}
 use Rattle.plan.specs.PlanFormed.{PlanFormed}
-use Rattle.plan.specs.Index.{anyFrom, among, LinkIndex, EdgeIndex}
-use Rattle.plan.specs.IndexLaws.{from-in, from-none, among-any, among-link}
+use Rattle.plan.specs.Index.{LinkIndex}
+use Rattle.plan.specs.IndexLaws.{among-link}
 use Rattle.plan.specs.Marks.{standsAt, unanswered}
 
 -- the player moves at v exactly if v's owner word is the player's number
@@ -33,7 +37,7 @@ own-number g well player v h l = elim (ℕ-discrete player 0) [
 -- a range is empty exactly if it ends where it starts
 empty-range : (a e : ℕ) → a ≤ e → not (anyFrom a e (λ t. true)) ≡ eqb a e
 empty-range a e h = elim (ℕ-discrete a e) [
-  | yes d ↦ rw (← d, So-not (from-none a (λ t. true)), eq-eqb a a refl)
+  | yes d ↦ rw (← d, from-end a a (λ t. true) (le-refl a), eq-eqb a a refl)
   | no d ↦ rw (from-in a e (λ t. true) a (omega arith) (omega arith) refl, ne-eqb a e d)
 ]
 

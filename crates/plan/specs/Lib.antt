@@ -4,10 +4,8 @@ pub mod PlanTableLaws
 pub mod PlanFormed
 pub mod PlanFormedLaws
 pub mod AcceptanceRules
-pub mod StoreLaws
 pub mod Index
 pub mod IndexLaws
-pub mod SortLaws
 pub mod Edges
 pub mod EdgesLaws
 pub mod Marks

@@ -5,8 +5,9 @@ use mathlib.Core.List.{List}
 use Prim.Native.Nat.{ℕ}
 use lib.Dec.{eqb}
 use lib.ListN.{getD}
+use Rattle.theory.specs.Range.{anyFrom}
+use Rattle.table.specs.Grouping.{among}
 use Rattle.plan.specs.PlanTable.{vertexAt}
-use Rattle.plan.specs.Index.{anyFrom, among}
 
 -- position j stands at vertex x
 unfoldable pub standsAt : List ℕ → ℕ → ℕ → Bool

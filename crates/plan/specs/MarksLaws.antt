@@ -3,19 +3,20 @@ use mathlib.Core.Path.{_≡_, refl, sym, ap, _∙_, fun-ext}
 use mathlib.Core.Bool.{Bool, true, false, not, cond, So}
 use mathlib.Core.List.{List}
 use Prim.Native.Nat.{ℕ, _+_, _≤_, _<_}
+use native.Mathlib.Nat.{le-refl}
 use native.Mathlib.Omega.{arith}
 use lib.Dec.{eqb}
 use lib.ListN.{length, getD, set}
 use borrow.Author.Tests.{eq-eqb, ne-eqb}
-use Rattle.theory.specs.BoolsLaws.{So-not}
+use Rattle.theory.specs.Range.{anyFrom}
+use Rattle.theory.specs.RangeLaws.{from-in, from-end, from-same}
+use Rattle.theory.specs.ListLaws.{after-set}
+use Rattle.table.specs.Grouping.{among}
 use Rattle.plan.specs.PlanTable.{vertexAt}
-use Rattle.plan.specs.StoreLaws.{after-set}
-use Rattle.plan.specs.Index.{anyFrom, among}
-use Rattle.plan.specs.IndexLaws.{from-in, from-none, from-same}
 use Rattle.plan.specs.Marks.{standsAt, MarkedTo, Marked, unmarked, unmarkedTarget, unanswered}
 
 pub marked-none : (w targets : List ℕ) (a stamp : ℕ) (old : List ℕ) → MarkedTo w targets a a stamp old old
-marked-none w targets a stamp old = record { at = λ x. rw (So-not (from-none a (λ k. standsAt w x (getD targets k 0)))) }
+marked-none w targets a stamp old = record { at = λ x. rw (from-end a a (λ k. standsAt w x (getD targets k 0)) (le-refl a)) }
 
 pub marked-more : (w targets : List ℕ) (a t stamp : ℕ) (old new : List ℕ) → a ≤ t → (v : ℕ) → v ≡ vertexAt w (getD targets t 0) → v < length new
     → MarkedTo w targets a t stamp old new → MarkedTo w targets a (t + 1) stamp old (set new v stamp)
@@ -36,7 +37,7 @@ marked-all w starts targets i t stamp old new e f = record { at = λ x. rw e at 
 
 module _ (starts targets marks : List ℕ) (v stamp : ℕ) where
   pub unmarked-none : anyFrom (getD starts v 0) (getD starts v 0) (unmarkedTarget marks stamp targets) ≡ false
-  unmarked-none = So-not (from-none (getD starts v 0) (unmarkedTarget marks stamp targets))
+  unmarked-none = from-end _ _ (unmarkedTarget marks stamp targets) (le-refl (getD starts v 0))
 
   pub unmarked-not : (a t : ℕ) → getD marks (getD targets t 0) 0 ≡ stamp → anyFrom a t (unmarkedTarget marks stamp targets) ≡ false
       → anyFrom a (t + 1) (unmarkedTarget marks stamp targets) ≡ false

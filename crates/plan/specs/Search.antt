@@ -7,11 +7,11 @@ use Prim.Native.Nat.{ℕ, _+_, _≤_, _<_}
 use lib.Dec.{eqb, leb}
 use lib.ListN.{length, getD, set}
 use Rattle.theory.specs.Bools.{_&_, bit}
-use Rattle.theory.specs.Range.{count}
+use Rattle.theory.specs.Range.{anyFrom, count}
 use Rattle.theory.specs.Game.{parity}
 use Rattle.table.specs.Table.{playerOf}
+use Rattle.table.specs.Grouping.{among}
 use Rattle.plan.specs.Acceptance.{returns}
-use Rattle.plan.specs.Index.{anyFrom, among}
 use Rattle.plan.specs.Reach.{Reach}
 
 -- an index of links between p positions

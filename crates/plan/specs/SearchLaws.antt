@@ -4,9 +4,8 @@ use mathlib.Core.Logic.{_⊎_, inl, inr}
 use mathlib.Core.Bool.{Bool, true, false, not, So}
 use mathlib.Core.List.{List, [], _∷_}
 use Prim.Native.Nat.{ℕ, zero, suc, _+_, _%_, _≤_, _<_}
-use native.Mathlib.Nat.{not-suc-le-zero, lt-irrefl}
+use native.Mathlib.Nat.{le-refl, not-suc-le-zero, lt-irrefl}
 use native.Mathlib.Decide.{decLt, ℕ-discrete}
-use native.Mathlib.Numerals.{add-one}
 use native.Mathlib.Omega.{arith}
 use lib.Dec.{eqb, leb}
 use lib.ListN.{length, getD, set}
@@ -14,16 +13,17 @@ use lib.Seq.{getD-set-same, getD-set-other}
 use borrow.Author.Tests.{eqb-true, eq-eqb, ne-eqb, le-leb, lt-leb}
 use Rattle.theory.specs.Bools.{_&_, _or_, bit}
 use Rattle.theory.specs.BoolsLaws.{decide, clash, So-ext, and-in, and-out, and-fails, not-in, not-out}
-use Rattle.theory.specs.Range.{count}
+use Rattle.theory.specs.Range.{anyFrom, count}
+use Rattle.theory.specs.RangeLaws.{from-in, from-end, from-more, from-less}
 use Rattle.theory.specs.CountLaws.{count-le}
+use Rattle.theory.specs.ListLaws.{after-set}
 use Rattle.theory.specs.Game.{parity}
 use Rattle.theory.specs.Plan.{Walk}
 use Rattle.table.specs.Table.{playerOf}
 use Rattle.table.specs.SearchLaws.{any-ext}
+use Rattle.table.specs.Grouping.{Grouping, among}
+use Rattle.table.specs.GroupingLaws.{group-order, group-within, entry-at, target-at}
 use Rattle.plan.specs.Acceptance.{reaches, returns}
-use Rattle.plan.specs.StoreLaws.{after-set}
-use Rattle.plan.specs.Index.{Index, startOf, anyFrom, among}
-use Rattle.plan.specs.IndexLaws.{start-mono, start-le, group-entry, from-in, from-none, from-more, from-less}
 use Rattle.plan.specs.Reach.{Each, Reach}
 use Rattle.plan.specs.ReachLaws.{reaches-in, reaches-out, reach-more}
 use Rattle.plan.specs.Search.{Graph, linkBy, rankAt, notBelow, stamped, fresh, Visited, Queued, Grown, followed, follows, Searched, wrongBy}
@@ -154,7 +154,7 @@ module _ (p stamp : ℕ) (targets rank : List ℕ) (q a : ℕ) (seen₀ queue₀
     keeps = λ s l. refl;
     grows = λ j t. t;
     sound = λ j t. inl t;
-    complete = λ j t. absurd (from-none a _ (and-out t .0));
+    complete = λ j t. clash (and-out t .0) (from-end a a _ (le-refl a));
   }
 
   module _ (t : ℕ) (seen queue : List ℕ) (tail : ℕ) (h : a ≤ t) (st : Grown p stamp (followed targets rank q a t) seen₀ queue₀ tail₀ seen queue tail) where
@@ -317,15 +317,13 @@ module _ (starts targets rank : List ℕ) (p player i : ℕ) (h : player ≤ 1) 
 
 -- ---- the search by an index of links is that by the links
 
-module _ {s t : ℕ → ℕ} {m n : ℕ} {starts targets : List ℕ} (ix : Index s t m n starts targets) where
+module _ {s t : ℕ → ℕ} {m n : ℕ} {starts targets : List ℕ} (ix : Grouping s t m n starts targets) where
   pub index-graph : ((j : ℕ) → j < m → t j < n) → Graph n starts targets
   index-graph below = record {
     size = ix .size;
-    order = λ i h. omega (arith, ix .start i (omega arith), ix .start (i + 1) (omega arith), start-mono s m i (i + 1) (omega arith));
-    bound = λ i h. omega (arith, ix .start i h, start-le s m i, ix .room);
-    inside = λ i k h a b.
-        let e = group-entry s m i k (omega (arith, ix .start i (omega arith))) (omega (arith, ix .start (i + 1) (omega arith), ap (startOf s m) (add-one i))) in
-        rw (sym (e .place)) (rw (ix .placed (e .number) (e .inside)) (below (e .number) (e .inside)));
+    order = group-order ix;
+    bound = group-within ix;
+    inside = λ i k h a b. let e = entry-at ix i k h a b in rw (target-at ix e) (below (e .number) (e .inside));
   }
 
 module _ (p : ℕ) (link link′ : ℕ → ℕ → Bool) (same : (i j : ℕ) → i < p → link i j ≡ link′ i j) where

@@ -1,14 +1,15 @@
 // A part of this crate's calls; no host calls it.
 // Refusal 15: positions that lack a needed link. `edge_starts` and `edge_targets` index the game's edges, `starts` and `targets` the links.
-use crate::index::index;
 use crate::links::vertex_of;
+use table::index::index;
 ghost use mathlib.Core.Path.{_≡_};
 ghost use Prim.Native.Nat.{ℕ, _+_, _≤_, _<_};
 ghost use lib.ListN.{length, getD};
+ghost use Rattle.table.specs.Grouping.{among, EdgeIndex};
 ghost use Rattle.plan.specs.PlanTable.{positionCount, vertexAt};
 ghost use Rattle.plan.specs.PlanFormed.{PlanFormed, WordsPass};
 ghost use Rattle.plan.specs.Acceptance.{lacksLink, firstLackingLink};
-ghost use Rattle.plan.specs.Index.{among, LinkIndex, EdgeIndex};
+ghost use Rattle.plan.specs.Index.{LinkIndex};
 ghost use Rattle.plan.specs.Search.{Graph};
 ghost use Rattle.plan.specs.Marks.{Marked, unmarked, unanswered};
 

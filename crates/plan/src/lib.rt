@@ -1,6 +1,5 @@
 // The plan acceptor. A plan is document 01's term for a finite-memory strategy, given as a graph of positions and links.
 mod answers;
-mod index;
 mod links;
 mod returns;
 
@@ -85,7 +84,7 @@ fn judge_positions(game: &[u16], player: u32, plan: &[u16]) -> Acceptance
     let l = plan[1] as usize;
     let mut starts = [0u16; 4097];
     let mut targets = [0u16; 16384];
-    index::index(plan, 2 + p, 2 + p + l, l, p, &mut starts, &mut targets);
+    table::index::index(plan, 2 + p, 2 + p + l, l, p, &mut starts, &mut targets);
     judge_indexed(game, player, plan, &starts, &targets)
 }
 

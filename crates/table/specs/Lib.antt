@@ -14,3 +14,6 @@ pub mod Parts
 pub mod PartsLaws
 pub mod SearchLaws
 pub mod Acceptance
+pub mod Grouping
+pub mod GroupingLaws
+pub mod SortLaws

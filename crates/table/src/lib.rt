@@ -1,5 +1,6 @@
-// The game table: its reader, the refusal that all verdicts share, and the kinds of refusals.
+// The game table: its reader, the refusal that all verdicts share, the kinds of refusals, and the index over parallel arrays.
 pub mod acceptor;
+pub mod index;
 mod reader;
 
 ghost use mathlib.Core.Path.{_≡_};

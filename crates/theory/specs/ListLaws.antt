@@ -1,11 +1,12 @@
 -- Laws of lists by index.
-use mathlib.Core.Path.{_≡_, refl, sym, ap, _∙_}
+use mathlib.Core.Path.{_≡_, refl, sym, ap, _∙_, subst}
 use mathlib.Core.List.{List, [], _∷_, _++_}
 use Prim.Native.Nat.{ℕ, zero, suc, _<_}
 use native.Mathlib.Nat.{not-suc-le-zero, le-of-suc-le-suc}
+use native.Mathlib.Decide.{ℕ-discrete}
 use native.Mathlib.Omega.{arith}
-use lib.ListN.{length, getD}
-use lib.Seq.{ext-getD}
+use lib.ListN.{length, getD, set, replicate}
+use lib.Seq.{ext-getD, getD-set-same, getD-set-other}
 use Rattle.theory.specs.Range.{tabulate}
 
 module _ {A : Type 0} where
@@ -30,3 +31,16 @@ module _ {A : Type 0} where
   unfolding tabulate
   tabulate-snoc zero f = refl
   tabulate-snoc (suc n) f = ap {B = List A} (λ l. f zero ∷ l) (tabulate-snoc n (λ i. f (suc i)))
+
+-- a zeroed list
+pub zeros : (n i : ℕ) → getD {A = ℕ} (replicate n 0) i 0 ≡ 0
+zeros zero i = refl
+zeros (suc n) zero = refl
+zeros (suc n) (suc i) = zeros n i
+
+-- what stands in a list after a store
+pub after-set {ℓ} : (P : ℕ → ℕ → Type ℓ) (l : List ℕ) (i x : ℕ) → i < length l → P i x → ((k : ℕ) → (k ≡ i → ⊥) → P k (getD l k 0)) → (k : ℕ) → P k (getD (set l i x) k 0)
+after-set P l i x h here other k = elim (ℕ-discrete k i) [
+  | yes e ↦ subst (λ (j : ℕ). P j (getD (set l i x) j 0)) (sym e) (rw (getD-set-same l i x 0 h) here)
+  | no d ↦ rw (getD-set-other l i k x 0 d) (other k d)
+]

@@ -2,7 +2,7 @@
 use mathlib.Core.Bool.{Bool, true, false, cond}
 use mathlib.Core.List.{List, [], _∷_, _++_}
 use Prim.Native.Nat.{ℕ, zero, suc, _+_, _-_, _*_, _/_, _%_}
-use lib.Dec.{ltb}
+use lib.Dec.{ltb, leb}
 use Rattle.theory.specs.Bools.{_&_, _or_, bit}
 
 -- each number below n passes
@@ -14,6 +14,10 @@ allBelow (suc n) p = allBelow n p & p n
 unfoldable pub anyBelow : ℕ → (ℕ → Bool) → Bool
 anyBelow zero p = false
 anyBelow (suc n) p = anyBelow n p or p n
+
+-- some number from a on, below e, passes
+unfoldable pub anyFrom : ℕ → ℕ → (ℕ → Bool) → Bool
+anyFrom a e p = anyBelow e (λ i. leb a i & p i)
 
 -- the first of k, k + 1, .. that passes, with f numbers to look at. The `let` stops the search at the first.
 unfoldable pub firstOf : (ℕ → Bool) → ℕ → ℕ → ℕ

@@ -7,9 +7,10 @@ use native.Mathlib.Nat.{le-of-suc-le-suc, not-suc-le-zero}
 use native.Mathlib.Decide.{decLt}
 use native.Mathlib.Numerals.{add-one}
 use native.Mathlib.Omega.{arith}
+use borrow.Author.Tests.{leb-true, le-leb}
 use Rattle.theory.specs.Bools.{_&_, _or_}
-use Rattle.theory.specs.BoolsLaws.{decide, clash, and-in, and-out, or-left, or-right, or-out}
-use Rattle.theory.specs.Range.{allBelow, anyBelow, firstOf, first}
+use Rattle.theory.specs.BoolsLaws.{decide, clash, So-ext, So-not, and-in, and-out, or-left, or-right, or-out}
+use Rattle.theory.specs.Range.{allBelow, anyBelow, anyFrom, firstOf, first}
 
 -- ---- below a bound
 
@@ -69,6 +70,55 @@ any-out {n = suc n} {p} a =
 
 pub any-fails : (n : ℕ) (p : ℕ → Bool) → anyBelow n p ≡ false → (i : ℕ) → i < n → p i ≡ false
 any-fails n p e i h = elim (decide (p i)) [ inl t ↦ clash (any-in n p i h t) e | inr f ↦ f ]
+
+-- ---- some, from a number on
+
+pub from-in : (a e : ℕ) (p : ℕ → Bool) (i : ℕ) → a ≤ i → i < e → So (p i) → So (anyFrom a e p)
+unfolding anyFrom
+from-in a e p i h k t = any-in e _ i k (and-in (le-leb a i h) t)
+
+pub record Hit (a e : ℕ) (p : ℕ → Bool) : Type 0 where
+  pub at : ℕ
+  pub low : a ≤ at
+  pub high : at < e
+  pub passes : So (p at)
+
+pub from-out : {a e : ℕ} {p : ℕ → Bool} → So (anyFrom a e p) → Hit a e p
+unfolding anyFrom
+from-out {a} {e} {p} t =
+    let r = any-out t in
+    let c = and-out (r .2) in
+    record { at = r .0; low = leb-true a (r .0) (c .0); high = r .1; passes = c .1 }
+
+module _ (a e : ℕ) (p : ℕ → Bool) where
+  pub from-end : e ≤ a → anyFrom a e p ≡ false
+  from-end h = So-not (λ t. let r = from-out t in omega (arith, r .low, r .high))
+
+  -- a first number that doesn't pass
+  pub from-step : p a ≡ false → anyFrom a e p ≡ anyFrom (a + 1) e p
+  from-step f =
+      So-ext
+      (λ t. let r = from-out t in elim (decLt a (r .at)) [
+        | yes l ↦ from-in (a + 1) e p (r .at) (omega arith) (r .high) (r .passes)
+        | no m ↦ (let d : r .at ≡ a = omega (arith, r .low) in clash (r .passes) (rw d f))
+      ])
+      (λ t. let r = from-out t in from-in a e p (r .at) (omega (arith, r .low)) (r .high) (r .passes))
+
+  -- a last number more
+  pub from-more : So (anyFrom a (e + 1) p) → So (anyFrom a e p) ⊎ So (p e)
+  from-more t =
+      let r = from-out t in
+      elim (decLt (r .at) e) [
+        | yes l ↦ inl (from-in a e p (r .at) (r .low) l (r .passes))
+        | no m ↦ (let d : r .at ≡ e = omega (arith, r .high) in inr (subst (λ (i : ℕ). So (p i)) d (r .passes)))
+      ]
+
+  pub from-less : So (anyFrom a e p) → So (anyFrom a (e + 1) p)
+  from-less t = let r = from-out t in from-in a (e + 1) p (r .at) (r .low) (omega (arith, r .high)) (r .passes)
+
+  -- and one that doesn't pass
+  pub from-same : p e ≡ false → anyFrom a (e + 1) p ≡ anyFrom a e p
+  from-same f = So-ext (λ t. elim (from-more t) [ inl s ↦ s | inr s ↦ clash s f ]) from-less
 
 -- ---- the first: one step of a search, its end, and what it finds
 

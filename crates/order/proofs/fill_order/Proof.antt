@@ -1,7 +1,7 @@
 -- Arrays of 257 and 4,096 words hold the index of any well-formed table.
 use borrow.Author.Needs.{needs}
 use native.Mathlib.Omega.{arith}
-use Rattle.order.specs.CountingLaws.{zeros}
+use Rattle.theory.specs.ListLaws.{zeros}
 use Rattle.order.proofs.fill_order.Statement.{statement}
 use Rattle.order.proofs.fill_order.Tie as tie
 

@@ -1,8 +1,8 @@
 -- The links of a well-formed plan are indexed, over zeros.
 use borrow.Author.Needs.{needs}
 use native.Mathlib.Omega.{arith}
-use Rattle.plan.specs.StoreLaws.{zeros}
-use Rattle.plan.specs.SortLaws.{link-sources}
+use Rattle.theory.specs.ListLaws.{zeros}
+use Rattle.plan.specs.IndexLaws.{link-sources}
 use Rattle.plan.proofs.judge_positions.Statement.{statement}
 use Rattle.plan.proofs.judge_positions.Tie as tie
 

@@ -1,24 +1,36 @@
--- Each loop leaves what the next one asks.
+-- A well-formed table's edges, grouped, are an index of its game.
 use borrow.Author.Needs.{needs}
 use native.Mathlib.Omega.{arith}
-use Rattle.order.specs.PlacesLaws.{counted-start, summed-start, placing-start}
+use Rattle.table.specs.GroupingLaws.{edge-sources}
+use Rattle.order.specs.IndexLaws.{edge-index}
 use Rattle.order.proofs.index.build.Statement.{statement}
 use Rattle.order.proofs.index.build.Tie as tie
 
-count-edges-requires : tie.Need-count-edges-requires
-count-edges-requires c κs = let p = c .before .before .before .before .pre in (p .0, (p .1 .0 .0, counted-start _ _ (p .1 .1)))
+shared-slice-read-n : tie.Need-shared-slice-read-n
+shared-slice-read-n c = search needs
 
-sum-counts-requires : tie.Need-sum-counts-requires
-sum-counts-requires c κs =
-    let p = c .before .before .before .before .before .before .before .before .pre in
-    let k = c .before .before .before .count-edges in
-    (p .0, (omega arith, summed-start _ _ (k .ensures)))
+cast-n : tie.Need-cast-n
+cast-n c = search needs
 
-place-targets-requires : tie.Need-place-targets-requires
-place-targets-requires c κs =
-    let p = c .before .before .before .before .before .before .before .before .before .before .before .before .before .pre in
-    let k = c .before .before .before .before .sum-counts in
-    (p .0, (omega arith, placing-start _ _ (k .ensures)))
+shared-slice-read-m : tie.Need-shared-slice-read-m
+shared-slice-read-m c = search needs
+
+cast-m : tie.Need-cast-m
+cast-m c = search needs
+
+mul-sources : tie.Need-mul-sources
+mul-sources c = search needs
+
+add-sources : tie.Need-add-sources
+add-sources c = search needs
+
+add-index : tie.Need-add-index
+add-index c = search needs
+
+index-requires : tie.Need-index-requires
+index-requires c κs =
+    let p = c .before .before .before .before .before .before .before .pre in
+    (edge-sources (p .0), (omega (arith, p .0 .size), p .1))
 
 same-length : tie.Need-same-length
 same-length c = search needs
@@ -27,15 +39,22 @@ same-length-2 : tie.Need-same-length-2
 same-length-2 c = search needs
 
 returns : tie.Need-returns
-returns c = search needs
+returns c =
+    let p = c .before .before .before .before .before .before .before .before .before .before .before .before .pre in
+    edge-index _ _ _ (p .0) (c .before .before .before .before .index .ensures)
 
 pub build-spec : {M : Type 1} → statement M
 build-spec =
     tie.close
     (tie.spec
-    count-edges-requires
-    sum-counts-requires
-    place-targets-requires
+    shared-slice-read-n
+    cast-n
+    shared-slice-read-m
+    cast-m
+    mul-sources
+    add-sources
+    add-index
+    index-requires
     same-length
     same-length-2
     returns)

@@ -1,9 +1,11 @@
 -- Invariant: the search from k on answers as the whole search.
 use borrow.Author.Needs.{needs}
 use Rattle.order.specs.Bytes.{isMark}
-use Rattle.order.specs.Search.{someFrom, hasMark}
-use Rattle.order.specs.SearchLaws.{some-step, some-hit, some-end}
+use Rattle.theory.specs.Range.{anyFrom}
+use Rattle.theory.specs.RangeLaws.{from-in, from-end, from-step}
+use Rattle.order.specs.Search.{hasMark}
 use native.Mathlib.Omega.{arith}
+use native.Mathlib.Nat.{le-refl}
 use mathlib.Core.Path.{_≡_, sym, _∙_}
 use Prim.Native.Nat.{_+_, _-_, _*_, _≤_, _<_}
 use lib.ListN.{length, getD}
@@ -11,7 +13,7 @@ use Rattle.order.proofs.pairs.finds.Statement.{statement}
 use Rattle.order.proofs.pairs.finds.Tie as tie
 
 abbrev Inv-loop : tie.InvT-loop
-Inv-loop marks targets base stride wanted end k₀ k = let p = hasMark marks targets base stride wanted in (k₀ ≤ k) × (someFrom p k₀ end ≡ someFrom p k end)
+Inv-loop marks targets base stride wanted end k₀ k = let p = hasMark marks targets base stride wanted in (k₀ ≤ k) × (anyFrom k₀ end p ≡ anyFrom k end p)
 
 abbrev μ-loop : tie.MeasureT-loop
 μ-loop marks targets base stride wanted end k₀ k = end - k
@@ -52,16 +54,16 @@ loop-again : tie.Need-loop-again Inv-loop μ-loop
 unfolding hasMark isMark
 loop-again c =
     let a = c .before .before .before .before .loop in
-    (search needs, a .inv .1 ∙ some-step _ _ _ (c .before .before .before .if1 .left) (c .if2 .left))
+    (search needs, a .inv .1 ∙ from-step _ _ _ (c .if2 .left))
 
 returns : tie.Need-returns Inv-loop μ-loop
-returns c = sym (c .before .loop .inv .1 ∙ some-end _ _ _ (c .if1 .taken))
+returns c = sym (c .before .loop .inv .1 ∙ from-end _ _ _ (c .if1 .taken))
 
 returns-2 : tie.Need-returns-2 Inv-loop μ-loop
 unfolding hasMark isMark
 returns-2 c =
     let a = c .before .before .before .before .loop in
-    sym (a .inv .1 ∙ some-hit _ _ _ (c .before .before .before .if1 .left) (c .if2 .taken))
+    sym (a .inv .1 ∙ from-in _ _ _ _ (le-refl _) (c .before .before .before .if1 .left) (c .if2 .taken))
 
 pub finds-spec : {M : Type 1} → statement M
 finds-spec =

@@ -1,19 +1,20 @@
 -- Invariant: the search from i on answers as the whole search.
 use borrow.Author.Needs.{needs}
 use native.Mathlib.Omega.{arith}
-use native.Mathlib.Nat.{mul-le-mul}
+use native.Mathlib.Nat.{le-refl, mul-le-mul}
 use mathlib.Core.Path.{_≡_, sym, _∙_}
 use Prim.Native.Nat.{_-_, _≤_}
 use lib.ListN.{getD}
-use Rattle.order.specs.Search.{someFrom, searchEnds}
-use Rattle.order.specs.SearchLaws.{some-step, some-hit, some-end}
+use Rattle.theory.specs.Range.{anyFrom}
+use Rattle.theory.specs.RangeLaws.{from-in, from-end, from-step}
+use Rattle.order.specs.Search.{searchEnds}
 use Rattle.order.proofs.pairs.some_ends.Statement.{statement}
 use Rattle.order.proofs.pairs.some_ends.Tie as tie
 
 abbrev Inv-loop : tie.InvT-loop
 Inv-loop marks targets ys across down wanted found end i₀ i =
     let p = searchEnds marks targets (ys .from) (ys .end) across down wanted found in
-    (i₀ ≤ i) × (someFrom p i₀ end ≡ someFrom p i end)
+    (i₀ ≤ i) × (anyFrom i₀ end p ≡ anyFrom i end p)
 
 abbrev μ-loop : tie.MeasureT-loop
 μ-loop marks targets ys across down wanted found end i₀ i = end - i
@@ -52,16 +53,16 @@ loop-again : tie.Need-loop-again Inv-loop μ-loop
 unfolding searchEnds
 loop-again c =
     let a = c .before .before .before .before .loop in
-    (search needs, a .inv .1 ∙ some-step _ _ _ (c .before .before .before .if1 .left) (rw (c .before .finds .ensures) at (c .if2 .left)))
+    (search needs, a .inv .1 ∙ from-step _ _ _ (rw (c .before .finds .ensures) at (c .if2 .left)))
 
 returns : tie.Need-returns Inv-loop μ-loop
-returns c = sym (c .before .loop .inv .1 ∙ some-end _ _ _ (c .if1 .taken))
+returns c = sym (c .before .loop .inv .1 ∙ from-end _ _ _ (c .if1 .taken))
 
 returns-2 : tie.Need-returns-2 Inv-loop μ-loop
 unfolding searchEnds
 returns-2 c =
     let a = c .before .before .before .before .loop in
-    sym (a .inv .1 ∙ some-hit _ _ _ (c .before .before .before .if1 .left) (rw (c .before .finds .ensures) at (c .if2 .taken)))
+    sym (a .inv .1 ∙ from-in _ _ _ _ (le-refl _) (c .before .before .before .if1 .left) (rw (c .before .finds .ensures) at (c .if2 .taken)))
 
 pub some-ends-spec : {M : Type 1} → statement M
 some-ends-spec =

@@ -1,8 +1,8 @@
 -- The edges of a well-formed game are indexed, over zeros.
 use borrow.Author.Needs.{needs}
 use native.Mathlib.Omega.{arith}
-use Rattle.plan.specs.StoreLaws.{zeros}
-use Rattle.plan.specs.SortLaws.{edge-sources}
+use Rattle.theory.specs.ListLaws.{zeros}
+use Rattle.table.specs.GroupingLaws.{edge-sources}
 use Rattle.plan.proofs.answers.first_lacking.Statement.{statement}
 use Rattle.plan.proofs.answers.first_lacking.Tie as tie
 

@@ -4,7 +4,7 @@ use native.Mathlib.Omega.{arith}
 use Prim.Native.Nat.{_≤_, _-_, _+_}
 use mathlib.Core.Path.{_≡_, sym}
 use mathlib.Core.Bool.{false}
-use Rattle.plan.specs.Index.{anyFrom}
+use Rattle.theory.specs.Range.{anyFrom}
 use Rattle.plan.specs.Marks.{unmarkedTarget}
 use Rattle.plan.specs.MarksLaws.{unmarked-none, unmarked-not, unmarked-here, unmarked-all}
 use Rattle.plan.specs.SearchLaws.{Target, graph-target}

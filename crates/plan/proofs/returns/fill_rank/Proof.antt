@@ -5,7 +5,7 @@ use Prim.Native.Nat.{ℕ, _≤_, _<_, _-_, _+_}
 use mathlib.Core.Path.{_≡_}
 use lib.ListN.{length, getD, length-set}
 use Rattle.plan.specs.Acceptance.{positionPriority}
-use Rattle.plan.specs.StoreLaws.{after-set}
+use Rattle.theory.specs.ListLaws.{after-set}
 use Rattle.plan.proofs.returns.fill_rank.Statement.{statement}
 use Rattle.plan.proofs.returns.fill_rank.Tie as tie
 

@@ -4,7 +4,7 @@ use native.Mathlib.Omega.{arith}
 use Prim.Native.Nat.{ℕ}
 use mathlib.Core.Path.{_∙_}
 use lib.ListN.{length-replicate}
-use Rattle.plan.specs.StoreLaws.{zeros}
+use Rattle.theory.specs.ListLaws.{zeros}
 use Rattle.plan.specs.SearchLaws.{index-graph}
 use Rattle.plan.specs.ReturnLaws.{first-return-same}
 use Rattle.plan.proofs.returns.first_return.Statement.{statement}
