@@ -19,7 +19,8 @@ use Rattle.order.specs.Bytes.{bytes}
 use Rattle.reduction.specs.ClassTable.{ownerWord, tableWords}
 use Rattle.reduction.specs.ClassTableLaws.{pairsOf-lists}
 use Rattle.reduction.specs.Calls.{classRows, tableRows, classTotal, classWords, TableCall}
-use Rattle.claims.specs.Demands.{LeavesOrder, even-up, odd-down, reduced-faithful, table-winner}
+use Rattle.claims.specs.Written.{LeavesOrder}
+use Rattle.claims.specs.Demands.{even-up, odd-down, reduced-faithful, table-winner}
 
 -- D: C with vertex 5, priority 2, Even's, edge to 2
 abbrev pub gameD : List ℕ

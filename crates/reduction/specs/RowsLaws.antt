@@ -21,7 +21,7 @@ use Rattle.theory.specs.Order.{anyNext, order}
 use Rattle.theory.specs.OrderLaws.{anyNext-in, anyNext-out}
 use Rattle.theory.specs.Reduction.{sameClass, isLowest, classCount, classNumber, representative, classOf, quotientEdge, dropped, reducedEdge, worse, classGame, quotient, reduced}
 use Rattle.theory.specs.ClassLaws.{classNumber-same, representative-lt, representative-at, representative-one, representative-of, classNumber-lt, classCount-le}
-use Rattle.theory.specs.QuotientLaws.{order-preorder, quotientEdge-in, quotientEdge-out, Better, dropped-in, dropped-out}
+use Rattle.theory.specs.QuotientLaws.{order-preorder, quotientEdge-in, quotientEdge-out, dropped-in, dropped-out}
 use Rattle.order.specs.Index.{InRun, Index}
 use Rattle.reduction.specs.Numbering.{Classed, classesIn}
 use Rattle.reduction.specs.Rows.{reaches, membersReach, runReaches, RunInside, memberReaches, raise, Raised, Counted, beaten, picked, gameBy}

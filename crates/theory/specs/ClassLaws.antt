@@ -14,8 +14,8 @@ use Rattle.theory.specs.Range.{count, nth}
 use Rattle.theory.specs.RangeLaws.{first-passes, first-least}
 use Rattle.theory.specs.CountLaws.{Nth, nth-at, nth-count, count-lt, count-le, count-grows}
 use Rattle.theory.specs.Passes.{Rel}
+use Rattle.theory.specs.Order.{Preorder}
 use Rattle.theory.specs.Reduction.{sameClass, lowest, isLowest, classCount, classNumber, representative}
-use Rattle.theory.specs.MaximalLaws.{Preorder}
 
 pub sameClass-sym : (le : Rel) (v w : ℕ) → So (sameClass le v w) → So (sameClass le w v)
 unfolding sameClass

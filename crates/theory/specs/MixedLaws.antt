@@ -6,8 +6,8 @@ use Prim.Native.Nat.{ℕ, _<_}
 use Rattle.theory.specs.BoolsLaws.{and-in}
 use Rattle.theory.specs.Game.{even, odd, same, Game, Next, Succ, Total}
 use Rattle.theory.specs.Simulation.{Moves, Passes}
-use Rattle.theory.specs.Order.{order}
-use Rattle.theory.specs.OrderLaws.{Holds, order-trans, order-simulation}
+use Rattle.theory.specs.Order.{order, Holds}
+use Rattle.theory.specs.OrderLaws.{order-trans, order-simulation}
 use Rattle.theory.specs.Reduction.{sameClass, classNumber, representative, quotientEdge, classGame, quotient, classOf}
 use Rattle.theory.specs.ClassLaws.{sameClass-le, sameClass-ge, sameClass-sym, sameClass-refl, sameClass-trans, classNumber-lt, representative-lt, representative-same, representatives-apart}
 use Rattle.theory.specs.QuotientLaws.{order-preorder, quotientEdge-out}
