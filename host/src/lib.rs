@@ -126,7 +126,7 @@ pub fn classes(
 
 /// Writes order and classes as [`classes`] does, and the table of the quotient game into the output:
 /// a vertex for each class, and an edge from C to D if every member of C has a successor in D.
-/// Gives the table's size. The sequence of its edges is left open.
+/// Gives the table's size, whose vertices are the classes. The sequence of its edges is left open.
 ///
 /// ```
 /// let game = [3, 3, 0, 1, 0, 0, 0, 1, 0, 1, 2, 1, 1, 1];

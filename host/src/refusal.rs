@@ -119,14 +119,14 @@ const fn row(meaning: &'static str, place: &'static str, remedy: &'static str) -
 /// assert!(raskjomi::explain(17).is_none());
 /// ```
 pub fn explain(number: u32) -> Option<Explanation> {
-    let rows = match number {
+    let row = match number {
         1..=8 => &GAME[number as usize - 1],
         9..=10 => &RELATION[number as usize - 9],
         11..=16 => &PLAN[number as usize - 11],
         21..=24 => &MEMORY[number as usize - 21],
         _ => return None,
     };
-    Some(*rows)
+    Some(*row)
 }
 
 const GAME: [Explanation; 8] = [

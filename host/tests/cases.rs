@@ -4,17 +4,18 @@
 mod common;
 
 use common::root;
-use oracle::{Answer, Memory, Oracle};
+use oracle::{Answer, Memory, Oracle, Trap};
 use std::fmt::Display;
 use std::fs;
 
 const P1: [u16; 6] = [1, 1, 1, 1, 0, 0];
 const LACKING: [u16; 4] = [1, 0, 0, 0];
 const B: [u16; 14] = [3, 3, 0, 1, 0, 0, 0, 1, 0, 1, 2, 1, 1, 1];
-const C: [u16; 26] =
-    [5, 7, 2, 0, 0, 1, 4, 0, 0, 0, 0, 0, 0, 0, 1, 2, 2, 3, 4, 1, 2, 3, 3, 4, 3, 4];
+const C: [u16; 26] = [5, 7, 2, 0, 0, 1, 4, 0, 0, 0, 0, 0, 0, 0, 1, 2, 2, 3, 4, 1, 2, 3, 3, 4, 3, 4];
 const D: [u16; 30] =
     [6, 8, 2, 0, 0, 1, 4, 2, 0, 0, 0, 0, 0, 0, 0, 0, 1, 2, 2, 3, 4, 5, 1, 2, 3, 3, 4, 3, 4, 2];
+/// 0 is Even's and 1 is Odd's, and both go to 2 and to 3, whose priorities differ.
+const MIXED_OWNERS: [u16; 22] = [4, 6, 0, 0, 1, 2, 0, 1, 0, 0, 0, 0, 1, 1, 2, 3, 2, 3, 2, 3, 2, 3];
 
 /// The text of the program, line by line.
 struct Text {
@@ -150,6 +151,7 @@ fn orders(text: &mut Text) {
     text.orders("B_order", &B, 10, 11);
     text.orders("C_order", &C, 25, 25);
     text.orders("D_order", &D, 36, 37);
+    text.orders("mixed_owners", &MIXED_OWNERS, 16, 16);
     text.orders("order_refused_game", &LACKING, 1, 1);
     text.orders("marks_one_byte_short", &B, 8, 8);
     text.orders("spare_one_byte_short", &B, 9, 8);
@@ -181,7 +183,9 @@ fn plans(text: &mut Text) {
     text.plans("plan_one_word_short", &C, 0, &plan[..10]);
     text.plans("plan_one_word_long", &C, 0, &[1, 0, 4, 4]);
     text.plans("p_0", &C, 0, &[0, 0]);
-    for (name, p, l) in [("p_4096_l_16384", 4096, 16384), ("p_4097", 4097, 16384), ("l_16385", 4096, 16385)] {
+    for (name, p, l) in
+        [("p_4096_l_16384", 4096, 16384), ("p_4097", 4097, 16384), ("l_16385", 4096, 16385)]
+    {
         let mut words = vec![0; 36866];
         (words[0], words[1]) = (p, l);
         text.plans(name, &[1, 1, 0, 0, 0, 0], 0, &words);
@@ -217,6 +221,17 @@ fn cases_are_the_oracles() {
     for part in [reading, limits, orders, relations, plans, bad_plans, tables] {
         part(&mut text);
     }
-    let expected = fs::read_to_string(root().join("crates/cases/stdout")).expect("the program's output is stored");
+    let expected = fs::read_to_string(root().join("crates/cases/stdout"))
+        .expect("the program's output is stored");
     assert_eq!(text.lines.join("\n") + "\n", expected);
+}
+
+#[test]
+fn mixed_owners_tell_some_from_every() {
+    let lines = |oracle| {
+        let mut text = Text { oracle, lines: Vec::new() };
+        text.orders("mixed_owners", &MIXED_OWNERS, 16, 16);
+        text.lines
+    };
+    assert_ne!(lines(Oracle::exact()), lines(Oracle::with(Trap::MixedRowsExchanged)));
 }

@@ -13,6 +13,7 @@ fn main() {
     reading::limits();
     reading::kinds();
     orders::games();
+    orders::mixed_owners();
     orders::short_buffers();
     orders::good_relations();
     orders::bad_relations();

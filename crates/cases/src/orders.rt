@@ -30,6 +30,36 @@ pub fn games() {
     orders(b"D_order", &tables::game_d(), &mut [7; 36], &mut [7; 37]);
 }
 
+// 0 is Even's and 1 is Odd's; both go to 2 and to 3, and only (2, 2) and (3, 3) are marked there. Not every pair of successors is marked,
+// so 0 isn't below 1; some is, so 1 is below 0. With "some" and "every" exchanged in either row, that pair's mark is another.
+pub fn mixed_owners() {
+    let game = [
+        4u16,
+        6,
+        0,
+        0,
+        1,
+        2,
+        0,
+        1,
+        0,
+        0,
+        0,
+        0,
+        1,
+        1,
+        2,
+        3,
+        2,
+        3,
+        2,
+        3,
+        2,
+        3,
+    ];
+    orders(b"mixed_owners", &game, &mut [7; 16], &mut [7; 16]);
+}
+
 pub fn short_buffers() {
     orders(
         b"order_refused_game",

@@ -1,21 +1,16 @@
 -- The reader accepts the table of a game that fits, and the table stands for that game.
-use mathlib.Core.Path.{_≡_, refl, sym, ap, ap₂, _∙_, subst}
-use mathlib.Core.Bool.{Bool, true, false, So}
-use mathlib.Core.List.{List, [], _∷_, _++_, map}
-use Prim.Native.Nat.{ℕ, zero, suc, _+_, _*_, _/_, _%_, _≤_, _<_}
-use native.Mathlib.Nat.{le-refl}
+use mathlib.Core.Path.{_≡_, refl, sym, ap, ap₂, _∙_}
+use mathlib.Core.List.{List, _∷_, _++_, map}
+use Prim.Native.Nat.{ℕ, suc, _+_, _*_, _≤_, _<_}
 use native.Mathlib.Omega.{arith}
-use lib.Dec.{eqb}
 use lib.ListN.{length, getD, length-append, length-map, List·getD-append, List·getD-map}
 use lib.Seq.{getD-append-add}
 use borrow.Author.Tests.{eqb-true, eq-eqb}
-use Rattle.theory.specs.Bools.{_&_}
 use Rattle.theory.specs.BoolsLaws.{So-ext, and-in, and-out}
-use Rattle.theory.specs.Range.{anyBelow, tabulate, pairsOf}
+use Rattle.theory.specs.Range.{tabulate, pairsOf}
 use Rattle.theory.specs.RangeLaws.{any-in, any-out}
 use Rattle.theory.specs.ListLaws.{length-tabulate, getD-tabulate}
-use Rattle.theory.specs.Game.{Player, even, odd, Game, Next, Succ, Total, edgeCount}
-use Rattle.theory.specs.Plan.{linked}
+use Rattle.theory.specs.Game.{Player, even, odd, Game, Succ, Total, edgeCount}
 use Rattle.theory.specs.LinkLaws.{linked-at, linked-find, pairsOf-in, pairsOf-out, pairsOf-single, length-pairsBelow}
 use Rattle.theory.specs.Agreement.{Agree}
 use Rattle.table.specs.Table.{vertexCount, tableEdges, priorityAt, ownerAt, sourceAt, targetAt, tableLength, playerOf, isEdge, gameOf}

@@ -1,6 +1,6 @@
 -- Edges listed in two parallel arrays, and the words of a table as the code puts them together. No public promise cites these.
 use mathlib.Core.Path.{_≡_}
-use mathlib.Core.List.{List, [], _∷_, _++_, map}
+use mathlib.Core.List.{List, _∷_, _++_, map}
 use Prim.Native.Nat.{ℕ, _+_}
 use lib.ListN.{length, getD}
 use Rattle.theory.specs.Range.{tabulate}

@@ -1,29 +1,26 @@
 -- Laws of listed edges: class by class they become the ascending list, which has no more edges than the game; and the words that the
 -- code puts together are the table of the game of classes.
-use mathlib.Core.Path.{_≡_, refl, sym, ap, ap₂, _∙_}
-use mathlib.Core.Bool.{Bool, true, false, cond}
+use mathlib.Core.Path.{_≡_, refl, sym, ap, _∙_}
+use mathlib.Core.Bool.{Bool, true, false}
 use mathlib.Core.List.{List, [], _∷_, _++_, map, map-append, append-assoc}
 use Prim.Native.Nat.{ℕ, zero, suc, _+_, _*_, _/_, _%_, _≤_, _<_}
-use native.Mathlib.Nat.{zero-add, zero-mul, le-trans, mul-le-mul-right}
-use native.Mathlib.Numerals.{add-one}
+use native.Mathlib.Nat.{zero-mul, mul-le-mul-right}
 use native.Mathlib.Omega.{arith}
-use lib.Dec.{eqb}
 use lib.ListN.{length, getD, set, length-append, length-map}
-use lib.Seq.{drop-cons}
 use Rattle.theory.specs.Range.{count, tabulate, pairsBelow, pairsOf}
 use Rattle.theory.specs.CountLaws.{count-grows}
 use Rattle.theory.specs.ListLaws.{length-tabulate, getD-tabulate, tabulate-by}
 use Rattle.theory.specs.LinkLaws.{length-pairsBelow}
-use Rattle.theory.specs.Game.{Player, even, odd, Game, edgeCount}
+use Rattle.theory.specs.Game.{Game, edgeCount}
 use Rattle.theory.specs.Order.{order}
-use Rattle.theory.specs.Reduction.{classCount, representative, classGame, quotient, reduced}
+use Rattle.theory.specs.Reduction.{representative, classGame, quotient, reduced}
 use Rattle.theory.specs.ClassLaws.{representative-lt}
 use Rattle.theory.specs.QuotientLaws.{order-preorder}
 use Rattle.theory.specs.SizeLaws.{quotient-edges, reduced-edges}
 use Rattle.table.specs.Table.{vertexCount, tableEdges, ownerAt, playerOf, gameOf}
 use Rattle.table.specs.TableLaws.{edges-listed}
 use Rattle.table.specs.Verdict.{written}
-use Rattle.table.specs.VerdictLaws.{getD-written, length-written}
+use Rattle.table.specs.VerdictLaws.{getD-written}
 use Rattle.table.specs.WellFormed.{WellFormed}
 use Rattle.reduction.specs.ClassTable.{ownerWord, tableWords}
 use Rattle.reduction.specs.ClassTableLaws.{length-edges}

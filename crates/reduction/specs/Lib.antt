@@ -2,13 +2,16 @@ pub mod ClassTable
 pub mod ClassTableLaws
 pub mod ListsLaws
 pub mod Calls
+pub mod CallRules
+pub mod CallRulesLaws
 pub mod Placing
 pub mod PlacingLaws
 pub mod Numbering
 pub mod NumberingLaws
+pub mod LittleBrothers
 pub mod Rows
 pub mod RowsLaws
-pub mod RivalsLaws
+pub mod LittleBrothersLaws
 pub mod PickedLaws
 pub mod Edges
 pub mod EdgesLaws

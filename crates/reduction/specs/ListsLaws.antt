@@ -1,15 +1,15 @@
 -- However its edges are listed, there are as many as the game has.
 use mathlib.Core.Path.{_≡_, refl, sym, ap, ap₂, _∙_}
-use mathlib.Core.Bool.{Bool, true, So}
+use mathlib.Core.Bool.{true}
 use mathlib.Core.List.{List}
-use Prim.Native.Nat.{ℕ, _+_, _*_, _/_, _%_, _≤_, _<_}
+use Prim.Native.Nat.{ℕ, _+_, _*_, _/_, _%_, _<_}
 use native.Mathlib.Nat.{le-antisymm}
 use native.Mathlib.Decide.{decLt}
 use native.Mathlib.Omega.{arith}
 use lib.Arith.{digits-lt, digits-div, digits-mod}
 use lib.ListN.{length, getD}
 use Rattle.theory.specs.CountLaws.{count-all, count-inject, row-lt, col-lt, pair-ext}
-use Rattle.theory.specs.Game.{Game, Next, Succ, edgeCount}
+use Rattle.theory.specs.Game.{Game, Succ, edgeCount}
 use Rattle.theory.specs.LinkLaws.{linked-at, linked-find}
 use Rattle.reduction.specs.ClassTable.{Lists}
 

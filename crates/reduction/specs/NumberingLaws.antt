@@ -1,13 +1,12 @@
 -- Laws of numbering: one vertex more.
 use mathlib.Core.Path.{_≡_, refl, sym, ap, ap₂, _∙_}
-use mathlib.Core.Bool.{Bool, true, false, So}
+use mathlib.Core.Bool.{So}
 use mathlib.Core.List.{List}
-use Prim.Native.Nat.{ℕ, suc, _+_, _*_, _≤_, _<_}
+use Prim.Native.Nat.{ℕ, _+_, _*_, _≤_, _<_}
 use native.Mathlib.Decide.{decLt}
 use native.Mathlib.Omega.{arith}
 use native.Mathlib.Numerals.{add-one}
 use lib.Arith.{digits-lt}
-use lib.Dec.{eqb}
 use lib.ListN.{length, getD, set}
 use lib.Seq.{getD-set-same, getD-set-other}
 use borrow.Author.Tests.{eq-eqb, ne-eqb}
@@ -82,18 +81,19 @@ module _ (G : Game) (v k : ℕ) (classes reps : List ℕ) (p : Numbered G v k cl
     pub lowest-before : low < v
     lowest-before = omega (arith, lowest-le (G .n) (order G) (order-preorder G) v v (sameClass-refl (G .n) (order G) (order-preorder G) v h), d)
 
-    pub class-old : getD classes low 0 ≡ classOf G v
+    pub class-old : (u : ℕ) → u ≡ low → getD classes u 0 ≡ classOf G v
     unfolding classOf classNumber
-    class-old =
-        p .numbers low lowest-before
+    class-old u e =
+        rw e
+        (p .numbers low lowest-before
         ∙ ap (λ (x : ℕ). count x (isLowest (G .n) (order G)))
-        (lowest-one (G .n) (order G) (order-preorder G) low v (lowest-lt (G .n) (order G) (order-preorder G) v h) h (lowest-same (G .n) (order G) (order-preorder G) v h))
+        (lowest-one (G .n) (order G) (order-preorder G) low v (lowest-lt (G .n) (order G) (order-preorder G) v h) h (lowest-same (G .n) (order G) (order-preorder G) v h)))
 
-    pub numbered-old : v < length classes → Numbered G (v + 1) k (set classes v (getD classes low 0)) reps
+    pub numbered-old : (x : ℕ) → x ≡ classOf G v → v < length classes → Numbered G (v + 1) k (set classes v x) reps
     unfolding count bit isLowest
-    numbered-old l = record {
+    numbered-old x e l = record {
       total = rw (add-one v, ne-eqb low v d) (omega (arith, p .total));
-      numbers = numbers-more (getD classes low 0) class-old l;
+      numbers = numbers-more x e l;
       lowest = p .lowest;
     }
 

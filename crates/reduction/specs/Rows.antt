@@ -2,19 +2,19 @@
 use mathlib.Core.Path.{_≡_}
 use mathlib.Core.Bool.{Bool, true, false, not, cond}
 use mathlib.Core.List.{List, [], _∷_, _++_}
-use Prim.Native.Nat.{ℕ, zero, suc, _+_, _*_, _≤_, _<_}
+use Prim.Native.Nat.{ℕ, zero, suc, _+_, _≤_, _<_}
 use lib.Dec.{eqb, leb}
 use lib.ListN.{length, getD}
 use Rattle.theory.specs.Bools.{_&_, imp}
 use Rattle.theory.specs.Range.{allBelow, anyBelow}
 use Rattle.theory.specs.Game.{Game}
-use Rattle.theory.specs.Order.{anyNext, order}
-use Rattle.theory.specs.Reduction.{representative, classOf, worse, quotient, reduced}
+use Rattle.theory.specs.Order.{anyNext}
+use Rattle.theory.specs.Reduction.{classOf, quotient, reduced}
 use Rattle.table.specs.Table.{gameOf}
 use Rattle.table.specs.WellFormed.{WellFormed}
-use Rattle.order.specs.Bytes.{isMark}
 use Rattle.order.specs.Index.{Index}
 use Rattle.reduction.specs.Numbering.{Ordered, Classed, Represented}
+use Rattle.reduction.specs.LittleBrothers.{droppedBy}
 
 -- ---- members and what they reach
 
@@ -58,20 +58,9 @@ pub record Counted (G : Game) (c v s : ℕ) (counts : List ℕ) : Type 0 where
 
 -- ---- edges that are kept
 
--- e is another class than d, and has the mark that its representative has from base on, by stride
-unfoldable pub rivalMark : List ℕ → List ℕ → ℕ → ℕ → ℕ → ℕ → Bool
-rivalMark marks reps d base stride e = not (eqb e d) & isMark marks (base + getD reps e 0 * stride)
-
--- among the first q rivals there is another class than d, no worse than d for the owner of class c
-unfoldable pub beaten : Game → List ℕ → ℕ → ℕ → ℕ → Bool
-beaten G rivals q c d =
-    anyBelow q (λ j.
-    not (eqb (getD rivals j 0) d)
-    & worse (G .owner (representative (G .n) (order G) c)) (order G) (representative (G .n) (order G) d) (representative (G .n) (order G) (getD rivals j 0)))
-
--- class c has a quotient edge to d, by the counts, and none of the rivals drops it
+-- class c has a quotient edge to d, by the counts, that isn't dropped
 unfoldable pub keeps : Game → List ℕ → ℕ → List ℕ → ℕ → ℕ → ℕ → Bool
-keeps G counts s rivals q c d = eqb (getD counts d 0) s & not (beaten G rivals q c d)
+keeps G counts s edges q c d = eqb (getD counts d 0) s & not (droppedBy G edges q c d)
 
 -- the numbers below n that pass, ascending
 unfoldable pub picked : ℕ → (ℕ → Bool) → List ℕ

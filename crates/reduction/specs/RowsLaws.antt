@@ -1,30 +1,29 @@
 -- Laws of the edges of one class.
-use mathlib.Core.Path.{_≡_, refl, sym, ap, ap₂, _∙_}
-use mathlib.Core.Logic.{_⊎_, inl, inr}
-use mathlib.Core.Bool.{Bool, true, false, not, cond, So}
-use mathlib.Core.List.{List, [], _∷_, _++_, append-nil}
-use Prim.Native.Nat.{ℕ, zero, suc, _+_, _≤_, _<_}
-use native.Mathlib.Decide.{decLt, ℕ-discrete}
+use mathlib.Core.Path.{_≡_, refl, sym, ap, _∙_}
+use mathlib.Core.Bool.{Bool, true, false, cond}
+use mathlib.Core.List.{List}
+use Prim.Native.Nat.{ℕ, _+_, _≤_, _<_}
+use native.Mathlib.Decide.{ℕ-discrete}
 use native.Mathlib.Numerals.{add-one}
 use native.Mathlib.Omega.{arith}
-use native.Mathlib.Nat.{not-suc-le-zero, add-zero}
-use lib.Dec.{eqb, leb}
-use lib.ListN.{length, getD, set, length-append, List·getD-append}
-use lib.Seq.{getD-set-same, getD-set-other, getD-append-seam}
-use borrow.Author.Tests.{eqb-true, eqb-false, eq-eqb, ne-eqb, le-leb, leb-true}
+use native.Mathlib.Nat.{add-zero}
+use lib.Dec.{eqb}
+use lib.ListN.{length, getD, set}
+use lib.Seq.{getD-set-same, getD-set-other}
+use borrow.Author.Tests.{eqb-true, eq-eqb, ne-eqb, le-leb, leb-true}
 use Rattle.theory.specs.Bools.{_&_, _or_, imp, bit}
-use Rattle.theory.specs.BoolsLaws.{decide, clash, So-ext, So-not, and-in, and-out, not-in, not-out, imp-in, imp-out}
+use Rattle.theory.specs.BoolsLaws.{So-ext, So-not, and-in, and-out}
 use Rattle.theory.specs.Range.{allBelow, anyBelow, count}
 use Rattle.theory.specs.RangeLaws.{any-in, any-out, all-in, all-out}
-use Rattle.theory.specs.Game.{Game, Next, Succ, Total}
+use Rattle.theory.specs.Game.{Game, Total}
 use Rattle.theory.specs.Order.{anyNext, order}
 use Rattle.theory.specs.OrderLaws.{anyNext-in, anyNext-out}
-use Rattle.theory.specs.Reduction.{sameClass, isLowest, classCount, classNumber, representative, classOf, quotientEdge, dropped, reducedEdge, worse, classGame, quotient, reduced}
-use Rattle.theory.specs.ClassLaws.{classNumber-same, representative-lt, representative-at, representative-one, representative-of, classNumber-lt, classCount-le}
-use Rattle.theory.specs.QuotientLaws.{order-preorder, quotientEdge-in, quotientEdge-out, dropped-in, dropped-out}
-use Rattle.order.specs.Index.{InRun, Index}
+use Rattle.theory.specs.Reduction.{sameClass, isLowest, classNumber, representative, classOf, quotientEdge}
+use Rattle.theory.specs.ClassLaws.{classNumber-same, representative-lt, representative-at, classNumber-lt, classCount-le}
+use Rattle.theory.specs.QuotientLaws.{order-preorder}
+use Rattle.order.specs.Index.{Index}
 use Rattle.reduction.specs.Numbering.{Classed, classesIn}
-use Rattle.reduction.specs.Rows.{reaches, membersReach, runReaches, RunInside, memberReaches, raise, Raised, Counted, beaten, picked, gameBy}
+use Rattle.reduction.specs.Rows.{reaches, membersReach, runReaches, RunInside, memberReaches, raise, Raised, Counted}
 
 -- ---- one number more, for "some" and "each"
 

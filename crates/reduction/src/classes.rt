@@ -1,8 +1,8 @@
 // A part of this crate's calls; no host calls it.
 // The classes of a game whose marks hold its order.
 ghost use mathlib.Core.Path.{_≡_};
-ghost use Prim.Native.Nat.{ℕ, _+_, _*_, _<_, _≤_};
-ghost use lib.ListN.{length, getD, set};
+ghost use Prim.Native.Nat.{_+_, _*_, _<_, _≤_};
+ghost use lib.ListN.{length, set};
 ghost use Rattle.theory.specs.Reduction.{sameClass, lowest, classOf};
 ghost use Rattle.table.specs.Table.{vertexCount, gameOf};
 ghost use Rattle.table.specs.Verdict.{written};

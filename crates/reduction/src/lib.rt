@@ -1,9 +1,9 @@
 // Classes, quotient game and reduced game of a game table.
-pub mod classes;
-pub mod rivals;
-pub mod rows;
-pub mod tables;
-pub mod words;
+mod classes;
+mod little_brothers;
+mod rows;
+mod tables;
+mod words;
 
 use table::Reading;
 use table::Refusal;

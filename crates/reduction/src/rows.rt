@@ -2,7 +2,7 @@
 // The edges of one class. A class d gets an edge from class c exactly if every member of c reaches it: the members are passed one by one,
 // and the count of d goes from s to s + 1 at member number s only where that member, too, has a successor in d.
 ghost use mathlib.Core.Path.{_≡_};
-ghost use Prim.Native.Nat.{ℕ, _+_, _*_, _<_, _≤_};
+ghost use Prim.Native.Nat.{ℕ, _+_, _<_, _≤_};
 ghost use mathlib.Core.Bool.{cond};
 ghost use lib.Dec.{eqb};
 ghost use lib.ListN.{length, getD, set};
@@ -107,14 +107,14 @@ fn push(row: &mut [u16], r: usize, d: usize, kept: bool) -> usize
     r
 }
 
-// Whether class c has a quotient edge to d, by the counts, that none of the first q rivals drops.
+// Whether class c has a quotient edge to d, by the counts, and d is no little brother of one of the first q targets of `edges`.
 fn is_kept(
     game: &[u16],
     marks: &[u8],
     reps: &[u16],
     counts: &[u16],
     s: u16,
-    rivals: &[u16],
+    edges: &[u16],
     q: usize,
     c: usize,
     d: usize,
@@ -122,13 +122,13 @@ fn is_kept(
     requires { ⌜ WellFormed (now game) ⌝ }
     requires { ⌜ Ordered (gameOf (now game)) (now marks) × Represented (gameOf (now game)) (now reps) ⌝ }
     requires { ⌜ (c < classesIn (gameOf (now game))) × (d < classesIn (gameOf (now game))) × (d < length (now counts)) ⌝ }
-    requires { ⌜ (q ≤ length (now rivals)) × ((j : ℕ) → j < q → getD (now rivals) j 0 < classesIn (gameOf (now game))) ⌝ }
-    ensures { λ r. ⌜ r ≡ keeps (gameOf (now (game .entry))) (now (counts .entry)) s (now (rivals .entry)) q c d ⌝ }
+    requires { ⌜ (q ≤ length (now edges)) × ((j : ℕ) → j < q → getD (now edges) j 0 < classesIn (gameOf (now game))) ⌝ }
+    ensures { λ r. ⌜ r ≡ keeps (gameOf (now (game .entry))) (now (counts .entry)) s (now (edges .entry)) q c d ⌝ }
 {
     if counts[d] != s {
         return false;
     }
-    !crate::rivals::is_beaten(game, marks, reps, rivals, q, c, d)
+    !crate::little_brothers::is_dropped(game, marks, reps, edges, q, c, d)
 }
 
 // Writes the kept ones of the k classes, ascending. Returns how many there are.
@@ -138,7 +138,7 @@ fn collect(
     reps: &[u16],
     counts: &[u16],
     s: u16,
-    rivals: &[u16],
+    edges: &[u16],
     q: usize,
     c: usize,
     k: usize,
@@ -147,22 +147,22 @@ fn collect(
     requires { ⌜ WellFormed (now game) ⌝ }
     requires { ⌜ Ordered (gameOf (now game)) (now marks) × Represented (gameOf (now game)) (now reps) ⌝ }
     requires { ⌜ (c < k) × (k ≡ classesIn (gameOf (now game))) × (k ≤ 256) × (k ≤ length (now counts)) × (k ≤ length (now row)) ⌝ }
-    requires { ⌜ (q ≤ length (now rivals)) × ((j : ℕ) → j < q → getD (now rivals) j 0 < k) ⌝ }
-    ensures { λ r. ⌜ r ≡ length (picked k (keeps (gameOf (now (game .entry))) (now (counts .entry)) s (now (rivals .entry)) q c)) ⌝ }
-    ensures { λ r. ⌜ now (row .exit) ≡ written (picked k (keeps (gameOf (now (game .entry))) (now (counts .entry)) s (now (rivals .entry)) q c)) (now (row .entry)) ⌝ }
+    requires { ⌜ (q ≤ length (now edges)) × ((j : ℕ) → j < q → getD (now edges) j 0 < k) ⌝ }
+    ensures { λ r. ⌜ r ≡ length (picked k (keeps (gameOf (now (game .entry))) (now (counts .entry)) s (now (edges .entry)) q c)) ⌝ }
+    ensures { λ r. ⌜ now (row .exit) ≡ written (picked k (keeps (gameOf (now (game .entry))) (now (counts .entry)) s (now (edges .entry)) q c)) (now (row .entry)) ⌝ }
 {
     let mut r = 0;
     let mut d = 0;
     while d < k {
-        let kept = is_kept(game, marks, reps, counts, s, rivals, q, c, d);
+        let kept = is_kept(game, marks, reps, counts, s, edges, q, c, d);
         r = push(row, r, d, kept);
         d += 1;
     }
     r
 }
 
-// Writes the edges of class c, ascending: those of the quotient or, with `drop`, of the reduced game. Returns how many there are. The
-// rivals are all quotient edges of the class, or none.
+// Writes the edges of class c, ascending: those of the quotient or, with `drop`, of the reduced game. Returns how many there are. A
+// target is compared with those of all quotient edges of the class, or with none.
 pub fn class_row(
     game: &[u16],
     marks: &[u8],
@@ -184,6 +184,6 @@ pub fn class_row(
     let s = count_members(game, classes, offsets, targets, c, &mut counts);
     let mut edges = [0u16; 256];
     let q = collect(game, marks, reps, &counts, s, reps, 0, c, k, &mut edges);
-    let rivals = if drop { q } else { 0 };
-    collect(game, marks, reps, &counts, s, &edges, rivals, c, k, row)
+    let compared = if drop { q } else { 0 };
+    collect(game, marks, reps, &counts, s, &edges, compared, c, k, row)
 }

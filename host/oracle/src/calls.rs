@@ -56,11 +56,11 @@ impl Oracle {
 
     /// The order.
     pub fn order(&self, game: &[u16], memory: &mut Memory) -> Answer {
-        let order = self.checked(game, memory, 2).map(|game| {
-            let (order, passes) = self.write_order(&game, memory);
-            (order, Answer { passes, ..Answer::default() })
+        let counts = self.checked(game, memory, 2).map(|game| {
+            let (_, passes) = self.write_order(&game, memory);
+            Answer { passes, ..Answer::default() }
         });
-        self.answer(order.map(|(_, counts)| counts))
+        self.answer(counts)
     }
 
     /// The relation acceptor, which reads the marks and writes nothing.
@@ -94,14 +94,14 @@ impl Oracle {
 
     /// The kind of a refusal number.
     pub fn kind(&self, number: u32) -> u32 {
-        let gap = self.falls_for(Trap::KindsWithoutGaps);
+        let no_gaps = self.falls_for(Trap::KindsWithoutGaps);
         match number {
             1..=8 => 1,
             9 | 10 => 2,
             11..=16 => 3,
-            17..=20 if gap => 3,
+            17..=20 if no_gaps => 3,
             21..=24 => 4,
-            25..=30 if gap => 4,
+            25..=30 if no_gaps => 4,
             31..=99 => 5,
             _ => 0,
         }

@@ -11,13 +11,18 @@ fn path(name: &str) -> String {
     format!("games/{name}")
 }
 
-/// The oracle's answers on a shipped game.
-fn expected(name: &str) -> Memory {
+/// The oracle's answers on a shipped game, with the table that the command writes.
+fn expected(command: &str, name: &str) -> Memory {
     let game = shipped(name);
     let n = game[0] as usize;
     let (marks, classes) = (vec![0; n * n], vec![0; n]);
     let mut memory = Memory { spare: marks.clone(), marks, classes, output: vec![0; game.len()] };
-    assert_eq!(Oracle::exact().reduce(&game, &mut memory).number, 0);
+    let answer = match command {
+        "quotient" => Oracle::exact().quotient(&game, &mut memory),
+        _ => Oracle::exact().reduce(&game, &mut memory),
+    };
+    assert_eq!(answer.number, 0);
+    memory.output.truncate(2 + 2 * answer.vertices as usize + 2 * answer.edges as usize);
     memory
 }
 
@@ -52,7 +57,7 @@ fn report_on_one_vertex() {
 #[test]
 fn order_in_each_form() {
     for name in GAMES {
-        let marks = expected(name).marks;
+        let marks = expected("order", name).marks;
         let text = run(&["order", &path(name)]).text();
         let read: Vec<u8> = numbers(&text).iter().map(|&mark| mark as u8).collect();
         assert_eq!(read, marks);
@@ -75,7 +80,7 @@ fn order_in_each_form() {
 #[test]
 fn classes_in_each_form() {
     for name in GAMES {
-        let classes = expected(name).classes;
+        let classes = expected("classes", name).classes;
         assert_eq!(numbers(&run(&["classes", &path(name)]).text()), classes);
         assert_eq!(words(&run(&["classes", &path(name), "--as", "words"]).bytes()), classes);
         let dot = run(&["classes", &path(name), "--as", "dot"]).text();
@@ -92,6 +97,7 @@ fn tables_in_each_form() {
             let text = run(&[command, &path(name)]).text();
             let binary = run(&[command, &path(name), "--as", "words"]).bytes();
             assert_eq!(words(&binary), numbers(&text));
+            assert_eq!(numbers(&text), expected(command, name).output);
             let (from_text, from_binary) = (text.as_bytes(), &binary[..]);
             let sizes = |input| run_on(&["report"], input).text().lines().last().map(String::from);
             assert_eq!(sizes(from_text), sizes(from_binary), "both forms are read back");
@@ -114,6 +120,7 @@ fn pictures() {
                  0 [shape=diamond, label=\"0\\npriority 0\"]; 2 [shape=box, label=\"2\\npriority 0\"]; }";
     assert!(game.starts_with("digraph game {\n") && game.ends_with("}\n"), "{game}");
     assert!(game.contains(frame), "{game}");
+    assert!(game.contains("  1 [shape=diamond, label=\"1 (class 1)\\npriority 1\"];\n"), "{game}");
     assert!(game.contains("  0 -> 1;\n  1 -> 1;\n  2 -> 1;\n"), "{game}");
     let reduced = run(&["dot", "--reduced", "games/b.txt"]).text();
     assert!(
@@ -155,13 +162,15 @@ fn help_of_each_command_has_an_example_that_runs() {
     assert_eq!(listed.len(), 9, "{listed:?}");
     for command in listed {
         let help = run(&[command, "--help"]).text();
+        assert_eq!(run(&["help", command]).text(), help);
+        assert_eq!(run(&[command, "-h", "games/none"]).text(), help);
         assert!(help.starts_with(&format!("usage: raskjomi {command} ")), "{help}");
         let example =
             help.lines().find_map(|line| line.strip_prefix("example: ")).expect("an example");
         // Graphviz needn't be installed.
         let example = example.split(" | dot ").next().expect("a command");
         let program = format!("'{}'", env!("CARGO_BIN_EXE_raskjomi"));
-        let line = example.replace("raskjomi ", &format!("{program} "));
+        let line = example.replace("./raskjomi ", &format!("{program} "));
         let ran =
             Command::new("sh").args(["-c", &line]).current_dir(root()).output().expect("a shell");
         assert!(ran.status.success() && !ran.stdout.is_empty(), "{example}: {ran:?}");

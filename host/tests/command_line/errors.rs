@@ -11,22 +11,37 @@ fn bad(words: &[&str], parts: &[&str]) {
 fn commands_and_options() {
     bad(&[], &["no command", "--help"]);
     bad(&["shrink"], &["no command `shrink`", "--help"]);
-    bad(&["report", "--all"], &["no option --all", "raskjomi report --help"]);
-    bad(&["report", "a", "b"], &["arguments: 2 instead of 0 to 1", "raskjomi report --help"]);
+    bad(&["help", "shrink"], &["no command `shrink`", "--help"]);
+    let usage = ["usage: raskjomi report [GAME] [--vertex V]", "raskjomi report --help"];
+    bad(&["report", "--all"], &[&["no option --all"], &usage[..]].concat());
+    bad(&["report", "-x"], &[&["no option -x"], &usage[..]].concat());
+    bad(&["report", "a", "b"], &[&["arguments: 2 instead of 0 to 1"], &usage[..]].concat());
     bad(&["check-plan", "games/c.txt", "--player", "even"], &["arguments: 1 instead of 2"]);
     bad(&["order", "games/c.txt", "--as"], &["--as needs text, words or dot"]);
+    bad(&["dot", "games/c.txt", "--reduced=no"], &["--reduced takes no value"]);
+    for twice in [["report", "--vertex", "0", "--vertex=1"], ["order", "--as", "text", "--as=text"]]
+    {
+        bad(&twice, &["is given twice; write it once"]);
+    }
+    bad(&["dot", "--reduced", "--reduced"], &["--reduced is given twice"]);
     bad(&["order", "games/c.txt", "--as", "svg"], &["no form `svg`", "--as text"]);
     bad(&["check-plan", "a", "b"], &["no player", "--player even"]);
     bad(&["check-plan", "a", "b", "--player", "2"], &["no player `2`", "--player odd"]);
     bad(&["check-relation", "-", "-"], &["both inputs", "name a file"]);
+    bad(&["check-plan", "-", "-", "--player", "odd"], &["both inputs", "name a file"]);
+}
+
+#[test]
+fn numbers() {
     bad(&["explain"], &["arguments: 0 instead of 1"]);
-    for word in ["17", "0", "31", "x", "-1"] {
+    bad(&["explain", "-1"], &["no option -1"]);
+    for word in ["17", "0", "31", "x", "+8", "65544"] {
         bad(
             &["explain", word],
             &[&format!("`{word}` is no refusal number"), "1 to 16 and 21 to 24"],
         );
     }
-    for vertex in ["3", "x", "-1"] {
+    for vertex in ["3", "x", "-1", "+1", ""] {
         let parts = [&*format!("no vertex `{vertex}`"), "from 0 to 2"];
         bad(&["report", "games/b.txt", "--vertex", vertex], &parts);
     }
@@ -37,6 +52,9 @@ fn files() {
     bad(&["report", "games/none.txt"], &["games/none.txt: ", "name a file"]);
     bad(&["report", "games"], &["games: ", "name a file"]);
     bad(&["check-relation", "games/b.txt", "none"], &["none: ", "name a file"]);
+    bad(&["check-plan", "none", "games/b.txt", "--player", "odd"], &["none: ", "name a file"]);
+    bad(&["report", "/dev/zero"], &["/dev/zero: more than 16 MiB; ", "name a file"]);
+    bad(&["report", "two\nlines"], &["two?lines: ", "name a file"]);
 }
 
 #[test]
@@ -49,9 +67,12 @@ fn words_of_text() {
         input("1 1\n0 / 65536 0 0").fails(2, &["standard input: line 2, word 2: `65536`"]),
         ""
     );
-    for text in ["+1", "-1", "1.5", "0x1", "1,1", "١"] {
+    for text in ["+1", "-1", "1.5", "0x1", "1,1", "١", "70000", "99999999999999999999"] {
         input(text).fails(2, &[&format!("standard input: line 1, word 1: `{text}`")]);
     }
+    input("1 1\r\n1 x\r\n").fails(2, &["line 2, word 2: `x`"]);
+    input(&"9".repeat(5000)).fails(2, &[&format!("`{}..` is no number", "9".repeat(24))]);
+    run_on(&["report"], &[255; 8]).fails(2, &["line 1, word 1: `"]);
     let relation = run_on(&["check-relation", "games/b.txt", "-"], b"1 0\n256");
     relation.fails(2, &["line 2, word 1: `256`", "from 0 to 255"]);
 }

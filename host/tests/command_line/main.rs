@@ -5,5 +5,7 @@ mod common;
 
 mod commands;
 mod errors;
+mod inputs;
+mod outputs;
 mod refusals;
 mod run;

@@ -4,14 +4,14 @@ use crate::run::{bytes, file, run, run_on, shipped};
 
 /// Games as text, the refusal, and where it is.
 const GAMES: [(&str, &str, &str); 9] = [
-    ("# nothing", "1 at 0", "after the last of 0 words"),
+    ("# nothing", "1 at 0", "no number in it"),
     ("1", "1 at 1", "after line 1, word 1, the last of 1"),
-    ("0 1", "2 at 0", "line 1, word 1"),
-    ("1 4097", "3 at 1", "line 1, word 2"),
-    ("1 1 0 0\n0", "4 at 5", "after line 2, word 1, the last of 5"),
-    ("1 1 # sizes\n0 2 / 0 0", "5 at 3", "line 2, word 2"),
-    ("1 1 / 0 0\n# ends\n0 1", "6 at 5", "line 3, word 2"),
-    ("1 2 / 0 0 /\n0 0 /\n0 0", "7 at 5", "line 2, word 2"),
+    ("0 1", "2 at 0", "line 1, word 1 (n is 0)"),
+    ("1 4097", "3 at 1", "line 1, word 2 (m is 4097)"),
+    ("1 1 0 0\n0", "4 at 5", "after line 2, word 1, the last of 5 (n is 1 and m is 1, so 6 words)"),
+    ("1 1 # sizes\n0 2 / 0 0", "5 at 3", "line 2, word 2 (owner 2)"),
+    ("1 1 / 0 0\n# ends\n0 1", "6 at 5", "line 3, word 2 (vertex 1)"),
+    ("1 2 / 0 0 /\n0 0 /\n0 0", "7 at 5", "line 2, word 2 (edge 0 to 0)"),
     ("2 1\n0\n7\n0 0\n0 / 0", "8 at 1", "line 3, word 1 (vertex 1)"),
 ];
 
@@ -33,18 +33,31 @@ fn games_in_text() {
 
 #[test]
 fn games_in_binary() {
-    let parts = ["standard input: word 3 from 0: refused 5 at 3: an owner is above 1; write 0"];
-    let out = run_on(&["report"], &bytes(&[1, 1, 0, 2, 0, 0])).fails(1, &parts);
-    assert_eq!(out, "refused 5 at 3\n");
-    assert_eq!(run_on(&["report"], &[]).fails(1, &["refused 1 at 0"]), "refused 1 at 0\n");
-    assert_eq!(run_on(&["report"], &[255; 8]).fails(1, &["word 0 from 0"]), "refused 2 at 0\n");
+    let refused = |input: &[u8], parts: &[&str]| run_on(&["report"], input).fails(1, parts);
+    let owner = [
+        "standard input: word 3 from 0 (owner 2), read as binary since byte 0 is a control character: refused 5 at 3: ",
+        "an owner is above 1; write 0",
+    ];
+    assert_eq!(refused(&bytes(&[1, 1, 0, 2, 0, 0]), &owner), "refused 5 at 3\n");
+    let nothing = ["standard input: no number in it: refused 1 at 0: "];
+    assert_eq!(refused(&[], &nothing), "refused 1 at 0\n");
+    let half =
+        ["after word 4 from 0, the last of 5 (n is 1 and m is 1, so 6 words), read as binary"];
+    assert_eq!(refused(&bytes(&[1, 1, 1, 1, 0])[..9], &half), "refused 4 at 5\n");
+    let control =
+        ["word 0 from 0 (n is 8241), read as binary since byte 12 is a control character"];
+    assert_eq!(refused(b"1 1 1 1 0 0 \x1a", &control), "refused 2 at 0\n");
 }
 
 #[test]
 fn relations() {
     let rows: [(&str, &str, &str); 3] = [
-        ("1 0 0\n0 1 0\n0 0", "21 at 9", "after line 3, word 2, the last of 8"),
-        ("1 1 0\n0 3 0\n0 0 1", "9 at 4", "line 2, word 2"),
+        (
+            "1 0 0\n0 1 0\n0 0",
+            "21 at 9",
+            "after line 3, word 2, the last of 8 (9 marks are needed)",
+        ),
+        ("1 1 0\n0 3 0\n0 0 1", "9 at 4", "line 2, word 2 (mark 3)"),
         ("1 0 0\n0 1 0\n0 1 1", "10 at 7", "line 3, word 2 (pair 2, 1)"),
     ];
     for (text, verdict, place) in rows {
@@ -54,18 +67,24 @@ fn relations() {
         assert_eq!(out, format!("refused {verdict}\n"));
     }
     run_on(&["check-relation", "games/b.txt", "-"], &[0, 1, 2, 0, 0, 0, 0, 0, 0])
-        .fails(1, &["standard input: byte 2 from 0: refused 9 at 2"]);
+        .fails(1, &["standard input: byte 2 from 0 (mark 2), read as binary ", ": refused 9 at 2"]);
 }
 
 #[test]
 fn plans() {
-    let rows: [(&str, &str, &str, &str); 6] = [
+    let rows: [(&str, &str, &str, &str); 7] = [
         ("even", "3", "12 at 0", "line 1, word 1"),
-        ("even", "1 1 0 0", "12 at 0", "line 1, word 1"),
-        ("even", "2 1 / 0 2\n0 2", "13 at 5", "line 2, word 2"),
-        ("even", "2 2 / 0 2\n0 1\n1 0", "14 at 1", "line 2, word 2 (link 1)"),
-        ("odd", "2 1 / 0\n2\n0 1", "15 at 0", "line 1, word 3 (position 0)"),
-        ("even", "2 2 / 1\n3\n0 1\n1 1", "16 at 1", "line 2, word 1 (position 1)"),
+        (
+            "even",
+            "1 1 0 0",
+            "12 at 0",
+            "line 1, word 1 (p is 1 and l is 1, so 5 words, and it has 4)",
+        ),
+        ("even", "2 1 / 0 5\n0 2", "13 at 3", "line 1, word 4 (vertex 5)"),
+        ("even", "2 1 / 0 2\n0 2", "13 at 5", "line 2, word 2 (position 2)"),
+        ("even", "2 2 / 0 2\n0 1\n1 0", "14 at 1", "line 2, word 2 (link 1, from vertex 2 to 0)"),
+        ("odd", "2 1 / 0\n2\n0 1", "15 at 0", "line 1, word 3 (position 0, at vertex 0)"),
+        ("even", "2 2 / 1\n3\n0 1\n1 1", "16 at 1", "line 2, word 1 (position 1, at vertex 3)"),
     ];
     for (player, text, verdict, place) in rows {
         let plan = file("plan.txt", text.as_bytes());
@@ -74,6 +93,8 @@ fn plans() {
         assert_eq!(out, format!("refused {verdict}\n"));
     }
     let other = bytes(&shipped("c.plan.txt"));
-    run_on(&["check-plan", "games/c.txt", "-", "--player", "odd"], &other)
-        .fails(1, &["standard input: word 2 from 0 (position 0): refused 15 at 0"]);
+    run_on(&["check-plan", "games/c.txt", "-", "--player", "odd"], &other).fails(
+        1,
+        &["standard input: word 2 from 0 (position 0, at vertex 0), ", ": refused 15 at 0"],
+    );
 }

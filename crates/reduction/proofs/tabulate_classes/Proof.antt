@@ -1,15 +1,13 @@
 use mathlib.Core.Path.{_≡_, sym, ap, _∙_}
 use mathlib.Core.List.{[]}
-use Prim.Native.Nat.{_+_, _*_, _≤_}
 use native.Mathlib.Omega.{arith}
 use lib.ListN.{length}
 use Rattle.table.specs.Verdict.{judge}
-use Rattle.table.specs.Table.{vertexCount, tableEdges, tableLength}
-use Rattle.reduction.specs.declared.Memory.the-variants.{Enough}
-use Rattle.reduction.specs.Rows.{gameBy}
+use Rattle.table.specs.Table.{vertexCount}
 use Rattle.reduction.specs.Answers.{memoryRows, memoryAnswer}
 use Rattle.reduction.specs.NumberingLaws.{ordered-written}
-use Rattle.reduction.specs.CallsLaws.{Fits, memory-fits, table-short, table-output-short, table-written}
+use Rattle.reduction.specs.CallRules.{ClassesFit, TableFits}
+use Rattle.reduction.specs.CallsLaws.{memory-fits, table-short, table-output-short, table-written}
 use borrow.Author.Needs.{needs}
 use Rattle.reduction.proofs.tabulate_classes.Statement.{statement}
 use Rattle.reduction.proofs.tabulate_classes.Tie as tie
@@ -23,17 +21,8 @@ judged : (c : tie.After-judge-memory)
     memoryAnswer (c .judge-memory .result) ≡ judge (memoryRows (vertexCount (a .game .now)) (length (a .marks .now)) (length (a .spare .now)) (length (a .classes .now))) []
 judged c = rw (← start c .pre .vertices) (c .judge-memory .ensures)
 
-enough : (c : tie.After-enum-told)
-    → let a = start (c .before .before) .args in
-    memoryAnswer Enough ≡ judge (memoryRows (vertexCount (a .game .now)) (length (a .marks .now)) (length (a .spare .now)) (length (a .classes .now))) []
-enough c = ap memoryAnswer (sym (c .enum-told .given .1)) ∙ judged (c .before .before)
-
-fits : (c : tie.After-enum-told) → let a = start (c .before .before) .args in Fits (a .game .now) (a .marks .now) (a .spare .now) (a .classes .now)
-fits c = memory-fits _ _ _ _ (enough c)
-
--- the output's length needed
-needed : (s : tie.Start) → 2 + 2 * s .args .sizes .vertices + 2 * s .args .sizes .edges ≡ tableLength (vertexCount (s .args .game .now)) (tableEdges (s .args .game .now))
-needed s = omega (arith, s .pre .vertices, s .pre .edges)
+fits : (c : tie.After-enum-told) → let a = start (c .before .before) .args in ClassesFit (a .game .now) (a .marks .now) (a .spare .now) (a .classes .now)
+fits c = memory-fits _ _ _ _ (start (c .before .before) .pre .well) (ap memoryAnswer (sym (c .enum-told .given .1)) ∙ judged (c .before .before))
 
 abbrev told-at : tie.After-fill-order → tie.After-enum-told
 told-at c = c .before .before .before .before .before .before
@@ -68,19 +57,27 @@ returns-2 : tie.Need-returns-2
 returns-2 c =
     let t = c .before .before .before in
     let s = start (t .before .before) in
-    rw (needed s) (table-output-short _ _ _ _ _ _ (s .pre .well) (enough t) (rw (needed s) at (c .if1 .taken)))
+    table-output-short _ _ _ _ _ _ (fits t) _ (omega (arith, s .pre .vertices, s .pre .edges)) (c .if1 .taken)
+
+-- the output was long enough, too
+all-fits : (c : tie.After-fill-order)
+    → let a = start (told-at c .before .before) .args in
+    TableFits (a .game .now) (a .marks .now) (a .spare .now) (a .classes .now) (a .output .now)
+all-fits c =
+    let s = start (told-at c .before .before) in
+    record { classesFit = fits (told-at c); outputFit = omega (arith, s .pre .vertices, s .pre .edges, c .before .before .before .if1 .left) }
 
 fill-order-requires : tie.Need-fill-order-requires
 fill-order-requires c κs =
-    let t = c .before .before .before .before .before in
-    (start (t .before .before) .pre .well, (fits t .marks-fit, fits t .spare-fit))
+    let f = fits (c .before .before .before .before .before) .orderFits in
+    (f .game, (f .marksFit, f .spareFit))
 
 fill-table-requires : tie.Need-fill-table-requires
 fill-table-requires c κs =
     let o = c .before .before .before .before .before .before .before in
-    let t = told-at o in
-    let s = start (t .before .before) in
-    ((s .pre .well, rw (o .fill-order .ensures .marks) (ordered-written _ _ (fits t .marks-fit))), (fits t .classes-fit, omega (arith, needed s, o .before .before .before .if1 .left)))
+    let f = all-fits o in
+    let g = f .classesFit .orderFits in
+    ((g .game, rw (o .fill-order .ensures .marks) (ordered-written _ _ (g .marksFit))), (f .classesFit .wordsFit, f .outputFit))
 
 same-length : tie.Need-same-length
 same-length c = search needs
@@ -98,10 +95,7 @@ returns-3 : tie.Need-returns-3
 returns-3 c =
     let x = c .before .before .before .before in
     let o = x .before .before .before .before .before .before .before .before in
-    let t = told-at o in
-    let s = start (t .before .before) in
-    table-written _ _ _ _ _ _ (s .pre .well) (enough t) (omega (arith, needed s, o .before .before .before .if1 .left)) _ _ _ _ _ _
-    (o .fill-order .ensures) (x .fill-table .ensures)
+    table-written _ _ _ _ _ _ (all-fits o) _ _ _ _ _ _ (o .fill-order .ensures) (x .fill-table .ensures)
 
 pub tabulate-classes-spec : {M : Type 1} → statement M
 tabulate-classes-spec =

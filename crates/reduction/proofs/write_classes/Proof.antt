@@ -1,6 +1,5 @@
 use mathlib.Core.Path.{_≡_, sym, ap, _∙_}
 use mathlib.Core.List.{[]}
-use Prim.Native.Nat.{_*_, _≤_}
 use native.Mathlib.Omega.{arith}
 use lib.ListN.{length}
 use Rattle.table.specs.WellFormed.{WellSized}
@@ -9,7 +8,8 @@ use Rattle.table.specs.Verdict.{judge}
 use Rattle.table.specs.Table.{vertexCount}
 use Rattle.reduction.specs.Answers.{memoryRows, memoryAnswer}
 use Rattle.reduction.specs.NumberingLaws.{ordered-written}
-use Rattle.reduction.specs.CallsLaws.{Fits, memory-fits, classes-handed, classes-short, classes-done}
+use Rattle.reduction.specs.CallRules.{ClassesFit}
+use Rattle.reduction.specs.CallsLaws.{memory-fits, classes-handed, classes-short, classes-done}
 use borrow.Author.Needs.{needs}
 use Rattle.reduction.proofs.write_classes.Statement.{statement}
 use Rattle.reduction.proofs.write_classes.Tie as tie
@@ -30,8 +30,9 @@ judged : (c : tie.After-judge-memory)
     memoryAnswer (c .judge-memory .result) ≡ judge (memoryRows (vertexCount (a .game .now)) (length (a .marks .now)) (length (a .spare .now)) (length (a .classes .now))) []
 judged c = rw (← sized (c .before .before) .vertices) (c .judge-memory .ensures)
 
-fits : (c : tie.After-enum-told2) → let a = start (read-at (c .before .before)) .args in Fits (a .game .now) (a .marks .now) (a .spare .now) (a .classes .now)
-fits c = memory-fits _ _ _ _ (ap memoryAnswer (sym (c .enum-told2 .given .1)) ∙ judged (c .before .before))
+fits : (c : tie.After-enum-told2) → let a = start (read-at (c .before .before)) .args in ClassesFit (a .game .now) (a .marks .now) (a .spare .now) (a .classes .now)
+fits c =
+    memory-fits _ _ _ _ (sized (c .before .before .before .before) .well) (ap memoryAnswer (sym (c .enum-told2 .given .1)) ∙ judged (c .before .before))
 
 abbrev told-at : tie.After-fill-order → tie.After-enum-told2
 told-at c = c .before .before .before
@@ -69,16 +70,14 @@ enum-told-2 c = search needs
 
 fill-order-requires : tie.Need-fill-order-requires
 fill-order-requires c κs =
-    let t = c .before .before in
-    let f = fits t in
-    (sized (t .before .before .before .before) .well, (f .marks-fit, f .spare-fit))
+    let f = fits (c .before .before) .orderFits in
+    (f .game, (f .marksFit, f .spareFit))
 
 fill-classes-requires : tie.Need-fill-classes-requires
 fill-classes-requires c κs =
     let o = c .before .before .before .before .before .before in
-    let t = told-at o in
-    let f = fits t in
-    (sized (t .before .before .before .before) .well, (rw (o .fill-order .ensures .marks) (ordered-written _ _ (f .marks-fit)), f .classes-fit))
+    let f = fits (told-at o) in
+    (f .orderFits .game, (rw (o .fill-order .ensures .marks) (ordered-written _ _ (f .orderFits .marksFit)), f .wordsFit))
 
 same-length : tie.Need-same-length
 same-length c = search needs
@@ -93,9 +92,7 @@ returns-3 : tie.Need-returns-3
 returns-3 c =
     let x = c .before .before in
     let o = x .before .before .before .before .before .before .before in
-    let t = told-at o in
-    classes-done _ _ _ _ (sized (t .before .before .before .before) .well) (ap memoryAnswer (sym (t .enum-told2 .given .1)) ∙ judged (t .before .before)) _ _ _ _ _
-    (o .fill-order .ensures) (x .fill-classes .ensures .0) (x .fill-classes .ensures .1)
+    classes-done _ _ _ _ (fits (told-at o)) _ _ _ _ _ (o .fill-order .ensures) (x .fill-classes .ensures .0) (x .fill-classes .ensures .1)
 
 pub write-classes-spec : {M : Type 1} → statement M
 write-classes-spec =

@@ -91,7 +91,8 @@ fn answered(
         links.iter().for_each(|&j| stamps[plan.vertices[j as usize] as usize] = stamp);
         let own = owners[vertex as usize] as u32 == player;
         let all = || successors.of(vertex as usize).iter().all(|&x| stamps[x as usize] == stamp);
-        if if own { links.is_empty() } else { !all() } {
+        let lacking = if own { links.is_empty() } else { !all() };
+        if lacking {
             return Err(refused(15, i));
         }
     }

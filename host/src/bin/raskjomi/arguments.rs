@@ -3,6 +3,7 @@
 use crate::failure::Failure;
 use crate::help::Command;
 use std::collections::BTreeMap;
+use std::slice::Iter;
 
 /// The files and options of one command line.
 #[derive(Debug, Default)]
@@ -20,24 +21,18 @@ pub enum Form {
 }
 
 impl Arguments {
-    /// Sorts the words by what the command takes.
+    /// Sorts the words by what the command takes; after `--` all are files.
     pub fn parse(command: &Command, words: &[String]) -> Result<Arguments, Failure> {
         let mut arguments = Arguments::default();
         let mut words = words.iter();
         while let Some(word) = words.next() {
-            if !word.starts_with("--") {
-                arguments.files.push(word.clone());
-                continue;
-            }
-            let option = command.options.iter().find(|option| option.name == word.as_str());
-            let option = option.ok_or_else(|| bad(command, format!("no option {word}")))?;
-            let value = match option.value {
-                Some(value) => {
-                    words.next().ok_or_else(|| bad(command, format!("{word} needs {value}")))?
+            match word.as_str() {
+                "--" => arguments.files.extend(words.by_ref().cloned()),
+                option if option.starts_with('-') && option != "-" => {
+                    arguments.add_option(command, option, &mut words)?
                 }
-                None => "",
-            };
-            arguments.options.insert(word.clone(), value.to_string());
+                _ => arguments.files.push(word.clone()),
+            }
         }
         let count = arguments.files.len();
         if !command.files.contains(&count) {
@@ -48,6 +43,30 @@ impl Arguments {
             return Err(bad(command, format!("number of arguments: {count} instead of {wanted}")));
         }
         Ok(arguments)
+    }
+
+    /// Adds `--name value` or `--name=value`; the value may be the next of the words.
+    fn add_option(
+        &mut self,
+        command: &Command,
+        word: &str,
+        words: &mut Iter<String>,
+    ) -> Result<(), Failure> {
+        let (name, given) =
+            word.split_once('=').map_or((word, None), |(name, value)| (name, Some(value)));
+        let option = command.options.iter().find(|option| option.name == name);
+        let option = option.ok_or_else(|| bad(command, format!("no option {name}")))?;
+        let value = match option.value {
+            Some(what) => given
+                .or_else(|| words.next().map(String::as_str))
+                .ok_or_else(|| bad(command, format!("{name} needs {what}")))?,
+            None if given.is_some() => return Err(bad(command, format!("{name} takes no value"))),
+            None => "",
+        };
+        match self.options.insert(name.into(), value.into()) {
+            Some(_) => Err(bad(command, format!("{name} is given twice; write it once"))),
+            None => Ok(()),
+        }
     }
 
     /// The argument at an index, or standard input.
@@ -91,6 +110,6 @@ impl Arguments {
 }
 
 fn bad(command: &Command, what: String) -> Failure {
-    let name = command.name;
-    Failure::usage(format!("{name}: {what}; `raskjomi {name} --help` tells what it takes"))
+    let Command { name, usage, .. } = command;
+    Failure::usage(format!("{name}: {what}; usage: raskjomi {usage}, see raskjomi {name} --help"))
 }

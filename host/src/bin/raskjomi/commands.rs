@@ -3,10 +3,11 @@
 use crate::analysis::{members, Game, Merged};
 use crate::arguments::{Arguments, Form};
 use crate::failure::Failure;
-use crate::help::{self, COMMANDS};
-use crate::input::{Input, Unit};
+use crate::help::{self, Command, COMMANDS};
+use crate::input::{number, Input, Unit};
 use crate::locate::{plan_refused, relation_refused};
-use crate::{dot as picture, text};
+use crate::table::Table;
+use crate::{dot as picture, tell, text};
 use raskjomi::Kind;
 
 /// What a command writes to standard output, or how it fails.
@@ -18,16 +19,20 @@ pub fn run(words: &[String]) -> Written {
         return Err(Failure::usage("no command; `raskjomi --help` lists the commands"));
     };
     if matches!(name.as_str(), "--help" | "-h" | "help") {
-        return Ok(help::overview().into());
+        let help = rest.first().map_or(Ok(help::overview()), |name| named(name).map(help::of))?;
+        return Ok(help.into());
     }
-    let command = COMMANDS.iter().find(|command| command.name == name);
-    let command = command.ok_or_else(|| {
-        Failure::usage(format!("no command `{name}`; `raskjomi --help` lists the commands"))
-    })?;
+    let command = named(name)?;
     if rest.iter().any(|word| matches!(word.as_str(), "--help" | "-h")) {
         return Ok(help::of(command).into());
     }
     (command.run)(&Arguments::parse(command, rest)?)
+}
+
+fn named(name: &str) -> Result<&'static Command, Failure> {
+    COMMANDS.iter().find(|command| command.name == name).ok_or_else(|| {
+        Failure::usage(format!("no command `{name}`; `raskjomi --help` lists the commands"))
+    })
 }
 
 /// `report`: the lines of the report program, or a sentence on one vertex.
@@ -50,11 +55,11 @@ pub fn report(arguments: &Arguments) -> Written {
 /// The vertex's class, its other members, and what that means for a win.
 fn vertex_sentence(game: &Game, reduced: &Merged, vertex: &str) -> Result<String, Failure> {
     let last = game.table().n() - 1;
-    let v = vertex.parse::<usize>().ok().filter(|&v| v <= last).ok_or_else(|| {
+    let v = number(vertex, last as u16).ok_or_else(|| {
         Failure::usage(format!(
             "no vertex `{vertex}`; write --vertex with a number from 0 to {last}"
         ))
-    })?;
+    })? as usize;
     let class = reduced.classes[v];
     let mut others = members(&reduced.classes).swap_remove(class as usize);
     others.retain(|&other| other != v);
@@ -128,13 +133,26 @@ fn two_inputs(arguments: &Arguments, unit: Unit) -> Result<(Input, Input), Failu
     Ok((Input::read(arguments.file(0), Unit::Word)?, Input::read(arguments.file(1), unit)?))
 }
 
-/// `check-relation`.
+/// `check-relation`. Like the library, it judges the first n × n marks alone.
 pub fn check_relation(arguments: &Arguments) -> Written {
     let (game, relation) = two_inputs(arguments, Unit::Byte)?;
     let marks: Vec<u8> = relation.numbers.iter().map(|&mark| mark as u8).collect();
-    match raskjomi::accept_relation(&game.numbers, &marks) {
+    let verdict = raskjomi::accept_relation(&game.numbers, &marks);
+    if !verdict.is_err_and(|refusal| refusal.kind() == Kind::Game) {
+        tell_surplus(&relation, Table::new(&game.numbers).n().pow(2));
+    }
+    match verdict {
         Ok(()) => Ok("accepted\n".into()),
         Err(refusal) => Err(relation_refused(refusal, &game, &relation).with_verdict()),
+    }
+}
+
+/// A relation with more marks than pairs may belong to another game.
+fn tell_surplus(relation: &Input, pairs: usize) {
+    let count = relation.numbers.len();
+    if count > pairs {
+        let place = relation.at(pairs, "");
+        tell(&format!("{place}: only the first {pairs} of {count} marks are judged"));
     }
 }
 
@@ -151,7 +169,7 @@ pub fn check_plan(arguments: &Arguments) -> Written {
 /// `explain`.
 pub fn explain(arguments: &Arguments) -> Written {
     let word = arguments.file(0);
-    let number = word.parse::<u32>().ok();
+    let number = number(word, u16::MAX).map(u32::from);
     let (number, told) =
         number.and_then(|n| Some((n, raskjomi::explain(n)?))).ok_or_else(|| {
             Failure::usage(format!("`{word}` is no refusal number; they are 1 to 16 and 21 to 24"))

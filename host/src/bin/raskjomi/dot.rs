@@ -22,15 +22,15 @@ fn edges(table: &Table) -> Vec<String> {
     table.edges().map(|(source, target)| format!("{source} -> {target};")).collect()
 }
 
-/// The game; a frame holds the members of a class that has several.
+/// The game; a frame holds the members of a class that has several, a single one names its class.
 pub fn game(table: &Table, classes: &[u16]) -> String {
     let mut lines = Vec::new();
     for (class, members) in members(classes).iter().enumerate() {
-        let nodes: Vec<String> = members.iter().map(|&v| node(table, v, &v.to_string())).collect();
-        if members.len() == 1 {
-            lines.extend(nodes);
+        if let [v] = members[..] {
+            lines.push(node(table, v, &format!("{v} (class {class})")));
             continue;
         }
+        let nodes: Vec<String> = members.iter().map(|&v| node(table, v, &v.to_string())).collect();
         let mut frame = format!("subgraph cluster_{class} {{ label=\"class {class}\"; ");
         nodes.iter().for_each(|node| write!(frame, "{node} ").expect("a string takes all"));
         lines.push(frame + "}");

@@ -26,11 +26,12 @@ pub struct Command {
 const AS: &[Opt] = &[Opt { name: "--as", value: Some("text, words or dot") }];
 
 /// How games are given, for every command that takes one.
-const GAMES: &str = "A game comes from a file, or from standard input where no file or - is named: \
-                     16-bit words, low byte first, or decimal text with numbers between blanks or \
-                     slashes and comments after #. Which of the two it is shows by itself. The words \
-                     are: number of vertices, number of edges, priorities, owners (0 Even, 1 Odd), \
-                     sources of the edges, targets of the edges.";
+const GAMES: &str = "A game comes from a file, or from standard input, whose name is -; where the \
+                     usage has [GAME], naming none means standard input, too. It is decimal text, \
+                     with numbers between blanks or slashes and comments after #, or binary, 16-bit \
+                     words, low byte first: an input with a control character other than a blank is \
+                     binary. The words are: number of vertices, number of edges, priorities, owners \
+                     (0 Even, 1 Odd), sources of the edges, targets of the edges.";
 
 /// The commands, in the sequence of the help.
 pub const COMMANDS: [Command; 9] = [
@@ -41,7 +42,7 @@ pub const COMMANDS: [Command; 9] = [
         details:
             "With --vertex, one sentence on the vertex: its class, who else is in it, and what \
                   that means for a win.",
-        example: "raskjomi report games/b.txt --vertex 2",
+        example: "./raskjomi report games/b.txt --vertex 2",
         files: 0..=1,
         options: &[Opt { name: "--vertex", value: Some("a vertex") }],
         run: commands::report,
@@ -53,7 +54,7 @@ pub const COMMANDS: [Command; 9] = [
         details:
             "Text: a row of marks for each vertex. Words: the marks as bytes. Dot: an arrow from \
                   each vertex to those that it is below.",
-        example: "raskjomi order games/c.txt",
+        example: "./raskjomi order games/c.txt",
         files: 0..=1,
         options: AS,
         run: commands::order,
@@ -62,8 +63,10 @@ pub const COMMANDS: [Command; 9] = [
         name: "classes",
         usage: "classes [GAME] [--as text|words|dot]",
         summary: "the class of each vertex",
-        details: "Words: a word for each vertex. Dot: the game with its classes.",
-        example: "raskjomi classes games/lift-doors.txt",
+        details:
+            "Text: the members of each class as comments, then the class of each vertex. Words: a word for each vertex, its \
+                  class. Dot: the game with its classes.",
+        example: "./raskjomi classes games/lift-doors.txt",
         files: 0..=1,
         options: AS,
         run: commands::classes,
@@ -72,8 +75,10 @@ pub const COMMANDS: [Command; 9] = [
         name: "quotient",
         usage: "quotient [GAME] [--as text|words|dot]",
         summary: "the quotient game, a vertex for each class",
-        details: "Text and words are game tables, which every command reads.",
-        example: "raskjomi quotient games/d.txt",
+        details:
+            "Text and words are game tables, which every command reads. Dot: a picture of it, \
+                  with the members of each class.",
+        example: "./raskjomi quotient games/d.txt",
         files: 0..=1,
         options: AS,
         run: commands::quotient,
@@ -82,8 +87,10 @@ pub const COMMANDS: [Command; 9] = [
         name: "reduce",
         usage: "reduce [GAME] [--as text|words|dot]",
         summary: "the reduced game: the quotient without edges that its players have no use for",
-        details: "Text and words are game tables, which every command reads.",
-        example: "raskjomi reduce games/lift-doors.txt",
+        details:
+            "Text and words are game tables, which every command reads. Dot: a picture of it, \
+                  with the members of each class.",
+        example: "./raskjomi reduce games/lift-doors.txt",
         files: 0..=1,
         options: AS,
         run: commands::reduce,
@@ -94,8 +101,8 @@ pub const COMMANDS: [Command; 9] = [
         summary: "whether a relation is a direct simulation",
         details:
             "The relation is given as n × n marks in rows, 1 for a pair that is in it, else 0: \
-                  bytes, or decimal text. The output of `order` is one.",
-        example: "raskjomi order games/c.txt | raskjomi check-relation games/c.txt -",
+                  bytes, or decimal text. The output of `order` is one. Marks beyond are ignored.",
+        example: "./raskjomi order games/c.txt | ./raskjomi check-relation games/c.txt -",
         files: 2..=2,
         options: &[],
         run: commands::check_relation,
@@ -107,7 +114,8 @@ pub const COMMANDS: [Command; 9] = [
         details:
             "The plan is given as words or decimal text: number of positions, number of links, \
                   the vertex of each position, sources of the links, targets of the links.",
-        example: "raskjomi check-plan games/lift-doors.txt games/lift-doors.plan.txt --player even",
+        example:
+            "./raskjomi check-plan games/lift-doors.txt games/lift-doors.plan.txt --player even",
         files: 2..=2,
         options: &[Opt { name: "--player", value: Some("even or odd") }],
         run: commands::check_plan,
@@ -116,8 +124,8 @@ pub const COMMANDS: [Command; 9] = [
         name: "explain",
         usage: "explain NUMBER",
         summary: "what a refusal number means, what its place counts, and what to do",
-        details: "",
-        example: "raskjomi explain 8",
+        details: "A refused input gets one of the numbers 1 to 16 and 21 to 24.",
+        example: "./raskjomi explain 8",
         files: 1..=1,
         options: &[],
         run: commands::explain,
@@ -127,7 +135,7 @@ pub const COMMANDS: [Command; 9] = [
         usage: "dot [GAME] [--reduced]",
         summary: "Graphviz text of the game with its classes, or of the reduced game",
         details: "Even's vertices are diamonds, Odd's are boxes.",
-        example: "raskjomi dot games/d.txt | dot -Tsvg > d.svg",
+        example: "./raskjomi dot games/d.txt | dot -Tsvg > d.svg",
         files: 0..=1,
         options: &[Opt { name: "--reduced", value: None }],
         run: commands::dot,
@@ -142,7 +150,8 @@ pub fn overview() -> String {
         text += &format!("  {:15} {}\n", command.name, command.summary);
     }
     text += "\n`raskjomi COMMAND --help` tells more, with an example.\n";
-    text + "Exit status: 0 accepted, 1 refused, 2 bad usage.\n\n" + &wrapped(GAMES)
+    text + "Exit status: 0 accepted, 1 refused, 2 bad usage, an unreadable file or a bad word.\n\n"
+        + &wrapped(GAMES)
 }
 
 /// The help of one command.

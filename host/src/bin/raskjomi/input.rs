@@ -1,7 +1,7 @@
 //! Numbers from a file or standard input, binary or decimal text, with the places where they stand.
 
 use crate::failure::Failure;
-use std::fs;
+use std::fs::File;
 use std::io::{self, Read};
 
 /// What a number of the input is.
@@ -13,67 +13,86 @@ pub enum Unit {
     Byte,
 }
 
-/// The numbers of an input, and for text the line and the word of each, both counted from 1.
+/// Where the numbers stand.
+#[derive(Debug)]
+enum Places {
+    /// The line and the word of each number, both counted from 1.
+    Text(Vec<(usize, usize)>),
+    /// One after the other; this byte, counted from 0, is the first that no text has.
+    Binary(usize),
+}
+
+/// The numbers of an input.
 #[derive(Debug)]
 pub struct Input {
     pub name: String,
     pub numbers: Vec<u16>,
     unit: Unit,
-    places: Option<Vec<(usize, usize)>>,
+    places: Places,
 }
+
+/// The most bytes of an input: 16 MiB, with much room for comments.
+const MOST_BYTES: usize = 1 << 24;
 
 impl Input {
     /// Reads a file, or standard input where the path is `-`.
     pub fn read(path: &str, unit: Unit) -> Result<Input, Failure> {
         let name = if path == "-" { "standard input" } else { path };
-        let bytes = if path == "-" { standard_input() } else { fs::read(path) };
-        let bytes = bytes.map_err(|error| {
+        let name = name.replace(char::is_control, "?");
+        let bytes = bytes(path).map_err(|error| {
             Failure::usage(format!(
                 "{name}: {error}; name a file that can be read, or - for standard input"
             ))
         })?;
-        match as_text(&bytes) {
-            Some(text) => from_text(name, text, unit),
-            None => {
-                let numbers = from_binary(&bytes, unit);
-                Ok(Input { name: name.into(), numbers, unit, places: None })
-            }
-        }
+        let Some(byte) = not_of_text(&bytes) else { return from_text(name, &bytes, unit) };
+        let numbers = from_binary(&bytes, unit);
+        Ok(Input { name, numbers, unit, places: Places::Binary(byte) })
     }
 
-    /// Where a number stands, in words.
-    pub fn at(&self, index: usize) -> String {
-        let place = match &self.places {
-            _ if index >= self.numbers.len() => self.end(),
-            Some(places) => format!("line {}, word {}", places[index].0, places[index].1),
-            None if self.unit == Unit::Byte => format!("byte {index} from 0"),
-            None => format!("word {index} from 0"),
-        };
-        format!("{}: {place}", self.name)
-    }
-
-    /// Where the input ends, in words.
-    fn end(&self) -> String {
+    /// Where a number stands, or where the input ends, in words and with a detail.
+    pub fn at(&self, index: usize, detail: &str) -> String {
         let count = self.numbers.len();
-        match self.places.as_ref().and_then(|places| places.last()) {
-            Some((line, word)) => format!("after line {line}, word {word}, the last of {count}"),
-            None => format!("after the last of {count} words"),
+        let place = match count {
+            0 => "no number in it".to_string(),
+            _ if index < count => self.place(index),
+            _ => format!("after {}, the last of {count}", self.place(count - 1)),
+        };
+        let detail = if detail.is_empty() { String::new() } else { format!(" ({detail})") };
+        let form = match self.places {
+            Places::Text(_) => String::new(),
+            Places::Binary(byte) => {
+                format!(", read as binary since byte {byte} is a control character")
+            }
+        };
+        format!("{}: {place}{detail}{form}", self.name)
+    }
+
+    fn place(&self, index: usize) -> String {
+        match (&self.places, self.unit) {
+            (Places::Text(places), _) => {
+                format!("line {}, word {}", places[index].0, places[index].1)
+            }
+            (Places::Binary(_), Unit::Word) => format!("word {index} from 0"),
+            (Places::Binary(_), Unit::Byte) => format!("byte {index} from 0"),
         }
     }
 }
 
-fn standard_input() -> io::Result<Vec<u8>> {
+fn bytes(path: &str) -> io::Result<Vec<u8>> {
+    let source: Box<dyn Read> =
+        if path == "-" { Box::new(io::stdin()) } else { Box::new(File::open(path)?) };
     let mut bytes = Vec::new();
-    io::stdin().read_to_end(&mut bytes)?;
+    source.take(MOST_BYTES as u64 + 1).read_to_end(&mut bytes)?;
+    if bytes.len() > MOST_BYTES {
+        return Err(io::Error::other("more than 16 MiB"));
+    }
     Ok(bytes)
 }
 
-/// The input as text, if it is UTF-8 without control characters. Any table, relation or plan that
-/// the library accepts has a byte 0 or 1 in its binary form, so it isn't taken for text.
-fn as_text(bytes: &[u8]) -> Option<&str> {
-    let text = std::str::from_utf8(bytes).ok()?.trim_start_matches('\u{feff}');
-    let allowed = |c: char| !c.is_control() || matches!(c, '\t' | '\n' | '\r' | '\x0c');
-    text.chars().all(allowed).then_some(text)
+/// The first control character that isn't a blank. Any table, relation or plan that the library
+/// accepts has a byte 0 or 1 in its binary form, so it isn't taken for text.
+fn not_of_text(bytes: &[u8]) -> Option<usize> {
+    bytes.iter().position(|byte| byte.is_ascii_control() && !byte.is_ascii_whitespace())
 }
 
 /// Words low byte first, a last half word with high byte 0; or the bytes as they are.
@@ -82,31 +101,37 @@ fn from_binary(bytes: &[u8], unit: Unit) -> Vec<u16> {
     bytes.chunks(if unit == Unit::Word { 2 } else { 1 }).map(number).collect()
 }
 
-/// Decimal numbers between blanks and slashes; `#` starts a comment.
-fn from_text(name: &str, text: &str, unit: Unit) -> Result<Input, Failure> {
+/// Decimal numbers between blanks and slashes; `#` starts a comment, in any encoding.
+fn from_text(name: String, bytes: &[u8], unit: Unit) -> Result<Input, Failure> {
     let most = if unit == Unit::Word { u16::MAX } else { u8::MAX as u16 };
+    let text = String::from_utf8_lossy(bytes);
     let (mut numbers, mut places) = (Vec::new(), Vec::new());
-    for (line, content) in text.lines().enumerate() {
+    for (line, content) in text.trim_start_matches('\u{feff}').lines().enumerate() {
         let content = content.split('#').next().unwrap_or_default();
         let words =
             content.split(|c: char| c.is_whitespace() || c == '/').filter(|word| !word.is_empty());
         for (word, digits) in words.enumerate() {
             let place = (line + 1, word + 1);
-            numbers.push(number(digits, most).ok_or_else(|| bad_word(name, place, digits, most))?);
+            numbers.push(number(digits, most).ok_or_else(|| bad_word(&name, place, digits, most))?);
             places.push(place);
         }
     }
-    Ok(Input { name: name.into(), numbers, unit, places: Some(places) })
+    Ok(Input { name, numbers, unit, places: Places::Text(places) })
 }
 
-fn number(digits: &str, most: u16) -> Option<u16> {
+/// A decimal number, digits alone.
+pub fn number(digits: &str, most: u16) -> Option<u16> {
     let decimal = digits.bytes().all(|byte| byte.is_ascii_digit());
     digits.parse().ok().filter(|&number| decimal && number <= most)
 }
 
 fn bad_word(name: &str, (line, word): (usize, usize), digits: &str, most: u16) -> Failure {
+    let mut shown: String = digits.chars().take(24).collect();
+    if shown.len() < digits.len() {
+        shown += "..";
+    }
     Failure::usage(format!(
-        "{name}: line {line}, word {word}: `{digits}` is no number from 0 to {most}; write decimal \
+        "{name}: line {line}, word {word}: `{shown}` is no number from 0 to {most}; write decimal \
          numbers between blanks or slashes, and comments after #"
     ))
 }

@@ -7,23 +7,36 @@ use raskjomi::{Kind, Refusal};
 /// A refusal of the game, told with its place in the game's file.
 pub fn game_refused(refusal: Refusal, game: &Input) -> Failure {
     let place = refusal.place;
-    tell(
-        refusal,
-        &match refusal.number {
-            8 => format!("{} (vertex {place})", game.at(2 + place)),
-            _ => game.at(place),
-        },
-    )
+    let number = |index: usize| game.numbers[index] as usize;
+    let (index, detail) = match refusal.number {
+        2 => (place, format!("n is {}", number(0))),
+        3 => (place, format!("m is {}", number(1))),
+        4 => {
+            let (n, m) = (number(0), number(1));
+            (place, format!("n is {n} and m is {m}, so {} words", 2 + 2 * n + 2 * m))
+        }
+        5 => (place, format!("owner {}", number(place))),
+        6 => (place, format!("vertex {}", number(place))),
+        7 => (place, format!("edge {} to {}", number(place), number(place + number(1)))),
+        8 => (2 + place, format!("vertex {place}")),
+        _ => (place, String::new()),
+    };
+    tell(refusal, game.at(index, &detail))
 }
 
-/// A refusal of a relation on a game of n vertices, or of the game itself.
+/// A refusal of a relation, or of the game itself.
 pub fn relation_refused(refusal: Refusal, game: &Input, relation: &Input) -> Failure {
-    let (place, n) = (refusal.place, game.numbers.first().map_or(1, |&n| n.max(1) as usize));
-    match refusal.number {
-        10 => tell(refusal, &format!("{} (pair {}, {})", relation.at(place), place / n, place % n)),
-        9 | 21 => tell(refusal, &relation.at(place)),
-        _ => game_refused(refusal, game),
-    }
+    let place = refusal.place;
+    let detail = match refusal.number {
+        9 => format!("mark {}", relation.numbers[place]),
+        10 => {
+            let n = game.numbers[0] as usize;
+            format!("pair {}, {}", place / n, place % n)
+        }
+        21 => format!("{place} marks are needed"),
+        _ => return game_refused(refusal, game),
+    };
+    tell(refusal, relation.at(place, &detail))
 }
 
 /// A refusal of a plan, or of the game itself.
@@ -31,18 +44,30 @@ pub fn plan_refused(refusal: Refusal, game: &Input, plan: &Input) -> Failure {
     if refusal.kind() == Kind::Game {
         return game_refused(refusal, game);
     }
-    let (place, positions) = (refusal.place, plan.numbers.first().map_or(0, |&p| p as usize));
-    tell(
-        refusal,
-        &match refusal.number {
-            14 => format!("{} (link {place})", plan.at(2 + positions + place)),
-            15 | 16 => format!("{} (position {place})", plan.at(2 + place)),
-            _ => plan.at(place),
-        },
-    )
+    let (place, count) = (refusal.place, plan.numbers.len());
+    let number = |index: usize| plan.numbers[index] as usize;
+    let vertex = |position: usize| number(2 + position);
+    let (index, detail) = match refusal.number {
+        12 if count >= 2 => {
+            let (p, l) = (number(0), number(1));
+            let needed = 2 + p + 2 * l;
+            (place, format!("p is {p} and l is {l}, so {needed} words, and it has {count}"))
+        }
+        13 if place < 2 + number(0) => (place, format!("vertex {}", number(place))),
+        13 => (place, format!("position {}", number(place))),
+        14 => {
+            let source = 2 + number(0) + place;
+            let (v, w) = (vertex(number(source)), vertex(number(source + number(1))));
+            (source, format!("link {place}, from vertex {v} to {w}"))
+        }
+        15 | 16 => (2 + place, format!("position {place}, at vertex {}", vertex(place))),
+        _ => (place, String::new()),
+    };
+    tell(refusal, plan.at(index, &detail))
 }
 
 /// Place, refusal and remedy in one line.
-fn tell(refusal: Refusal, place: &str) -> Failure {
-    Failure::refused(refusal, format!("{place}: {refusal}; {}", refusal.explanation().remedy))
+fn tell(refusal: Refusal, place: String) -> Failure {
+    let remedy = refusal.explanation().remedy;
+    Failure::refused(refusal, format!("{place}: {refusal}; {remedy}"))
 }

@@ -13,27 +13,36 @@ mod table;
 mod text;
 
 use std::env;
-use std::io::{self, Write};
+use std::io::{self, ErrorKind, Write};
 use std::process::ExitCode;
 
 fn main() -> ExitCode {
     let words: Vec<String> =
         env::args_os().skip(1).map(|word| word.to_string_lossy().into()).collect();
-    match commands::run(&words) {
-        Ok(output) => {
-            print(&output);
-            ExitCode::SUCCESS
-        }
-        Err(failure) => {
-            print(failure.output.as_bytes());
-            eprintln!("raskjomi: {}", failure.message);
-            ExitCode::from(failure.status)
-        }
+    let (output, message, status) = match commands::run(&words) {
+        Ok(output) => (output, None, 0),
+        Err(failure) => (failure.output.into(), Some(failure.message), failure.status),
+    };
+    if let Err(error) = print(&output) {
+        tell(&format!("standard output: {error}; write it where there is room"));
+        return ExitCode::from(2);
     }
+    if let Some(message) = message {
+        tell(&message);
+    }
+    ExitCode::from(status)
 }
 
 /// Writes to standard output; a reader that has gone away is no error of ours.
-fn print(output: &[u8]) {
+fn print(output: &[u8]) -> io::Result<()> {
     let mut out = io::stdout().lock();
-    let _ = out.write_all(output).and_then(|()| out.flush());
+    match out.write_all(output).and_then(|()| out.flush()) {
+        Err(error) if error.kind() == ErrorKind::BrokenPipe => Ok(()),
+        result => result,
+    }
+}
+
+/// Writes a line to standard error; where that fails too, the exit status has to do.
+fn tell(message: &str) {
+    let _ = writeln!(io::stderr(), "raskjomi: {message}");
 }

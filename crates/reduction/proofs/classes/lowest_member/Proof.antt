@@ -1,6 +1,5 @@
 use mathlib.Core.Path.{_≡_, refl, sym, _∙_}
-use Prim.Native.Nat.{_+_, _-_, _≤_}
-use native.Mathlib.Omega.{arith}
+use Prim.Native.Nat.{_-_, _≤_}
 use Rattle.theory.specs.RangeLaws.{first-step, first-hit, first-end}
 use Rattle.theory.specs.Range.{first}
 use Rattle.theory.specs.Reduction.{sameClass, lowest}

@@ -1,9 +1,9 @@
 use Rattle.reduction.specs.NumberingLaws.{numbered-start}
 use mathlib.Core.Path.{_≡_, ap, _∙_}
-use Prim.Native.Nat.{_+_, _-_, _≤_}
+use Prim.Native.Nat.{_-_, _≤_}
 use native.Mathlib.Omega.{arith}
 use lib.ListN.{length, length-set}
-use Rattle.theory.specs.Range.{tabulate, count}
+use Rattle.theory.specs.Range.{tabulate}
 use Rattle.theory.specs.Reduction.{classOf}
 use Rattle.table.specs.Table.{vertexCount, gameOf}
 use Rattle.table.specs.Verdict.{written}

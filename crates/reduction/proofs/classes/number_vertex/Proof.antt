@@ -1,7 +1,7 @@
-use mathlib.Core.Path.{_≡_, refl, sym, ap, _∙_}
-use Prim.Native.Nat.{_+_, _≤_, _<_}
+use mathlib.Core.Path.{_≡_, sym, ap, _∙_}
+use Prim.Native.Nat.{_≤_, _<_}
 use native.Mathlib.Omega.{arith}
-use lib.ListN.{length, getD, set}
+use lib.ListN.{set}
 use Rattle.theory.specs.Order.{order}
 use Rattle.theory.specs.Reduction.{lowest}
 use Rattle.table.specs.Table.{gameOf}
@@ -99,7 +99,8 @@ returns-2 c =
     let s = start a in
     let d = rw (low a) at (c .before .if1 .left) in
     let p = s .pre .1 .1 in
-    rw (low a) (ap (set (s .args .classes .now) (s .args .v)) (class-old _ _ _ _ _ (p .1) (p .0 .0) d), numbered-old _ _ _ _ _ (p .1) (p .0 .0) d (omega arith))
+    let e = class-old _ _ _ _ _ (p .1) (p .0 .0) d _ (low a) in
+    (ap (set (s .args .classes .now) (s .args .v)) e, numbered-old _ _ _ _ _ (p .1) (p .0 .0) d _ e (omega arith))
 
 pub number-vertex-spec : {M : Type 1} → statement M
 number-vertex-spec =

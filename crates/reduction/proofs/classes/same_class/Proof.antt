@@ -5,7 +5,6 @@ use Rattle.theory.specs.Bools.{_&_}
 use Rattle.theory.specs.Passes.{relOf}
 use Rattle.theory.specs.Reduction.{sameClass}
 use Rattle.order.specs.Bytes.{isMark, relation}
-use borrow.Author.Needs.{needs}
 use Rattle.reduction.proofs.classes.same_class.Statement.{statement}
 use Rattle.reduction.proofs.classes.same_class.Tie as tie
 

@@ -1,15 +1,14 @@
 use Rattle.reduction.specs.Rows.{keeps, picked, gameBy}
 use mathlib.Core.List.{List}
 use Rattle.table.specs.Verdict.{written}
-use Rattle.reduction.specs.RivalsLaws.{row-all, row-few, row-inside, row-best}
+use Rattle.reduction.specs.LittleBrothersLaws.{row-all, row-few, row-inside, row-best}
 use Rattle.order.specs.CountingLaws.{zeros}
 use lib.ListN.{length, getD}
 use Prim.Native.Nat.{ℕ, _≤_, _<_}
-use mathlib.Core.Path.{_≡_, refl, sym, ap, _∙_}
+use mathlib.Core.Path.{_≡_, ap, _∙_}
 use mathlib.Core.Logic.{⊎-elim}
-use Prim.Native.Nat.{_≤_, _<_}
 use native.Mathlib.Omega.{arith}
-use Rattle.table.specs.Table.{vertexCount, gameOf}
+use Rattle.table.specs.Table.{gameOf}
 use Rattle.reduction.specs.NumberingLaws.{classes-few}
 use borrow.Author.Needs.{needs}
 use Rattle.reduction.proofs.rows.class_row.Statement.{statement}
@@ -25,7 +24,7 @@ few s = omega (arith, s .pre .1 .1, classes-few (s .args .game .now) (s .pre .0 
 abbrev counted-at : tie.Joined1 → tie.After-count-members
 counted-at j = j .before .before .before .before .before .before
 
--- the quotient's row, and with it the rivals
+-- the quotient's row, to compare with
 abbrev edges-at : tie.Joined1 → List ℕ
 edges-at j = j .before .before .collect .last .1 .1 .1 .1 .1 .1 .1 .1 .1 .0
 
@@ -33,7 +32,7 @@ abbrev counts-at : tie.Joined1 → List ℕ
 counts-at j = counted-at j .count-members .last .1 .1 .1 .1 .1 .0
 
 inside : (j : tie.Joined1)
-    → (j .if1 .rivals ≤ length (edges-at j)) × ((i : ℕ) → i < j .if1 .rivals → getD (edges-at j) i 0 < start (counted-at j .before) .args .k)
+    → (j .if1 .compared ≤ length (edges-at j)) × ((i : ℕ) → i < j .if1 .compared → getD (edges-at j) i 0 < start (counted-at j .before) .args .k)
 unfolding gameOf
 inside j =
     let a = counted-at j in
@@ -46,11 +45,11 @@ inside j =
     (λ w. (omega (arith, w), λ i h. absurd (omega (arith, w))))
     (j .if1 .came)
 
--- what is collected with these rivals
+-- what is collected, compared with these edges
 row-is : (j : tie.Joined1)
     → let s = start (counted-at j .before) in
     let G = gameOf (s .args .game .now) in
-    picked (s .args .k) (keeps G (counts-at j) (counted-at j .count-members .result) (edges-at j) (j .if1 .rivals) (s .args .c))
+    picked (s .args .k) (keeps G (counts-at j) (counted-at j .count-members .result) (edges-at j) (j .if1 .compared) (s .args .c))
     ≡ picked (s .args .k) (gameBy (s .args .drop) G .edge (s .args .c))
 unfolding gameOf
 row-is j =

@@ -1,5 +1,5 @@
-use mathlib.Core.Path.{_≡_, refl, sym, ap, _∙_}
-use Prim.Native.Nat.{_+_, _-_, _≤_, _<_}
+use mathlib.Core.Path.{_≡_, refl, _∙_}
+use Prim.Native.Nat.{_-_, _≤_}
 use native.Mathlib.Omega.{arith}
 use lib.ListN.{length}
 use Rattle.table.specs.Verdict.{written}
@@ -11,11 +11,11 @@ use Rattle.reduction.proofs.rows.collect.Statement.{statement}
 use Rattle.reduction.proofs.rows.collect.Tie as tie
 
 abbrev Inv-loop : tie.InvT-loop
-Inv-loop game marks reps counts s rivals q c k row₀ r₀ d₀ row r d =
-    (d ≤ k) × (length row ≡ length row₀) × (r ≡ length (picked d (keeps (gameOf game) counts s rivals q c))) × (row ≡ written (picked d (keeps (gameOf game) counts s rivals q c)) row₀)
+Inv-loop game marks reps counts s edges q c k row₀ r₀ d₀ row r d =
+    (d ≤ k) × (length row ≡ length row₀) × (r ≡ length (picked d (keeps (gameOf game) counts s edges q c))) × (row ≡ written (picked d (keeps (gameOf game) counts s edges q c)) row₀)
 
 abbrev μ-loop : tie.MeasureT-loop
-μ-loop game marks reps counts s rivals q c k row₀ r₀ d₀ row r d = k - d
+μ-loop game marks reps counts s edges q c k row₀ r₀ d₀ row r d = k - d
 
 abbrev start : tie.In-loop Inv-loop μ-loop → tie.Start Inv-loop μ-loop
 start c = c .before .before .before .before .before .before .before .before
@@ -24,7 +24,7 @@ start c = c .before .before .before .before .before .before .before .before
 few : (c : tie.In-loop Inv-loop μ-loop) → c .before .loop .r ≤ c .before .loop .d
 few c =
     let a = start c .args in
-    omega (arith, c .before .loop .inv .2, length-picked (keeps (gameOf (a .game .now)) (a .counts .now) (a .s) (a .rivals .now) (a .q) (a .c)) (c .before .loop .d))
+    omega (arith, c .before .loop .inv .2, length-picked (keeps (gameOf (a .game .now)) (a .counts .now) (a .s) (a .edges .now) (a .q) (a .c)) (c .before .loop .d))
 
 loop-holds : tie.Need-loop-holds Inv-loop μ-loop
 unfolding picked written

@@ -17,13 +17,13 @@ returns : tie.Need-returns
 unfolding keeps _&_
 returns c = rw (ne-eqb _ _ (c .if1 .taken))
 
-is-beaten-requires : tie.Need-is-beaten-requires
-is-beaten-requires c κs = let p = c .before .before .before .before .before .before .before .pre in (p .0, (p .1 .0, ((p .1 .1 .0 .0, p .1 .1 .0 .1), p .1 .1 .1)))
+is-dropped-requires : tie.Need-is-dropped-requires
+is-dropped-requires c κs = let p = c .before .before .before .before .before .before .before .pre in (p .0, (p .1 .0, ((p .1 .1 .0 .0, p .1 .1 .0 .1), p .1 .1 .1)))
 
 returns-2 : tie.Need-returns-2
 unfolding keeps _&_
-returns-2 c = rw (eq-eqb _ _ (c .before .if1 .left)) (ap not (c .is-beaten .ensures))
+returns-2 c = rw (eq-eqb _ _ (c .before .if1 .left)) (ap not (c .is-dropped .ensures))
 
 pub is-kept-spec : {M : Type 1} → statement M
 is-kept-spec =
-    tie.close (tie.spec mul-if1 shared-slice-read-if1 returns is-beaten-requires returns-2)
+    tie.close (tie.spec mul-if1 shared-slice-read-if1 returns is-dropped-requires returns-2)

@@ -1,7 +1,5 @@
-use mathlib.Core.Path.{_≡_}
 use Prim.Native.Nat.{_≤_}
 use native.Mathlib.Omega.{arith}
-use lib.ListN.{length}
 use Rattle.table.specs.Table.{gameOf}
 use Rattle.reduction.specs.Rows.{gameBy}
 use Rattle.reduction.specs.PickedLaws.{length-picked}

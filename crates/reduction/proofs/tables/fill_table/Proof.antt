@@ -1,7 +1,6 @@
 use mathlib.Core.Path.{_≡_}
 use Prim.Native.Nat.{_≤_}
 use native.Mathlib.Omega.{arith}
-use lib.ListN.{length}
 use Rattle.order.specs.CountingLaws.{zeros}
 use Rattle.table.specs.Table.{vertexCount, tableEdges, gameOf}
 use Rattle.theory.specs.Order.{order}

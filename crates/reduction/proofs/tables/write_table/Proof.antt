@@ -1,6 +1,5 @@
-use native.Mathlib.Nat.{le-refl}
 use mathlib.Core.Path.{_≡_, refl, _∙_}
-use Prim.Native.Nat.{ℕ, _+_, _≤_, _<_}
+use Prim.Native.Nat.{ℕ, _≤_, _<_}
 use native.Mathlib.Omega.{arith}
 use lib.ListN.{length, getD, length-set}
 use Rattle.theory.specs.ListLaws.{length-tabulate}
@@ -18,12 +17,10 @@ start c = c .before .before .before .before .before .before
 few : (s : tie.Start) → s .args .k ≤ 256
 few s = omega (arith, s .pre .0 .2, classes-few (s .args .game .now) (s .pre .0 .0))
 
--- the words of a representative are in the table
-inside : (s : tie.Start) (from i : ℕ) → from ≤ 2 + vertexCount (s .args .game .now) → i < s .args .k
-    → from + getD (s .args .reps .now) i 0 < length (s .args .game .now)
+-- a representative is a vertex
+vertex : (s : tie.Start) (i : ℕ) → i < s .args .k → getD (s .args .reps .now) i 0 < vertexCount (s .args .game .now)
 unfolding gameOf
-inside s from i l h =
-    omega (arith, s .pre .0 .0 .size, represented-lt (gameOf (s .args .game .now)) (s .args .reps .now) (s .pre .0 .1) i (omega (arith, s .pre .0 .2)))
+vertex s i h = represented-lt (gameOf (s .args .game .now)) (s .args .reps .now) (s .pre .0 .1) i (omega (arith, s .pre .0 .2)) .1
 
 -- the output keeps its length
 kept1 : (c : tie.After-gather) → length (c .gather .last .0) ≡ length (start (c .before .before) .args .output .now)
@@ -56,7 +53,7 @@ slice-write-output-2 c = simp length-set (omega (arith, start c .pre .1))
 gather-requires : tie.Need-gather-requires
 gather-requires c κs =
     let s = start (c .before) in
-    ((simp length-set (omega (arith, s .pre .1)), omega (arith, s .pre .0 .1 .long, s .pre .0 .2)), λ i h. inside s 2 i (omega arith) h)
+    ((simp length-set (omega (arith, s .pre .1)), omega (arith, s .pre .0 .1 .long, s .pre .0 .2)), λ i h. omega (arith, s .pre .0 .0 .size, vertex s i h))
 
 add-gather : tie.Need-add-gather
 add-gather c = omega (arith, few (start (c .before .before .before .before .before)))
@@ -67,7 +64,7 @@ add-gather-2 c = omega (arith, start (c .before .before .before .before .before)
 gather-requires-2 : tie.Need-gather-requires-2
 gather-requires-2 c κs =
     let s = start (c .before .before .before .before .before) in
-    ((omega (arith, kept1 (c .before .before .before), s .pre .1), omega (arith, s .pre .0 .1 .long, s .pre .0 .2)), λ i h. inside s _ i (le-refl _) h)
+    ((omega (arith, kept1 (c .before .before .before), s .pre .1), omega (arith, s .pre .0 .1 .long, s .pre .0 .2)), λ i h. omega (arith, s .pre .0 .0 .size, vertex s i h))
 
 mul-copy : tie.Need-mul-copy
 mul-copy c = omega (arith, few (start (c .before .before .before .before .before .before .before .before .before)))

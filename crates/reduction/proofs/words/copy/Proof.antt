@@ -1,6 +1,6 @@
 use mathlib.Core.Path.{_≡_}
 use Rattle.reduction.specs.PlacingLaws.{placed-start, placed-more}
-use Prim.Native.Nat.{_+_, _-_, _≤_}
+use Prim.Native.Nat.{_-_, _≤_}
 use native.Mathlib.Omega.{arith}
 use lib.ListN.{length, getD, length-set}
 use Rattle.theory.specs.Range.{tabulate}

@@ -1,4 +1,4 @@
-use mathlib.Core.Path.{_≡_, sym, ap, _∙_}
+use mathlib.Core.Path.{_≡_, _∙_}
 use Prim.Native.Nat.{_+_, _*_, _<_}
 use native.Mathlib.Omega.{arith}
 use lib.Arith.{digits-lt}
@@ -8,10 +8,10 @@ use Rattle.theory.specs.Reduction.{representative}
 use Rattle.theory.specs.Order.{order}
 use Rattle.table.specs.Table.{vertexCount, gameOf, playerOf}
 use Rattle.reduction.specs.NumberingLaws.{represented-lt}
-use Rattle.reduction.specs.RivalsLaws.{even-inside, odd-inside, beaten-even, beaten-odd}
+use Rattle.reduction.specs.LittleBrothersLaws.{even-inside, odd-inside, dropped-even, dropped-odd}
 use borrow.Author.Needs.{needs}
-use Rattle.reduction.proofs.rivals.is_beaten.Statement.{statement}
-use Rattle.reduction.proofs.rivals.is_beaten.Tie as tie
+use Rattle.reduction.proofs.little_brothers.is_dropped.Statement.{statement}
+use Rattle.reduction.proofs.little_brothers.is_dropped.Tie as tie
 
 -- the representatives of c and d are vertices
 low-d : (s : tie.Start) → let a = s .args in (a .d < length (a .reps .now)) × (getD (a .reps .now) (a .d) 0 < vertexCount (a .game .now))
@@ -68,43 +68,43 @@ mul-if1-2 c = let s = c .before .before .before .before .before .before .before 
 shared-slice-read-if1-2 : tie.Need-shared-slice-read-if1-2
 shared-slice-read-if1-2 c = let s = c .before .before .before .before .before .before .before .before in omega (arith, low-c s, s .pre .0 .size)
 
-mul-finds-rival : tie.Need-mul-finds-rival
-mul-finds-rival c = omega (arith, byte-d (c .before .before .before .before .before .before .before .before .before))
+mul-is-little-brother-of-some : tie.Need-mul-is-little-brother-of-some
+mul-is-little-brother-of-some c = omega (arith, byte-d (c .before .before .before .before .before .before .before .before .before))
 
-finds-rival-requires : tie.Need-finds-rival-requires
+is-little-brother-of-some-requires : tie.Need-is-little-brother-of-some-requires
 unfolding gameOf
-finds-rival-requires c κs =
+is-little-brother-of-some-requires c κs =
     let s = c .before .before .before .before .before .before .before .before .before in
     let p = s .pre in
-    (p .1 .1 .1 .0, (λ j h. represented-lt _ _ (p .1 .0 .1) _ (p .1 .1 .1 .1 j h) .0, even-inside _ _ _ (s .args .rivals .now) (p .1 .0 .0) (p .1 .0 .1) _ (s .args .c) _ (p .1 .1 .0 .1) (p .1 .1 .1 .1)))
+    (p .1 .1 .1 .0, (λ j h. represented-lt _ _ (p .1 .0 .1) _ (p .1 .1 .1 .1 j h) .0, even-inside _ _ _ (s .args .edges .now) (p .1 .0 .0) (p .1 .0 .1) _ (s .args .c) _ (p .1 .1 .0 .1) (p .1 .1 .1 .1)))
 
 returns : tie.Need-returns
 unfolding gameOf playerOf
 returns c =
     let s = c .before .before .before .before .before .before .before .before .before .before in
     let p = s .pre in
-    c .finds-rival .ensures
-    ∙ beaten-even _ _ _ _ (p .1 .0 .0) (p .1 .0 .1) _ _ _ (p .1 .1 .0 .1) (p .1 .1 .1 .1)
+    c .is-little-brother-of-some .ensures
+    ∙ dropped-even _ _ _ _ (p .1 .0 .0) (p .1 .0 .1) _ _ _ (p .1 .1 .0 .1) (p .1 .1 .1 .1)
     (rw (← at-rep s, c .before .if1 .taken))
 
-finds-rival-requires-2 : tie.Need-finds-rival-requires-2
+is-little-brother-of-some-requires-2 : tie.Need-is-little-brother-of-some-requires-2
 unfolding gameOf
-finds-rival-requires-2 c κs =
+is-little-brother-of-some-requires-2 c κs =
     let s = c .before .before .before .before .before .before .before .before .before in
     let p = s .pre in
-    (p .1 .1 .1 .0, (λ j h. represented-lt _ _ (p .1 .0 .1) _ (p .1 .1 .1 .1 j h) .0, odd-inside _ _ _ (s .args .rivals .now) (p .1 .0 .0) (p .1 .0 .1) _ (s .args .c) _ (p .1 .1 .0 .1) (p .1 .1 .1 .1)))
+    (p .1 .1 .1 .0, (λ j h. represented-lt _ _ (p .1 .0 .1) _ (p .1 .1 .1 .1 j h) .0, odd-inside _ _ _ (s .args .edges .now) (p .1 .0 .0) (p .1 .0 .1) _ (s .args .c) _ (p .1 .1 .0 .1) (p .1 .1 .1 .1)))
 
 returns-2 : tie.Need-returns-2
 unfolding gameOf playerOf
 returns-2 c =
     let s = c .before .before .before .before .before .before .before .before .before .before in
     let p = s .pre in
-    c .finds-rival2 .ensures
-    ∙ beaten-odd _ _ _ _ (p .1 .0 .0) (p .1 .0 .1) _ _ _ (p .1 .1 .0 .1) (p .1 .1 .1 .1)
+    c .is-little-brother-of-some2 .ensures
+    ∙ dropped-odd _ _ _ _ (p .1 .0 .0) (p .1 .0 .1) _ _ _ (p .1 .1 .0 .1) (p .1 .1 .1 .1)
     (rw (← at-rep s, ne-eqb _ _ (c .before .if1 .left)))
 
-pub is-beaten-spec : {M : Type 1} → statement M
-is-beaten-spec =
+pub is-dropped-spec : {M : Type 1} → statement M
+is-dropped-spec =
     tie.close
     (tie.spec
     shared-slice-read-n
@@ -119,8 +119,8 @@ is-beaten-spec =
     add-if1-2
     mul-if1-2
     shared-slice-read-if1-2
-    mul-finds-rival
-    finds-rival-requires
+    mul-is-little-brother-of-some
+    is-little-brother-of-some-requires
     returns
-    finds-rival-requires-2
+    is-little-brother-of-some-requires-2
     returns-2)

@@ -5,17 +5,17 @@ use lib.ListN.{getD}
 use native.Mathlib.Omega.{arith}
 use Rattle.theory.specs.RangeLaws.{any-in}
 use Rattle.theory.specs.Range.{anyBelow}
-use Rattle.reduction.specs.Rows.{rivalMark}
-use Rattle.reduction.specs.RivalsLaws.{none-start, none-more}
+use Rattle.reduction.specs.LittleBrothers.{littleBrotherMark}
+use Rattle.reduction.specs.LittleBrothersLaws.{none-start, none-more}
 use borrow.Author.Needs.{needs}
-use Rattle.reduction.proofs.rivals.finds_rival.Statement.{statement}
-use Rattle.reduction.proofs.rivals.finds_rival.Tie as tie
+use Rattle.reduction.proofs.little_brothers.is_little_brother_of_some.Statement.{statement}
+use Rattle.reduction.proofs.little_brothers.is_little_brother_of_some.Tie as tie
 
 abbrev Inv-loop : tie.InvT-loop
-Inv-loop marks reps rivals q d base stride j₀ j = (j ≤ q) × (anyBelow j (λ i. rivalMark marks reps d base stride (getD rivals i 0)) ≡ false)
+Inv-loop marks reps edges q d base stride j₀ j = (j ≤ q) × (anyBelow j (λ i. littleBrotherMark marks reps d base stride (getD edges i 0)) ≡ false)
 
 abbrev μ-loop : tie.MeasureT-loop
-μ-loop marks reps rivals q d base stride j₀ j = q - j
+μ-loop marks reps edges q d base stride j₀ j = q - j
 
 loop-holds : tie.Need-loop-holds Inv-loop μ-loop
 loop-holds c = (search needs, none-start _)
@@ -29,8 +29,8 @@ shared-slice-read-e c = search needs
 cast-e : tie.Need-cast-e Inv-loop μ-loop
 cast-e c = omega (arith, c .shared-slice-known4 .given (c .before .before .loop .j))
 
-is-rival-requires : tie.Need-is-rival-requires Inv-loop μ-loop
-is-rival-requires c κs =
+is-little-brother-requires : tie.Need-is-little-brother-requires Inv-loop μ-loop
+is-little-brother-requires c κs =
     let p = c .before .before .before .before .before .before .pre in
     let l = c .before .before .loop in
     (p .1 .0 (l .j) (c .before .if1 .left), p .1 .1 (l .j) (c .before .if1 .left))
@@ -44,7 +44,7 @@ loop-less c = search needs
 loop-again : tie.Need-loop-again Inv-loop μ-loop
 loop-again c =
     let l = c .before .before .before .before .loop in
-    (search needs, none-more _ _ (l .inv .1) (sym (c .before .is-rival .ensures) ∙ c .if2 .left))
+    (search needs, none-more _ _ (l .inv .1) (sym (c .before .is-little-brother .ensures) ∙ c .if2 .left))
 
 returns : tie.Need-returns Inv-loop μ-loop
 returns c =
@@ -54,10 +54,10 @@ returns c =
 returns-2 : tie.Need-returns-2 Inv-loop μ-loop
 returns-2 c =
     let a = c .before .before .before in
-    sym (any-in _ _ (a .before .loop .j) (a .if1 .left) (sym (c .before .is-rival .ensures) ∙ c .if2 .taken))
+    sym (any-in _ _ (a .before .loop .j) (a .if1 .left) (sym (c .before .is-little-brother .ensures) ∙ c .if2 .taken))
 
-pub finds-rival-spec : {M : Type 1} → statement M
-finds-rival-spec =
+pub is-little-brother-of-some-spec : {M : Type 1} → statement M
+is-little-brother-of-some-spec =
     tie.close
     (tie.spec
     Inv-loop
@@ -66,7 +66,7 @@ finds-rival-spec =
     mul-e
     shared-slice-read-e
     cast-e
-    is-rival-requires
+    is-little-brother-requires
     add-j
     loop-less
     loop-again

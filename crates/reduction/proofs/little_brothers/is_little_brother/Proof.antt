@@ -1,14 +1,14 @@
 use native.Mathlib.Omega.{arith}
 use borrow.Author.Tests.{eq-eqb, ne-eqb}
 use Rattle.theory.specs.Bools.{_&_}
-use Rattle.reduction.specs.Rows.{rivalMark}
+use Rattle.reduction.specs.LittleBrothers.{littleBrotherMark}
 use Rattle.order.specs.Bytes.{isMark}
 use borrow.Author.Needs.{needs}
-use Rattle.reduction.proofs.rivals.is_rival.Statement.{statement}
-use Rattle.reduction.proofs.rivals.is_rival.Tie as tie
+use Rattle.reduction.proofs.little_brothers.is_little_brother.Statement.{statement}
+use Rattle.reduction.proofs.little_brothers.is_little_brother.Tie as tie
 
 returns : tie.Need-returns
-unfolding rivalMark _&_
+unfolding littleBrotherMark _&_
 returns c = rw (eq-eqb _ _ (c .if1 .taken))
 
 mul-result : tie.Need-mul-result
@@ -30,11 +30,11 @@ shared-slice-read-result-2 : tie.Need-shared-slice-read-result-2
 shared-slice-read-result-2 c = search needs
 
 returns-2 : tie.Need-returns-2
-unfolding rivalMark isMark _&_
+unfolding littleBrotherMark isMark _&_
 returns-2 c = rw (ne-eqb _ _ (c .before .before .if1 .left))
 
-pub is-rival-spec : {M : Type 1} → statement M
-is-rival-spec =
+pub is-little-brother-spec : {M : Type 1} → statement M
+is-little-brother-spec =
     tie.close
     (tie.spec
     returns
