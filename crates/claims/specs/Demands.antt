@@ -3,16 +3,16 @@
 use mathlib.Core.Path.{_≡_, sym, _∙_}
 use mathlib.Core.Logic.{_↔_}
 use mathlib.Core.Bool.{So}
-use mathlib.Core.List.{List, [], _∷_, _++_}
+use mathlib.Core.List.{List, [], _∷_}
 use Prim.Native.Nat.{ℕ, _+_, _*_, _≤_, _<_}
 use native.Mathlib.Omega.{arith}
 use lib.Arith.{digits-lt}
-use lib.ListN.{length, getD, take}
+use lib.ListN.{length, getD}
 use lib.Seq.{take-at}
 use borrow.Author.Tests.{eqb-true, eq-eqb}
 use Rattle.theory.specs.ListLaws.{length-tabulate, getD-tabulate}
 use Rattle.theory.specs.Passes.{marked, relOf}
-use Rattle.theory.specs.Game.{Player, even, odd, Game, Total, edgeCount}
+use Rattle.theory.specs.Game.{Player, even, odd, Game}
 use Rattle.theory.specs.Order.{order, orderMarks}
 use Rattle.theory.specs.OrderLaws.{length-orderMarks, order-in}
 use Rattle.theory.specs.Plan.{Won}
@@ -22,7 +22,7 @@ use Rattle.theory.specs.SizeLaws.{quotient-size, reduced-size, quotient-edges, 
 use Rattle.theory.specs.Demands as games
 use Rattle.theory.specs.AgreementLaws.{agree-winner, agree-sym}
 use Rattle.table.specs.Table.{vertexCount, tableEdges, tableLength, gameOf}
-use Rattle.table.specs.Verdict.{Answer, accepted, Clean, written, after}
+use Rattle.table.specs.Verdict.{Answer, accepted, Clean, written}
 use Rattle.table.specs.VerdictLaws.{judge-accepted, clean-split, after-accepted, getD-written}
 use Rattle.table.specs.Reading.{gameRows, readAnswer}
 use Rattle.table.specs.ReadingLaws.{read-accepts, clean-well}

@@ -2,7 +2,6 @@
 use mathlib.Core.Logic.{_↔_}
 use mathlib.Core.Bool.{So}
 use Prim.Native.Nat.{ℕ, _<_}
-use Rattle.theory.specs.Passes.{Rel}
 use Rattle.theory.specs.Game.{Player, even, odd, other, Game}
 use Rattle.theory.specs.Simulation.{DirectSimulation, Below}
 use Rattle.theory.specs.SimulationLaws.{below-dual}
@@ -10,7 +9,7 @@ use Rattle.theory.specs.Order.{order}
 use Rattle.theory.specs.OrderLaws.{order-out, order-largest}
 use Rattle.theory.specs.Plan.{Won}
 use Rattle.theory.specs.TransferLaws.{transfer}
-use Rattle.theory.specs.Reduction.{quotientEdge, reducedEdge, classGame, quotient, reduced, classOf}
+use Rattle.theory.specs.Reduction.{quotientEdge, reducedEdge, quotient, reduced, classOf}
 use Rattle.theory.specs.ReductionLaws.{class-above, class-below, quotient-enough, reduced-enough, classOf-quotient, classOf-reduced}
 
 -- the order contains every direct simulation

@@ -1,20 +1,18 @@
 -- Passes over any test: marks only fall, so the passes settle; what is left is the largest set inside the start set on which the test
 -- holds. Each pass before the last loses a mark, which bounds their count.
-use mathlib.Core.Path.{_≡_, refl, sym, ap, _∙_, subst, subst₂}
+use mathlib.Core.Path.{_≡_, refl, sym, ap, _∙_, subst₂}
 use mathlib.Core.Bool.{Bool, true, false, So}
 use Prim.Native.Nat.{ℕ, zero, suc, _+_, _*_, _/_, _%_, _≤_, _<_}
-use native.Mathlib.Nat.{le-refl}
-use native.Mathlib.Decide.{decLt}
 use native.Mathlib.Omega.{arith}
 use lib.Arith.{digits-lt, digits-div, digits-mod}
 use lib.ListN.{length}
-use Rattle.theory.specs.Bools.{_&_, imp}
+use Rattle.theory.specs.Bools.{_&_}
 use Rattle.theory.specs.BoolsLaws.{and-in, and-out, and-fails, imp-out, imp-fails}
-use Rattle.theory.specs.Range.{first, count}
+use Rattle.theory.specs.Range.{count}
 use Rattle.theory.specs.RangeLaws.{all-out, all-fails, first-before, first-passes}
 use Rattle.theory.specs.CountLaws.{count-all, count-le, count-mono, count-less, count-inject, row-lt, col-lt}
 use Rattle.theory.specs.ListLaws.{length-tabulate, getD-tabulate}
-use Rattle.theory.specs.Passes.{Marks, marked, Test, nextPass, pass, settled, rounds, passCount, finalMarks, Rel, relOf, pairStart, pairTest, largest}
+use Rattle.theory.specs.Passes.{marked, Test, nextPass, pass, settled, rounds, passCount, finalMarks, Rel, relOf, pairStart, pairTest, largest}
 
 module _ (N : ℕ) (ok : Test) (start : ℕ → Bool) where
   pub length-pass : (k : ℕ) → length (pass N ok start k) ≡ N

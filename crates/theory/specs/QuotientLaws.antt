@@ -1,26 +1,24 @@
 -- Edges between classes. A class has a quotient edge above each successor of its representative's, and a reduced edge above each
 -- quotient edge; all is said for the owner a, with `worse a` as "no better for a than".
-use mathlib.Core.Path.{_≡_, refl, sym, ap, _∙_, subst}
+use mathlib.Core.Path.{_≡_, refl}
 use mathlib.Core.Logic.{_≢_}
-use mathlib.Core.Bool.{Bool, true, false, not, So, false≢true}
+use mathlib.Core.Bool.{Bool, true, false, So, false≢true}
 use Prim.Native.Nat.{ℕ, _<_}
-use native.Mathlib.Omega.{arith}
-use lib.Dec.{eqb}
 use borrow.Author.Tests.{ne-eqb, eqb-false}
-use Rattle.theory.specs.Bools.{_&_, imp}
-use Rattle.theory.specs.BoolsLaws.{clash, So-not, not-in, not-out, and-in, and-out, imp-in, imp-out}
+use Rattle.theory.specs.Bools.{_&_}
+use Rattle.theory.specs.BoolsLaws.{So-not, not-in, not-out, and-in, and-out, imp-in, imp-out}
 use Rattle.theory.specs.Range.{anyBelow}
 use Rattle.theory.specs.RangeLaws.{all-in, all-out, any-in, any-out}
 use Rattle.theory.specs.Passes.{Rel}
-use Rattle.theory.specs.Game.{Player, even, odd, other, same, Game, own, Next, Succ}
+use Rattle.theory.specs.Game.{Player, even, odd, other, Game, own, Succ}
 use Rattle.theory.specs.GameLaws.{same-refl}
 use Rattle.theory.specs.Simulation.{Moves, Below}
 use Rattle.theory.specs.SimulationLaws.{below-dual, below-refl, below-trans, below-moves}
-use Rattle.theory.specs.Order.{anyNext, below, order, Holds, Preorder}
-use Rattle.theory.specs.OrderLaws.{anyNext-in, anyNext-out, below-simulation, below-in, below-out, order-in, order-out, order-refl, order-trans}
+use Rattle.theory.specs.Order.{order, Preorder}
+use Rattle.theory.specs.OrderLaws.{anyNext-in, anyNext-out, order-in, order-out, order-refl, order-trans}
 use Rattle.theory.specs.Reduction.{sameClass, lowest, isLowest, worse, quotientEdge, dropped, reducedEdge}
 use Rattle.theory.specs.ClassEdges.{QuotientEdge, Better, EdgeAbove}
-use Rattle.theory.specs.MaximalLaws.{Top, top}
+use Rattle.theory.specs.MaximalLaws.{top}
 use Rattle.theory.specs.ClassLaws.{sameClass-sym, sameClass-refl, sameClass-trans, lowest-lt, lowest-same, isLowest-lowest, isLowest-one}
 
 module _ (g : Game) where

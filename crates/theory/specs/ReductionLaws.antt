@@ -5,14 +5,14 @@ use mathlib.Core.Path.{_≡_, refl}
 use mathlib.Core.Bool.{Bool, true, false, So}
 use Prim.Native.Nat.{ℕ, _<_}
 use Rattle.theory.specs.Passes.{Rel}
-use Rattle.theory.specs.Game.{even, Game, own, Next, Succ, Total}
+use Rattle.theory.specs.Game.{even, Game, own, Succ, Total}
 use Rattle.theory.specs.GameLaws.{same-out, same-fails}
 use Rattle.theory.specs.Simulation.{Moves, Passes, DirectSimulation, Below}
 use Rattle.theory.specs.SimulationLaws.{below-turn}
 use Rattle.theory.specs.Order.{order, Holds}
 use Rattle.theory.specs.OrderLaws.{order-in, order-trans, order-simulation}
 use Rattle.theory.specs.Reduction.{sameClass, classCount, classNumber, representative, quotientEdge, reducedEdge, worse, classGame, quotient, reduced, classOf}
-use Rattle.theory.specs.ClassEdges.{EdgeAbove, Enough}
+use Rattle.theory.specs.ClassEdges.{Enough}
 use Rattle.theory.specs.ClassLaws.{sameClass-le, sameClass-ge, sameClass-refl, classNumber-lt, representative-lt, representative-of, representative-same}
 use Rattle.theory.specs.QuotientLaws.{order-preorder, worse-out, worse-trans, quotientEdge-out, quotient-above, reduced-above, reducedEdge-quotient}
 

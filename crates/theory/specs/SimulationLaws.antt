@@ -2,8 +2,8 @@
 use mathlib.Core.Path.{_≡_, refl, sym, _∙_, subst}
 use mathlib.Core.Bool.{Bool, true, false, not}
 use Prim.Native.Nat.{ℕ, _<_}
-use Rattle.theory.specs.Game.{Player, even, odd, other, Game, own, Next, Succ}
-use Rattle.theory.specs.GameLaws.{same-other, same-fails}
+use Rattle.theory.specs.Game.{Player, other, Game, own, Succ}
+use Rattle.theory.specs.GameLaws.{same-other}
 use Rattle.theory.specs.Simulation.{Moves, Passes, Simulation, Below, Compose}
 
 -- ---- the pair test

@@ -1,24 +1,23 @@
 -- A winning plan is carried along a simulation: if H relates x to y for a player, a plan of that player's from x gives one from y.
 -- Core: a plan that projects to a winning one wins, since its closed walks project to closed walks with the same priorities.
 -- Step: at a related pair of a position and a vertex the simulation finds the next pair, or one for each move of the opponent's.
-use mathlib.Core.Path.{_≡_, refl, sym, ap, ap₂, _∙_, subst}
+use mathlib.Core.Path.{_≡_, refl, sym, _∙_, subst}
 use mathlib.Core.Bool.{Bool, true, false, cond, So, true≢false, false≢true}
-use mathlib.Core.List.{List, [], _∷_, map}
-use Prim.Native.Nat.{ℕ, zero, suc, _+_, _*_, _/_, _%_, _≤_, _<_}
+use mathlib.Core.List.{map}
+use Prim.Native.Nat.{ℕ, zero, suc, _+_, _*_, _/_, _%_, _<_}
 use native.Mathlib.Nat.{mod-lt}
 use native.Mathlib.Omega.{arith}
 use lib.Arith.{digits-lt, digits-div, digits-mod}
 use lib.ListN.{length, getD}
 use Rattle.theory.specs.BoolsLaws.{and-in, and-out}
-use Rattle.theory.specs.Range.{tabulate, pairsOf}
 use Rattle.theory.specs.CountLaws.{row-lt}
 use Rattle.theory.specs.ListLaws.{length-tabulate, getD-tabulate}
 use Rattle.theory.specs.Passes.{Rel}
-use Rattle.theory.specs.Game.{Player, even, odd, other, parity, Game, own, Next, Succ}
-use Rattle.theory.specs.Simulation.{Moves, Passes, Simulation, Below}
+use Rattle.theory.specs.Game.{Player, Game, own, Succ}
+use Rattle.theory.specs.Simulation.{Moves, Simulation, Below}
 use Rattle.theory.specs.Order.{below, Holds}
 use Rattle.theory.specs.OrderLaws.{below-simulation, below-in}
-use Rattle.theory.specs.Plan.{Plan, linked, Walk, seen, Winning, WinsBy, Won}
+use Rattle.theory.specs.Plan.{Plan, linked, Winning, WinsBy, Won}
 use Rattle.theory.specs.WalkLaws.{walk-over, seen-over}
 use Rattle.theory.specs.LinkLaws.{pairsOf-in, pairsOf-out}
 use Rattle.theory.specs.Transfer.{isPair, oldPosition, newVertex, newLink, positions, carried, Projects}
