@@ -1,6 +1,5 @@
 -- What the exports' answer holds: number 0 and the counts that document 01 gives the call, or the refusal's number and place; all other
 -- fields are 0.
-use mathlib.Core.List.{List, [], _∷_}
 use Prim.Native.Nat.{ℕ, _<_}
 use lib.ListN.{getD}
 use Rattle.table.specs.Verdict.{Answer, accepted, refused}

@@ -1,17 +1,17 @@
 -- What the library accepts is small, so its counts fit the answer's fields.
 use mathlib.Core.Path.{_≡_, sym, ap}
-use mathlib.Core.List.{List, [], _∷_}
+use mathlib.Core.List.{List, _∷_}
 use Prim.Native.Nat.{ℕ, _≤_}
 use native.Mathlib.Omega.{arith}
-use lib.ListN.{length, getD}
+use lib.ListN.{getD}
 use Rattle.theory.specs.Game.{Game, edgeCount}
 use Rattle.theory.specs.Order.{order}
 use Rattle.theory.specs.ClassLaws.{classCount-le}
 use Rattle.theory.specs.QuotientLaws.{order-preorder}
-use Rattle.table.specs.Table.{vertexCount, tableEdges, gameOf}
-use Rattle.table.specs.Verdict.{Answer, accepted, Clean}
-use Rattle.table.specs.VerdictLaws.{accepted-inj, judge-accepted, clean-split}
-use Rattle.table.specs.WellFormed.{WellFormed, WellSized}
+use Rattle.table.specs.Table.{vertexCount, gameOf}
+use Rattle.table.specs.Verdict.{Clean}
+use Rattle.table.specs.VerdictLaws.{judge-accepted, clean-split}
+use Rattle.table.specs.WellFormed.{WellFormed}
 use Rattle.table.specs.Reading.{gameRows, readAnswer, readingAnswer}
 use Rattle.table.specs.ReadingLaws.{reading-accepted, clean-well}
 use Rattle.table.specs.TableLaws.{edges-listed}

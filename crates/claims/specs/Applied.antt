@@ -1,25 +1,24 @@
 -- The theorems of `Demands` applied to game D, whose vertices 0 and 5 are class 0, and to a game of Odd's: games that a reader can follow.
-use mathlib.Core.Path.{_≡_, refl}
-use mathlib.Core.Bool.{So}
+use mathlib.Core.Path.{refl}
 use mathlib.Core.List.{List, [], _∷_}
-use Prim.Native.Nat.{ℕ, _<_}
+use Prim.Native.Nat.{ℕ}
 use native.Mathlib.Omega.{arith}
-use lib.ListN.{getD, replicate}
+use lib.ListN.{replicate}
 use Rattle.theory.specs.Range.{pairsOf}
 use Rattle.theory.specs.Game.{even, odd}
 use Rattle.theory.specs.Plan.{Plan, Wins, Won}
-use Rattle.theory.specs.PlanTest.{surelyWins}
 use Rattle.theory.specs.PlanTestLaws.{surely-wins}
 use Rattle.theory.specs.Reduction.{reduced}
 use Rattle.theory.specs.Compute.{compute}
-use Rattle.table.specs.Table.{vertexCount, gameOf, playerOf, isEdge}
+use Rattle.table.specs.Table.{gameOf, playerOf, isEdge}
 use Rattle.table.specs.Verdict.{Answer, accepted, judge, written, after}
 use Rattle.table.specs.Reading.{repeatsEarlier, lacksEdge, firstOwner, firstEnd, firstRepeat, firstLacking, gameRows}
 use Rattle.order.specs.Bytes.{bytes}
 use Rattle.reduction.specs.ClassTable.{ownerWord, tableWords}
 use Rattle.reduction.specs.ClassTableLaws.{pairsOf-lists}
 use Rattle.reduction.specs.Calls.{classRows, tableRows, classTotal, classWords, TableCall}
-use Rattle.claims.specs.Demands.{LeavesOrder, even-up, odd-down, reduced-faithful, table-winner}
+use Rattle.claims.specs.Written.{LeavesOrder}
+use Rattle.claims.specs.Demands.{even-up, odd-down, reduced-faithful, table-winner}
 
 -- D: C with vertex 5, priority 2, Even's, edge to 2
 abbrev pub gameD : List ℕ

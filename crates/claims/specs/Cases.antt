@@ -2,8 +2,8 @@
 -- definitions that the promises cite.
 use mathlib.Core.Path.{_≡_, refl}
 use mathlib.Core.List.{List, [], _∷_, map}
-use Prim.Native.Nat.{ℕ, _*_, _+_}
-use lib.ListN.{length, getD, replicate}
+use Prim.Native.Nat.{ℕ, _*_}
+use lib.ListN.{length, replicate}
 use Rattle.theory.specs.Range.{pairsOf}
 use Rattle.theory.specs.Game.{Game}
 use Rattle.theory.specs.Order.{orderMarks}

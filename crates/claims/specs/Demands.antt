@@ -3,16 +3,16 @@
 use mathlib.Core.Path.{_≡_, sym, _∙_}
 use mathlib.Core.Logic.{_↔_}
 use mathlib.Core.Bool.{So}
-use mathlib.Core.List.{List, [], _∷_, _++_}
+use mathlib.Core.List.{List, [], _∷_}
 use Prim.Native.Nat.{ℕ, _+_, _*_, _≤_, _<_}
 use native.Mathlib.Omega.{arith}
 use lib.Arith.{digits-lt}
-use lib.ListN.{length, getD, take}
+use lib.ListN.{length, getD}
 use lib.Seq.{take-at}
 use borrow.Author.Tests.{eqb-true, eq-eqb}
 use Rattle.theory.specs.ListLaws.{length-tabulate, getD-tabulate}
 use Rattle.theory.specs.Passes.{marked, relOf}
-use Rattle.theory.specs.Game.{Player, even, odd, Game, Total, edgeCount}
+use Rattle.theory.specs.Game.{Player, even, odd, Game}
 use Rattle.theory.specs.Order.{order, orderMarks}
 use Rattle.theory.specs.OrderLaws.{length-orderMarks, order-in}
 use Rattle.theory.specs.Plan.{Won}
@@ -22,7 +22,7 @@ use Rattle.theory.specs.SizeLaws.{quotient-size, reduced-size, quotient-edges, 
 use Rattle.theory.specs.Demands as games
 use Rattle.theory.specs.AgreementLaws.{agree-winner, agree-sym}
 use Rattle.table.specs.Table.{vertexCount, tableEdges, tableLength, gameOf}
-use Rattle.table.specs.Verdict.{Answer, accepted, Clean, written, after}
+use Rattle.table.specs.Verdict.{Answer, accepted, Clean, written}
 use Rattle.table.specs.VerdictLaws.{judge-accepted, clean-split, after-accepted, getD-written}
 use Rattle.table.specs.Reading.{gameRows, readAnswer}
 use Rattle.table.specs.ReadingLaws.{read-accepts, clean-well}
@@ -37,11 +37,9 @@ use Rattle.reduction.specs.ClassTable.{tableWords}
 use Rattle.reduction.specs.ClassTableLaws.{length-tableWords, tableWords-well, tableWords-agree}
 use Rattle.reduction.specs.ListsLaws.{lists-length}
 use Rattle.reduction.specs.Calls.{classRows, tableRows, classWords, TableCall}
+use Rattle.claims.specs.Written.{LeavesOrder, writtenTable, Faithful}
 
 -- ---- the written order: what the marks hold after a call that, by its rules, leaves the order there
-
-abbrev pub LeavesOrder : List ℕ → Answer → List ℕ → List ℕ → Type 0
-LeavesOrder game answer old new = new ≡ after answer (bytes (orderMarks (gameOf game))) old
 
 module _ (game old new counts : List ℕ) (answer : Answer) (left : LeavesOrder game answer old new) (accepts : answer ≡ accepted counts) where
   -- byte v × n + w is 1 exactly if v is below w
@@ -73,14 +71,7 @@ module _ (game old new counts : List ℕ) (answer : Answer) (left : LeavesOrder 
   unfolding gameOf
   odd-down v w hv hw b = games.odd-down (gameOf game) v w hv hw (written-mark v w hv hw .0 b)
 
--- ---- written tables: what the quotient and the reduced game share
-
-pub record Faithful (K : Game → Game) : Type 0 where
-  pub total : (g : Game) → Total g → Total (K g)
-  pub size : (g : Game) → K g .n ≤ g .n
-  pub edges : (g : Game) → edgeCount (K g) ≤ edgeCount g
-  pub class : (g : Game) (v : ℕ) → v < g .n → classOf g v < K g .n
-  pub winner : (g : Game) (a : Player) (v : ℕ) → v < g .n → Won a g v ↔ Won a (K g) (classOf g v)
+-- ---- written tables: of the quotient and of the reduced game alike
 
 pub quotient-faithful : Faithful quotient
 quotient-faithful = record { total = quotient-total; size = quotient-size; edges = quotient-edges; class = classOf-quotient; winner = games.quotient-winner }
@@ -91,10 +82,6 @@ reduced-faithful = record { total = reduced-total; size = reduced-size; edges = 
 module _ (K : Game → Game) (faithful : Faithful K) (game marks spare classes output : List ℕ) (answer : Answer) (marks′ spare′ classes′ output′ : List ℕ)
     (call : TableCall K game marks spare classes output answer marks′ spare′ classes′ output′)
     (k n e : ℕ) (accepts : answer ≡ accepted (k ∷ n ∷ e ∷ [])) where
-  -- the written table has as many words as the verdict's counts tell
-  abbrev pub writtenTable : List ℕ
-  writtenTable = take (tableLength n e) output′
-
   abbrev G : Game
   G = gameOf game
 
@@ -112,7 +99,7 @@ module _ (K : Game → Game) (faithful : Faithful K) (game marks spare classes o
   unfolding tableRows classRows
   well = clean-well game (clean-split (gameRows game) _ (clean-split (classRows game marks spare classes) _ (counts .clean) .0) .0)
 
-  table-is : writtenTable ≡ tableWords (K G) (call .edges)
+  table-is : writtenTable n e output′ ≡ tableWords (K G) (call .edges)
   unfolding written
   table-is =
       rw (call .output-after, after-accepted (tableWords (K G) (call .edges)) output accepts)
@@ -133,16 +120,16 @@ module _ (K : Game → Game) (faithful : Faithful K) (game marks spare classes o
   fits : length (call .edges) ≤ 4096
   fits = omega (arith, counts .edges, table-edges, well .edges)
 
-  table-well : WellFormed writtenTable
+  table-well : WellFormed (writtenTable n e output′)
   table-well =
       rw table-is
       (tableWords-well (K G) (call .edges) (call .listed) (omega (arith, faithful .class G 0 (vertex 0 (well .some)))) few fits
       (faithful .total G (game-total game well)))
 
   -- the reader accepts the written table
-  pub table-read : readAnswer writtenTable ≡ accepted (n ∷ e ∷ [])
+  pub table-read : readAnswer (writtenTable n e output′) ≡ accepted (n ∷ e ∷ [])
   unfolding tableWords
-  table-read = read-accepts writtenTable table-well ∙ rw (table-is, counts .vertices, counts .edges)
+  table-read = read-accepts (writtenTable n e output′) table-well ∙ rw (table-is, counts .vertices, counts .edges)
 
   class-word : (v : ℕ) → v < vertexCount game → getD classes′ v 0 ≡ classOf G v
   unfolding classWords
@@ -152,7 +139,7 @@ module _ (K : Game → Game) (faithful : Faithful K) (game marks spare classes o
       ∙ getD-tabulate (vertexCount game) (classOf G) 0 v h)
 
   -- "Each player has a winning plan from a vertex exactly when that player has one from its class in the reduced game."
-  pub table-winner : (a : Player) (v : ℕ) → v < vertexCount game → Won a (gameOf game) v ↔ Won a (gameOf writtenTable) (getD classes′ v 0)
+  pub table-winner : (a : Player) (v : ℕ) → v < vertexCount game → Won a (gameOf game) v ↔ Won a (gameOf (writtenTable n e output′)) (getD classes′ v 0)
   table-winner a v h =
       let there = faithful .winner G a v (vertex v h) in
       let back =

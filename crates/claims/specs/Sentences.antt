@@ -2,12 +2,12 @@
 use mathlib.Core.Path.{_≡_}
 use mathlib.Core.Logic.{_↔_}
 use mathlib.Core.List.{List, [], _∷_}
-use Prim.Native.Nat.{ℕ, _+_, _*_, _<_}
-use lib.ListN.{getD, take}
+use Prim.Native.Nat.{ℕ, _<_}
+use lib.ListN.{getD}
 use Rattle.theory.specs.Game.{Player, even, odd}
 use Rattle.theory.specs.Plan.{Won}
 use Rattle.theory.specs.Reduction.{reduced}
-use Rattle.table.specs.Table.{vertexCount, tableLength, gameOf}
+use Rattle.table.specs.Table.{vertexCount, gameOf}
 use Rattle.table.specs.Verdict.{Answer, accepted}
 use Rattle.table.specs.Reading.{readAnswer}
 use Rattle.table.specs.Acceptance.{acceptanceAnswer}
@@ -15,6 +15,7 @@ use Rattle.order.specs.OrderCall.{orderingAnswer, OrderWritten}
 use Rattle.order.specs.RelationCall.{relationAnswer}
 use Rattle.order.specs.RelationRules.{Marked}
 use Rattle.reduction.specs.Calls.{TableCall}
+use Rattle.claims.specs.Written.{writtenTable}
 use Rattle.claims.specs.declared.Containment.{Containment}
 
 -- "The written order contains every relation that the acceptor passes."
@@ -33,6 +34,6 @@ pub record Transfers (game oldMarks newMarks oldSpare newSpare : List ℕ) (answ
 -- "Each player has a winning plan from a vertex exactly when that player has one from its class in the reduced game."
 pub record Reduces (game marks spare classes output : List ℕ) (answer : Answer) (marks′ spare′ classes′ output′ : List ℕ) : Type 0 where
   pub call : TableCall reduced game marks spare classes output answer marks′ spare′ classes′ output′
-  pub accepted-table : (k n e : ℕ) → answer ≡ accepted (k ∷ n ∷ e ∷ []) → readAnswer (take (tableLength n e) output′) ≡ accepted (n ∷ e ∷ [])
+  pub accepted-table : (k n e : ℕ) → answer ≡ accepted (k ∷ n ∷ e ∷ []) → readAnswer (writtenTable n e output′) ≡ accepted (n ∷ e ∷ [])
   pub sentence : (k n e : ℕ) → answer ≡ accepted (k ∷ n ∷ e ∷ []) → (a : Player) (v : ℕ) → v < vertexCount game
-      → Won a (gameOf game) v ↔ Won a (gameOf (take (tableLength n e) output′)) (getD classes′ v 0)
+      → Won a (gameOf game) v ↔ Won a (gameOf (writtenTable n e output′)) (getD classes′ v 0)

@@ -1,6 +1,6 @@
 -- The sentences follow from what the calls promise.
 use mathlib.Core.Path.{_≡_, sym, _∙_}
-use mathlib.Core.List.{List, [], _∷_}
+use mathlib.Core.List.{List}
 use Prim.Native.Nat.{ℕ}
 use Rattle.theory.specs.Reduction.{reduced}
 use Rattle.table.specs.Verdict.{Answer, accepted}

@@ -3,7 +3,6 @@
 use order::Ordering;
 use reduction::Tabulation;
 use table::Acceptance;
-ghost use mathlib.Core.Path.{_≡_};
 ghost use Rattle.order.specs.OrderCall.{orderingAnswer};
 ghost use Rattle.reduction.specs.Answers.{tabulationAnswer};
 ghost use Rattle.claims.specs.Sentences.{Contains, Transfers, Reduces};

@@ -19,8 +19,8 @@ use Rattle.theory.specs.Passes.{Marks, marked, Test, nextPass, pass, settled, r
 use Rattle.theory.specs.PassesLaws.{length-pass, rounds-le}
 use Rattle.theory.specs.Game.{Player, even, Game, own, Succ}
 use Rattle.theory.specs.SimulationLaws.{moves-mono}
-use Rattle.theory.specs.Order.{equalPriority, test, orderMarks, marksBetween, orderPasses}
-use Rattle.theory.specs.OrderLaws.{Holds, moves-in, moves-out}
+use Rattle.theory.specs.Order.{equalPriority, test, orderMarks, marksBetween, orderPasses, Holds}
+use Rattle.theory.specs.OrderLaws.{moves-in, moves-out}
 use Rattle.table.specs.Table.{vertexCount, gameOf}
 use Rattle.order.specs.CountingLaws.{count-step, count-none}
 use Rattle.table.specs.Verdict.{written}

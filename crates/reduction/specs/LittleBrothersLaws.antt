@@ -19,7 +19,8 @@ use Rattle.theory.specs.Game.{even, odd, Game}
 use Rattle.theory.specs.Order.{order}
 use Rattle.theory.specs.Reduction.{classNumber, representative, worse, quotientEdge, reducedEdge, classGame, quotient, reduced}
 use Rattle.theory.specs.ClassLaws.{classNumber-lt, representative-lt, representative-at, representative-one, representative-of}
-use Rattle.theory.specs.QuotientLaws.{order-preorder, Better, dropped-in, dropped-out}
+use Rattle.theory.specs.ClassEdges.{Better}
+use Rattle.theory.specs.QuotientLaws.{order-preorder, dropped-in, dropped-out}
 use Rattle.table.specs.SearchLaws.{any-ext}
 use Rattle.table.specs.Verdict.{written}
 use Rattle.table.specs.VerdictLaws.{getD-written}

@@ -18,10 +18,10 @@ use Rattle.table.specs.WellFormed.{WellFormed}
 use Rattle.table.specs.declared.Sizes.{Sizes}
 use Rattle.table.specs.declared.Refusal.{Refusal}
 use Rattle.table.specs.declared.Reading.{Reading}
-use Rattle.order.specs.OrderCall.{memoryRow, orderAnswer, orderingAnswer, OrderWritten}
+use Rattle.order.specs.OrderCall.{memoryRow, orderingAnswer, OrderWritten}
 use Rattle.order.specs.OrderRulesLaws.{order-accepts}
 use Rattle.order.specs.declared.Ordering.{Ordering}
-use Rattle.reduction.specs.Calls.{classRows, tableRows, classTotal, classWords, TableCall}
+use Rattle.reduction.specs.Calls.{classRows, tableRows, classTotal, TableCall}
 use Rattle.reduction.specs.Answers.{tabulationAnswer}
 use Rattle.reduction.specs.ListsLaws.{lists-length}
 use Rattle.reduction.specs.declared.TableCounts.{TableCounts}

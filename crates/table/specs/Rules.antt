@@ -50,7 +50,3 @@ pub record Renders (r : Row) (q : Rule) : Type 0 where
 pub data Rendered : List Row → List Rule → Type 1 where
   none : Rendered [] []
   next : {r : Row} {q : Rule} {rs : List Row} {qs : List Rule} → Renders r q → Rendered rs qs → Rendered (r ∷ rs) (q ∷ qs)
-
--- what a computed row says by itself
-abbrev pub ruleOf : Row → Rule
-ruleOf r = record { number = r .number; Holds = So (r .condition); At = λ p. r .place ≡ p }

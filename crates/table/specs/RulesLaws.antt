@@ -2,7 +2,7 @@
 use mathlib.Core.Path.{_≡_, refl, sym, ap, _∙_}
 use mathlib.Core.Logic.{_↔_}
 use mathlib.Core.Bool.{Bool, true, false, cond, So}
-use mathlib.Core.List.{List, [], _∷_, _++_, map}
+use mathlib.Core.List.{List, _∷_, _++_}
 use Prim.Native.Nat.{ℕ, _≤_}
 use native.Mathlib.Omega.{arith}
 use lib.Dec.{ltb}
@@ -13,7 +13,7 @@ use Rattle.theory.specs.RangeLaws.{first-ge, first-before, first-passes, first-
 use Rattle.table.specs.SearchLaws.{first-is}
 use Rattle.table.specs.Verdict.{Row, refused, judge, Clean}
 use Rattle.table.specs.VerdictLaws.{refused-inj, not-both, judge-hit, judge-next}
-use Rattle.table.specs.Rules.{Rule, Some, First, placed, firstSuch, FirstRule, here, later, NoRule, no-rule, fails, Renders, Rendered, none, next, ruleOf}
+use Rattle.table.specs.Rules.{Rule, Some, First, placed, firstSuch, FirstRule, here, later, NoRule, no-rule, fails, Renders, Rendered, none, next}
 
 -- ---- a computed row renders a rule
 
@@ -72,14 +72,6 @@ judge-refuses (next {r = r} {rs = rs} x xs) (later m f) counts =
 pub rendered-append : {rs ss : List Row} {qs ts : List Rule} → Rendered rs qs → Rendered ss ts → Rendered (rs ++ ss) (qs ++ ts)
 rendered-append none ys = ys
 rendered-append (next x xs) ys = next x (rendered-append xs ys)
-
--- the rows of any call, each read as a rule by itself
-pub rendered-self : (rs : List Row) → Rendered rs (map ruleOf rs)
-rendered-self [] = none
-rendered-self (r ∷ rs) = next (record { number = refl; holds = (λ h. h, λ h. h); place = λ h p. (λ e. e, λ e. e) }) (rendered-self rs)
-
-pub judge-first : (rs : List Row) (counts : List ℕ) (k p : ℕ) → (judge rs counts ≡ refused k p) ↔ FirstRule (map ruleOf rs) k p
-judge-first rs counts k p = (judge-refused (rendered-self rs) counts k p, λ f. judge-refuses (rendered-self rs) f counts)
 
 -- ---- rows are clean exactly if no rule's condition holds
 

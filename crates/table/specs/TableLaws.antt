@@ -67,9 +67,6 @@ edges-listed g =
 -- ---- a well-formed table
 
 module _ (g : List ℕ) (well : WellFormed g) where
-  pub edge-source : (v w : ℕ) → So (gameOf g .edge v w) → v < vertexCount g
-  edge-source v w h = let r = edge-out g v w h in omega (arith, r .1 .source, well .sources (r .0) (r .1 .inside))
-
   pub edge-target : (v w : ℕ) → So (gameOf g .edge v w) → w < vertexCount g
   edge-target v w h = let r = edge-out g v w h in omega (arith, r .1 .target, well .targets (r .0) (r .1 .inside))
 

@@ -1,7 +1,7 @@
 // Parts of the reader, `read`: the four searches for its refusals 5 to 8. No host calls them.
 ghost use mathlib.Core.Path.{_≡_};
 ghost use Prim.Native.Nat.{_+_, _*_, _<_, _≤_};
-ghost use lib.ListN.{length, getD};
+ghost use lib.ListN.{length};
 ghost use Rattle.theory.specs.Bools.{bit};
 ghost use Rattle.theory.specs.Range.{first, tabulate};
 ghost use Rattle.table.specs.Table.{vertexCount};

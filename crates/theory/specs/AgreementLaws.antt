@@ -1,9 +1,9 @@
 -- Games that agree have the same winners: each vertex is below itself in the other game.
-use mathlib.Core.Path.{_≡_, refl, sym, ap, _∙_, subst}
+use mathlib.Core.Path.{_≡_, refl, sym, ap, subst}
 use mathlib.Core.Logic.{_↔_}
-use mathlib.Core.Bool.{Bool, true, false, So}
+use mathlib.Core.Bool.{Bool, true, false}
 use Prim.Native.Nat.{ℕ, _<_}
-use Rattle.theory.specs.Game.{Player, even, same, Game, own, Next, Succ}
+use Rattle.theory.specs.Game.{Player, even, same, Game, own, Succ}
 use Rattle.theory.specs.Simulation.{Moves, Passes, DirectSimulation, Below}
 use Rattle.theory.specs.Plan.{Won}
 use Rattle.theory.specs.Demands.{mutual-winner}

@@ -2,7 +2,7 @@
 use mathlib.Core.Path.{_≡_, refl, sym, _∙_}
 use mathlib.Core.Logic.{_⊎_, inl, inr}
 use mathlib.Core.Bool.{Bool, true, false, not, So, true≢false, false≢true}
-use Prim.Native.Nat.{ℕ, _≤_, _<_, zero-le}
+use Prim.Native.Nat.{_≤_, _<_, zero-le}
 use native.Mathlib.Nat.{le-refl}
 use Rattle.theory.specs.Bools.{_&_, _or_, imp, bit}
 

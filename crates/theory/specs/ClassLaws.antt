@@ -1,21 +1,19 @@
 -- Laws of classes, for any preorder on n vertices: a class has one lowest member, and the classes' numbers ascend with these.
-use mathlib.Core.Path.{_≡_, refl, sym, ap, _∙_}
+use mathlib.Core.Path.{_≡_, sym, ap, _∙_}
 use mathlib.Core.Logic.{_↔_}
-use mathlib.Core.Bool.{Bool, So}
+use mathlib.Core.Bool.{So}
 use Prim.Native.Nat.{ℕ, _≤_, _<_}
 use native.Mathlib.Nat.{le-antisymm, lt-of-le-of-lt}
 use native.Mathlib.Decide.{decLt}
 use native.Mathlib.Omega.{arith}
-use lib.Dec.{eqb}
 use borrow.Author.Tests.{eqb-true, eq-eqb}
-use Rattle.theory.specs.Bools.{_&_}
 use Rattle.theory.specs.BoolsLaws.{and-in, and-out}
-use Rattle.theory.specs.Range.{count, nth}
+use Rattle.theory.specs.Range.{count}
 use Rattle.theory.specs.RangeLaws.{first-passes, first-least}
 use Rattle.theory.specs.CountLaws.{Nth, nth-at, nth-count, count-lt, count-le, count-grows}
 use Rattle.theory.specs.Passes.{Rel}
+use Rattle.theory.specs.Order.{Preorder}
 use Rattle.theory.specs.Reduction.{sameClass, lowest, isLowest, classCount, classNumber, representative}
-use Rattle.theory.specs.MaximalLaws.{Preorder}
 
 pub sameClass-sym : (le : Rel) (v w : ℕ) → So (sameClass le v w) → So (sameClass le w v)
 unfolding sameClass

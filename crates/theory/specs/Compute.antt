@@ -1,7 +1,7 @@
 -- One name for all executable definitions: `unfolding compute` opens them, and what they say of a closed game is then computed.
 use Rattle.theory.specs.Bools.{_&_, _or_, imp, bit}
 use Rattle.theory.specs.Range.{allBelow, anyBelow, anyFrom, firstOf, first, count, nth, tabulate, pairsBelow, pairsOf}
-use Rattle.theory.specs.Passes.{nextPass, pass, settled, rounds, passCount, finalMarks, relOf, pairStart, pairTest}
+use Rattle.theory.specs.Passes.{nextPass, pass, settled, rounds, passCount, finalMarks, relOf, pairStart, pairTest, largest}
 use Rattle.theory.specs.Game.{other, same, parity, edgeCount}
 use Rattle.theory.specs.Order.{allNext, anyNext, moves, equalPriority, test, marksBetween, below, orderMarks, order, orderPasses}
 use Rattle.theory.specs.Plan.{linked}
@@ -10,5 +10,5 @@ use Rattle.theory.specs.Reduction.{sameClass, lowest, isLowest, classCou
 use Rattle.theory.specs.PlanTest.{eachLink, goodLink, answered, moved, surelyWins}
 
 unfoldable pub compute : Unit {0}
-unfolding _&_ _or_ imp bit allBelow anyBelow anyFrom firstOf first count nth tabulate pairsBelow pairsOf nextPass pass settled rounds passCount finalMarks relOf pairStart pairTest other same parity edgeCount allNext anyNext moves equalPriority test marksBetween below orderMarks order orderPasses linked isPair oldPosition newVertex newLink positions carried sameClass lowest isLowest classCount classNumber representative quotientEdge worse dropped reducedEdge classGame quotient reduced classOf eachLink goodLink answered moved surelyWins
+unfolding _&_ _or_ imp bit allBelow anyBelow anyFrom firstOf first count nth tabulate pairsBelow pairsOf nextPass pass settled rounds passCount finalMarks relOf pairStart pairTest largest other same parity edgeCount allNext anyNext moves equalPriority test marksBetween below orderMarks order orderPasses linked isPair oldPosition newVertex newLink positions carried sameClass lowest isLowest classCount classNumber representative quotientEdge worse dropped reducedEdge classGame quotient reduced classOf eachLink goodLink answered moved surelyWins
 compute = tt

@@ -1,6 +1,6 @@
 -- Laws of counting: a larger test counts more, an injection counts no less, the c-th that passes, the pigeonhole.
 use mathlib.Core.Path.{_≡_, refl, sym, ap, _∙_, subst}
-use mathlib.Core.Logic.{_⊎_, inl, inr}
+use mathlib.Core.Logic.{inl, inr}
 use mathlib.Core.Bool.{Bool, true, false, not, So, cond}
 use Prim.Native.Nat.{ℕ, zero, suc, _+_, _*_, _/_, _%_, _≤_, _<_, zero-le}
 use native.Mathlib.Nat.{not-suc-le-zero, le-refl, lt-irrefl, mod-lt, div-lt-iff-lt-mul, div-add-mod', mul-zero}

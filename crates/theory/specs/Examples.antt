@@ -1,19 +1,16 @@
 -- Worked games: C and D of document 01, computed; a small game with a winning plan for each player; and demand 3 at a merged vertex.
 use mathlib.Core.Path.{_≡_, refl}
-use mathlib.Core.Bool.{Bool, true, false, So}
 use mathlib.Core.List.{List, [], _∷_}
-use Prim.Native.Nat.{ℕ, _<_}
+use Prim.Native.Nat.{ℕ}
 use native.Mathlib.Omega.{arith}
 use lib.ListN.{length, getD}
 use Rattle.theory.specs.Range.{tabulate, pairsOf}
 use Rattle.theory.specs.Game.{Player, even, odd, Game, edgeCount}
 use Rattle.theory.specs.Order.{order, orderPasses}
 use Rattle.theory.specs.Plan.{Plan, linked, Wins, Won}
-use Rattle.theory.specs.Transfer.{carried}
 use Rattle.theory.specs.TransferLaws.{transfer}
 use Rattle.theory.specs.Reduction.{quotient, reduced, classOf}
 use Rattle.theory.specs.Demands.{mutual-winner, reduced-winner}
-use Rattle.theory.specs.PlanTest.{surelyWins}
 use Rattle.theory.specs.PlanTestLaws.{surely-wins}
 use Rattle.theory.specs.Compute.{compute}
 

@@ -23,6 +23,7 @@ pub mod WinnerLaws
 pub mod Transfer
 pub mod TransferLaws
 pub mod Reduction
+pub mod ClassEdges
 pub mod MaximalLaws
 pub mod ClassLaws
 pub mod QuotientLaws

@@ -1,5 +1,5 @@
 -- Laws of lists of links.
-use mathlib.Core.Path.{_≡_, refl, sym, ap, ap₂, _∙_, subst, subst₂}
+use mathlib.Core.Path.{_≡_, refl, sym, ap₂, _∙_, subst, subst₂}
 use mathlib.Core.Logic.{_⊎_, inl, inr}
 use mathlib.Core.Bool.{Bool, true, false, cond, So, false≢true}
 use mathlib.Core.List.{List, [], _∷_, _++_, append-nil}
@@ -12,7 +12,7 @@ use lib.ListN.{length, getD, length-append, List·getD-append}
 use lib.Seq.{getD-append-seam}
 use lib.Arith.{digits-lt, digits-div, digits-mod}
 use borrow.Author.Tests.{eqb-true, eq-eqb}
-use Rattle.theory.specs.Bools.{_&_, _or_, bit}
+use Rattle.theory.specs.Bools.{_&_, bit}
 use Rattle.theory.specs.BoolsLaws.{and-in, and-out, or-left, or-right, or-out}
 use Rattle.theory.specs.Range.{count, pairsBelow, pairsOf}
 use Rattle.theory.specs.RangeLaws.{below-suc}

@@ -1,6 +1,5 @@
 -- A maximal element above a given one, in a finite preorder: one scan that moves on whenever the next is above.
-use mathlib.Core.Path.{_≡_}
-use mathlib.Core.Logic.{_⊎_, inl, inr}
+use mathlib.Core.Logic.{inl, inr}
 use mathlib.Core.Bool.{Bool, So}
 use Prim.Native.Nat.{ℕ, zero, suc, _≤_, _<_}
 use native.Mathlib.Nat.{not-suc-le-zero, le-refl}
@@ -9,10 +8,7 @@ use Rattle.theory.specs.Bools.{_&_}
 use Rattle.theory.specs.BoolsLaws.{decide, clash, and-in, and-out}
 use Rattle.theory.specs.RangeLaws.{below-suc}
 use Rattle.theory.specs.Passes.{Rel}
-
-pub record Preorder (n : ℕ) (le : Rel) : Type 0 where
-  pub reflexive : (v : ℕ) → v < n → So (le v v)
-  pub transitive : (v u w : ℕ) → v < n → u < n → w < n → So (le v u) → So (le u w) → So (le v w)
+use Rattle.theory.specs.Order.{Preorder}
 
 module _ (n : ℕ) (le : Rel) (pre : Preorder n le) (member : ℕ → Bool) (x : ℕ) (hx : x < n) (mx : So (member x)) where
   -- a member above x that is maximal among the members below k

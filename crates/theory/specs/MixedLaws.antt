@@ -1,14 +1,14 @@
 -- Document 01: a class with both owners always has one quotient edge. v is Even's and below w, Odd's: so every successor of v is below
 -- every successor of w, and the classes that both reach are below each other.
-use mathlib.Core.Path.{_≡_, refl}
-use mathlib.Core.Bool.{true, false, So}
+use mathlib.Core.Path.{_≡_}
+use mathlib.Core.Bool.{So}
 use Prim.Native.Nat.{ℕ, _<_}
 use Rattle.theory.specs.BoolsLaws.{and-in}
-use Rattle.theory.specs.Game.{even, odd, same, Game, Next, Succ, Total}
+use Rattle.theory.specs.Game.{even, odd, same, Game, Succ, Total}
 use Rattle.theory.specs.Simulation.{Moves, Passes}
-use Rattle.theory.specs.Order.{order}
-use Rattle.theory.specs.OrderLaws.{Holds, order-trans, order-simulation}
-use Rattle.theory.specs.Reduction.{sameClass, classNumber, representative, quotientEdge, classGame, quotient, classOf}
+use Rattle.theory.specs.Order.{order, Holds}
+use Rattle.theory.specs.OrderLaws.{order-trans, order-simulation}
+use Rattle.theory.specs.Reduction.{sameClass, classNumber, representative, classGame, quotient, classOf}
 use Rattle.theory.specs.ClassLaws.{sameClass-le, sameClass-ge, sameClass-sym, sameClass-refl, sameClass-trans, classNumber-lt, representative-lt, representative-same, representatives-apart}
 use Rattle.theory.specs.QuotientLaws.{order-preorder, quotientEdge-out}
 use Rattle.theory.specs.ReductionLaws.{quotient-total, classOf-quotient}

@@ -1,6 +1,6 @@
 -- The order, computed by passes. The test is that of `Moves`, with bounded "each" and "some" in place of quantifiers.
-use mathlib.Core.Bool.{Bool, true, false}
-use Prim.Native.Nat.{ℕ, _*_}
+use mathlib.Core.Bool.{Bool, true, false, So}
+use Prim.Native.Nat.{ℕ, _*_, _<_}
 use lib.Dec.{eqb}
 use Rattle.theory.specs.Bools.{_&_, imp}
 use Rattle.theory.specs.Range.{allBelow, anyBelow}
@@ -46,3 +46,14 @@ order g = relOf (g .n) (marked (orderMarks g))
 
 unfoldable pub orderPasses : Game → ℕ
 orderPasses g = passCount (g .n * g .n) (pairTest (g .n) (test even g g)) (pairStart (g .n) (equalPriority g g))
+
+-- ---- in terms of logic
+
+-- a relation of Bools as one of types
+abbrev pub Holds : Rel → ℕ → ℕ → Type 0
+Holds H v w = So (H v w)
+
+-- le is reflexive and transitive on the numbers below n
+pub record Preorder (n : ℕ) (le : Rel) : Type 0 where
+  pub reflexive : (v : ℕ) → v < n → So (le v v)
+  pub transitive : (v u w : ℕ) → v < n → u < n → w < n → So (le v u) → So (le u w) → So (le v w)

@@ -1,17 +1,17 @@
 -- The order is document 004's: marked exactly when some direct simulation holds the pair. It is itself one, reflexive and transitive.
-use mathlib.Core.Path.{_≡_, refl, sym}
+use mathlib.Core.Path.{_≡_}
 use mathlib.Core.Bool.{Bool, true, false, So}
 use Prim.Native.Nat.{ℕ, suc, _+_, _*_, _≤_, _<_}
 use lib.ListN.{length}
 use borrow.Author.Tests.{eqb-true, eq-eqb}
-use Rattle.theory.specs.BoolsLaws.{So-ext, and-in, and-out, imp-in, imp-out}
+use Rattle.theory.specs.BoolsLaws.{and-in, and-out, imp-in, imp-out}
 use Rattle.theory.specs.RangeLaws.{all-in, all-out, any-in, any-out}
-use Rattle.theory.specs.Passes.{Rel, relOf, pairStart, pairTest}
-use Rattle.theory.specs.PassesLaws.{length-finalMarks, largest, largest-start, largest-fixed, largest-contains, passes-le}
-use Rattle.theory.specs.Game.{Player, even, odd, other, Game, own, Next, Succ}
+use Rattle.theory.specs.Passes.{Rel, pairStart, pairTest, largest}
+use Rattle.theory.specs.PassesLaws.{length-finalMarks, largest-start, largest-fixed, largest-contains, passes-le}
+use Rattle.theory.specs.Game.{Player, even, Game, own, Succ}
 use Rattle.theory.specs.Simulation.{Moves, Passes, Simulation, DirectSimulation, Below}
-use Rattle.theory.specs.SimulationLaws.{moves-mono, below-dual, below-refl, below-trans}
-use Rattle.theory.specs.Order.{allNext, anyNext, moves, equalPriority, test, marksBetween, below, orderMarks, order, orderPasses}
+use Rattle.theory.specs.SimulationLaws.{moves-mono, below-refl, below-trans}
+use Rattle.theory.specs.Order.{allNext, anyNext, moves, equalPriority, test, marksBetween, below, orderMarks, order, orderPasses, Holds}
 
 -- ---- the computed test is the test
 
@@ -31,10 +31,6 @@ module _ (g : Game) (v : ℕ) (p : ℕ → Bool) where
   pub anyNext-out : So (anyNext g v p) → (x : ℕ) × Succ g v x × So (p x)
   unfolding anyNext
   anyNext-out t = let r = any-out t in let s = and-out (r .2) in (r .0, record { inside = r .1; along = s .0 }, s .1)
-
--- a relation of Bools as one of types
-abbrev pub Holds : Rel → ℕ → ℕ → Type 0
-Holds H v w = So (H v w)
 
 pub moves-in : (ov ow : Bool) (g h : Game) (H : Rel) (v w : ℕ) → Moves ov ow (Succ g v) (Succ h w) (Holds H) → So (moves ov ow g h H v w)
 unfolding moves Moves

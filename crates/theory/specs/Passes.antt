@@ -58,3 +58,7 @@ pairStart n start i = start (i / n) (i % n)
 
 unfoldable pub pairTest : ℕ → (Rel → Rel) → Test
 pairTest n test m i = test (relOf n m) (i / n) (i % n)
+
+-- the relation that the passes leave between the numbers below n₁ and those below n₂: the largest in `start` on which `test` holds
+unfoldable pub largest : ℕ → ℕ → (Rel → Rel) → Rel → Rel
+largest n₁ n₂ test start = relOf n₂ (marked (finalMarks (n₁ * n₂) (pairTest n₂ test) (pairStart n₂ start)))

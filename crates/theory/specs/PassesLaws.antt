@@ -1,20 +1,18 @@
 -- Passes over any test: marks only fall, so the passes settle; what is left is the largest set inside the start set on which the test
 -- holds. Each pass before the last loses a mark, which bounds their count.
-use mathlib.Core.Path.{_≡_, refl, sym, ap, _∙_, subst, subst₂}
+use mathlib.Core.Path.{_≡_, refl, sym, ap, _∙_, subst₂}
 use mathlib.Core.Bool.{Bool, true, false, So}
 use Prim.Native.Nat.{ℕ, zero, suc, _+_, _*_, _/_, _%_, _≤_, _<_}
-use native.Mathlib.Nat.{le-refl}
-use native.Mathlib.Decide.{decLt}
 use native.Mathlib.Omega.{arith}
 use lib.Arith.{digits-lt, digits-div, digits-mod}
 use lib.ListN.{length}
-use Rattle.theory.specs.Bools.{_&_, imp}
+use Rattle.theory.specs.Bools.{_&_}
 use Rattle.theory.specs.BoolsLaws.{and-in, and-out, and-fails, imp-out, imp-fails}
-use Rattle.theory.specs.Range.{first, count}
+use Rattle.theory.specs.Range.{count}
 use Rattle.theory.specs.RangeLaws.{all-out, all-fails, first-before, first-passes}
 use Rattle.theory.specs.CountLaws.{count-all, count-le, count-mono, count-less, count-inject, row-lt, col-lt}
 use Rattle.theory.specs.ListLaws.{length-tabulate, getD-tabulate}
-use Rattle.theory.specs.Passes.{Marks, marked, Test, nextPass, pass, settled, rounds, passCount, finalMarks, Rel, relOf, pairStart, pairTest}
+use Rattle.theory.specs.Passes.{marked, Test, nextPass, pass, settled, rounds, passCount, finalMarks, Rel, relOf, pairStart, pairTest, largest}
 
 module _ (N : ℕ) (ok : Test) (start : ℕ → Bool) where
   pub length-pass : (k : ℕ) → length (pass N ok start k) ≡ N
@@ -102,26 +100,22 @@ module _ (N : ℕ) (ok : Test) (start : ℕ → Bool) where
 -- ---- the same over pairs of a number below n₁ and one below n₂
 
 module _ (n₁ n₂ : ℕ) (test : Rel → Rel) (start : Rel) where
-  -- the relation that the passes leave
-  unfoldable pub largest : Rel
-  largest = relOf n₂ (marked (finalMarks (n₁ * n₂) (pairTest n₂ test) (pairStart n₂ start)))
-
-  pub largest-start : (v w : ℕ) → v < n₁ → w < n₂ → So (largest v w) → So (start v w)
+  pub largest-start : (v w : ℕ) → v < n₁ → w < n₂ → So (largest n₁ n₂ test start v w) → So (start v w)
   unfolding largest relOf pairStart
   largest-start v w hv hw t =
       subst₂ (λ (x y : ℕ). So (start x y)) (digits-div v hw) (digits-mod v hw)
       (final-start (n₁ * n₂) (pairTest n₂ test) (pairStart n₂ start) (v * n₂ + w) (digits-lt hv hw) t)
 
-  pub largest-fixed : (v w : ℕ) → v < n₁ → w < n₂ → So (largest v w) → So (test largest v w)
+  pub largest-fixed : (v w : ℕ) → v < n₁ → w < n₂ → So (largest n₁ n₂ test start v w) → So (test (largest n₁ n₂ test start) v w)
   unfolding largest relOf pairTest
   largest-fixed v w hv hw t =
-      subst₂ (λ (x y : ℕ). So (test largest x y)) (digits-div v hw) (digits-mod v hw)
+      subst₂ (λ (x y : ℕ). So (test (largest n₁ n₂ test start) x y)) (digits-div v hw) (digits-mod v hw)
       (final-fixed (n₁ * n₂) (pairTest n₂ test) (pairStart n₂ start) (v * n₂ + w) (digits-lt hv hw) t)
 
   pub largest-contains : (H : ℕ → ℕ → Type 0)
       → ((v w : ℕ) → v < n₁ → w < n₂ → H v w → So (start v w))
       → ((m : Rel) → ((x y : ℕ) → x < n₁ → y < n₂ → H x y → So (m x y)) → (v w : ℕ) → v < n₁ → w < n₂ → H v w → So (test m v w))
-      → (v w : ℕ) → v < n₁ → w < n₂ → H v w → So (largest v w)
+      → (v w : ℕ) → v < n₁ → w < n₂ → H v w → So (largest n₁ n₂ test start v w)
   unfolding largest relOf pairTest pairStart
   largest-contains H inside holds v w hv hw r =
       final-contains (n₁ * n₂) (pairTest n₂ test) (pairStart n₂ start) (λ i. H (i / n₂) (i % n₂))

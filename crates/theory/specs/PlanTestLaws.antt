@@ -1,22 +1,21 @@
 -- The computed test suffices.
 use mathlib.Core.Path.{_≡_, refl}
 use mathlib.Core.Logic.{_⊎_, inl, inr}
-use mathlib.Core.Bool.{Bool, true, false, So, false≢true}
+use mathlib.Core.Bool.{false, So, false≢true}
 use mathlib.Core.List.{List, [], _∷_}
-use Prim.Native.Nat.{ℕ, _≤_, _<_, min}
+use Prim.Native.Nat.{ℕ, _≤_, _<_}
 use native.Mathlib.Omega.{arith}
 use lib.Dec.{eqb, ltb}
-use lib.ListN.{length, getD}
 use borrow.Author.Tests.{eqb-true, ltb-true}
-use Rattle.theory.specs.Bools.{_&_, _or_, imp}
+use Rattle.theory.specs.Bools.{_&_}
 use Rattle.theory.specs.BoolsLaws.{clash, and-out, or-out, imp-out}
 use Rattle.theory.specs.Range.{allBelow, anyBelow}
 use Rattle.theory.specs.RangeLaws.{all-out, any-out}
 use Rattle.theory.specs.Passes.{Rel}
-use Rattle.theory.specs.Game.{Player, parity, Game, own, Next, Succ}
+use Rattle.theory.specs.Game.{Player, parity, Game, own, Succ}
 use Rattle.theory.specs.Order.{allNext}
 use Rattle.theory.specs.OrderLaws.{allNext-out}
-use Rattle.theory.specs.Plan.{Plan, linked, Walk, Winning, Wins}
+use Rattle.theory.specs.Plan.{Plan, linked, Walk, Wins}
 use Rattle.theory.specs.Returns.{In, Return}
 use Rattle.theory.specs.ReturnsLaws.{closed-in}
 use Rattle.theory.specs.PlanTest.{eachLink, len, at, goodLink, answered, moved, surelyWins}

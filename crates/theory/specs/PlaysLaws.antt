@@ -1,12 +1,11 @@
 -- A winning plan wins in document 004's sense: the lowest priority that a play along its links sees for ever has the player's parity.
 -- Among more times than there are positions two are at one position, and the walk between them is closed.
 use mathlib.Core.Path.{_≡_, refl, sym, ap, _∙_, subst}
-use mathlib.Core.Logic.{_⊎_, inl, inr}
+use mathlib.Core.Logic.{inl, inr}
 use mathlib.Core.Bool.{Bool, So}
 use mathlib.Core.List.{List, [], _∷_}
 use Prim.Native.Nat.{ℕ, zero, suc, _+_, _-_, _≤_, _<_, min}
-use native.Mathlib.Nat.{le-antisymm, suc-add, le-of-suc-le-suc}
-use native.Mathlib.Decide.{decLt}
+use native.Mathlib.Nat.{le-antisymm}
 use native.Mathlib.Omega.{arith}
 use Rattle.theory.specs.RangeLaws.{below-suc}
 use Rattle.theory.specs.CountLaws.{Twice, pigeonhole}

@@ -1,30 +1,25 @@
 -- Edges between classes. A class has a quotient edge above each successor of its representative's, and a reduced edge above each
 -- quotient edge; all is said for the owner a, with `worse a` as "no better for a than".
-use mathlib.Core.Path.{_≡_, refl, sym, ap, _∙_, subst}
+use mathlib.Core.Path.{_≡_, refl}
 use mathlib.Core.Logic.{_≢_}
-use mathlib.Core.Bool.{Bool, true, false, not, So, false≢true}
+use mathlib.Core.Bool.{Bool, true, false, So, false≢true}
 use Prim.Native.Nat.{ℕ, _<_}
-use native.Mathlib.Omega.{arith}
-use lib.Dec.{eqb}
 use borrow.Author.Tests.{ne-eqb, eqb-false}
-use Rattle.theory.specs.Bools.{_&_, imp}
-use Rattle.theory.specs.BoolsLaws.{clash, So-not, not-in, not-out, and-in, and-out, imp-in, imp-out}
+use Rattle.theory.specs.Bools.{_&_}
+use Rattle.theory.specs.BoolsLaws.{So-not, not-in, not-out, and-in, and-out, imp-in, imp-out}
 use Rattle.theory.specs.Range.{anyBelow}
 use Rattle.theory.specs.RangeLaws.{all-in, all-out, any-in, any-out}
 use Rattle.theory.specs.Passes.{Rel}
-use Rattle.theory.specs.Game.{Player, even, odd, other, same, Game, own, Next, Succ}
+use Rattle.theory.specs.Game.{Player, even, odd, other, Game, own, Succ}
 use Rattle.theory.specs.GameLaws.{same-refl}
 use Rattle.theory.specs.Simulation.{Moves, Below}
 use Rattle.theory.specs.SimulationLaws.{below-dual, below-refl, below-trans, below-moves}
-use Rattle.theory.specs.Order.{anyNext, below, order}
-use Rattle.theory.specs.OrderLaws.{Holds, anyNext-in, anyNext-out, below-simulation, below-in, below-out, order-in, order-out, order-refl, order-trans}
+use Rattle.theory.specs.Order.{order, Preorder}
+use Rattle.theory.specs.OrderLaws.{anyNext-in, anyNext-out, order-in, order-out, order-refl, order-trans}
 use Rattle.theory.specs.Reduction.{sameClass, lowest, isLowest, worse, quotientEdge, dropped, reducedEdge}
-use Rattle.theory.specs.MaximalLaws.{Preorder, Top, top}
+use Rattle.theory.specs.ClassEdges.{QuotientEdge, Better, EdgeAbove}
+use Rattle.theory.specs.MaximalLaws.{top}
 use Rattle.theory.specs.ClassLaws.{sameClass-sym, sameClass-refl, sameClass-trans, lowest-lt, lowest-same, isLowest-lowest, isLowest-one}
-
--- every member of c's class has a successor in d's
-abbrev pub QuotientEdge : Game → ℕ → ℕ → Type 0
-QuotientEdge g c d = (v : ℕ) → v < g .n → So (sameClass (order g) v c) → (w : ℕ) × Succ g v w × So (sameClass (order g) w d)
 
 module _ (g : Game) where
   pub order-preorder : Preorder (g .n) (order g)
@@ -150,15 +145,7 @@ module _ (g : Game) where
 
   -- ---- edges to lowest members
 
-  -- an edge of E from c to a lowest member that is at least as good as x for the player
-  pub record EdgeAbove (E : Rel) (a : Player) (c x : ℕ) : Type 0 where
-    pub to : ℕ
-    pub inside : to < g .n
-    pub is-lowest : So (isLowest (g .n) (order g) to)
-    pub edge : So (E c to)
-    pub above : So (worse a (order g) x to)
-
-  pub quotient-above : (c x : ℕ) → c < g .n → Succ g c x → EdgeAbove (quotientEdge g (order g)) (g .owner c) c x
+  pub quotient-above : (c x : ℕ) → c < g .n → Succ g c x → EdgeAbove g (quotientEdge g (order g)) (g .owner c) c x
   quotient-above c x hc s =
       let a = g .owner c in
       let (d, hd, q, b) = edge-above a c x hc (same-refl a) s in
@@ -178,16 +165,7 @@ module _ (g : Game) where
   -- ---- lemma 2: a reduced edge above each quotient edge. Distinct lowest members are never both above each other, so a maximal
   -- quotient edge is kept.
 
-  -- what makes an edge to d be dropped: another one, to e, with d no better than e
-  pub record Better (c d : ℕ) : Type 0 where
-    pub to : ℕ
-    pub inside : to < g .n
-    pub is-lowest : So (isLowest (g .n) (order g) to)
-    pub apart : to ≡ d → ⊥
-    pub edge : So (quotientEdge g (order g) c to)
-    pub above : So (worse (g .owner c) (order g) d to)
-
-  pub dropped-out : (c d : ℕ) → So (dropped g (order g) c d) → Better c d
+  pub dropped-out : (c d : ℕ) → So (dropped g (order g) c d) → Better g c d
   unfolding dropped
   dropped-out c d t =
       let r = any-out t in
@@ -196,21 +174,21 @@ module _ (g : Game) where
       let s = and-out (q .0) in
       record { to = r .0; inside = r .1; is-lowest = s .0; apart = eqb-false (r .0) d (not-out (s .1)); edge = q .1; above = p .1 }
 
-  pub dropped-in : (c d : ℕ) → Better c d → So (dropped g (order g) c d)
+  pub dropped-in : (c d : ℕ) → Better g c d → So (dropped g (order g) c d)
   unfolding dropped
   dropped-in c d b =
       any-in (g .n) _ (b .to) (b .inside)
       (and-in (and-in (and-in (b .is-lowest) (not-in (ne-eqb (b .to) d (b .apart)))) (b .edge)) (b .above))
 
   pub reduced-above : (c d : ℕ) → d < g .n → So (isLowest (g .n) (order g) d) → So (quotientEdge g (order g) c d)
-      → EdgeAbove (reducedEdge g (order g)) (g .owner c) c d
+      → EdgeAbove g (reducedEdge g (order g)) (g .owner c) c d
   unfolding reducedEdge
   reduced-above c d hd ld q =
       let a = g .owner c in
       let t =
       top (g .n) (worse a (order g)) (worse-preorder a) (λ e. isLowest (g .n) (order g) e & quotientEdge g (order g) c e) d hd (and-in ld q) in
       let p = and-out (t .is-member) in
-      let kept : Better c (t .at) → ⊥ = λ b.
+      let kept : Better g c (t .at) → ⊥ = λ b.
       let back = t .maximal (b .to) (b .inside) (and-in (b .is-lowest) (b .edge)) (b .above) in
       b .apart
       (isLowest-one (g .n) (order g) order-preorder (b .to) (t .at) (b .inside) (t .inside) (b .is-lowest) (p .0)

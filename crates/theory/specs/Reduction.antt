@@ -5,9 +5,9 @@ use Prim.Native.Nat.{ℕ}
 use lib.Dec.{eqb}
 use Rattle.theory.specs.Bools.{_&_, imp}
 use Rattle.theory.specs.Range.{allBelow, anyBelow, first, count, nth}
-use Rattle.theory.specs.Passes.{Rel, marked, relOf}
+use Rattle.theory.specs.Passes.{Rel}
 use Rattle.theory.specs.Game.{Player, even, odd, Game}
-use Rattle.theory.specs.Order.{anyNext, orderMarks, order}
+use Rattle.theory.specs.Order.{anyNext, order}
 
 -- ---- classes of n vertices
 

@@ -5,21 +5,18 @@ use mathlib.Core.Path.{_≡_, refl}
 use mathlib.Core.Bool.{Bool, true, false, So}
 use Prim.Native.Nat.{ℕ, _<_}
 use Rattle.theory.specs.Passes.{Rel}
-use Rattle.theory.specs.Game.{even, Game, own, Next, Succ, Total}
+use Rattle.theory.specs.Game.{even, Game, own, Succ, Total}
 use Rattle.theory.specs.GameLaws.{same-out, same-fails}
 use Rattle.theory.specs.Simulation.{Moves, Passes, DirectSimulation, Below}
 use Rattle.theory.specs.SimulationLaws.{below-turn}
-use Rattle.theory.specs.Order.{order}
-use Rattle.theory.specs.OrderLaws.{Holds, order-in, order-trans, order-simulation}
+use Rattle.theory.specs.Order.{order, Holds}
+use Rattle.theory.specs.OrderLaws.{order-in, order-trans, order-simulation}
 use Rattle.theory.specs.Reduction.{sameClass, classCount, classNumber, representative, quotientEdge, reducedEdge, worse, classGame, quotient, reduced, classOf}
+use Rattle.theory.specs.ClassEdges.{Enough}
 use Rattle.theory.specs.ClassLaws.{sameClass-le, sameClass-ge, sameClass-refl, classNumber-lt, representative-lt, representative-of, representative-same}
-use Rattle.theory.specs.QuotientLaws.{order-preorder, worse-out, worse-trans, quotientEdge-out, EdgeAbove, quotient-above, reduced-above, reducedEdge-quotient}
+use Rattle.theory.specs.QuotientLaws.{order-preorder, worse-out, worse-trans, quotientEdge-out, quotient-above, reduced-above, reducedEdge-quotient}
 
 -- ---- any game of classes with enough quotient edges
-
-pub record Enough (g : Game) (E : Rel) : Type 0 where
-  pub is-quotient : (c d : ℕ) → So (E c d) → So (quotientEdge g (order g) c d)
-  pub above : (c x : ℕ) → c < g .n → Succ g c x → EdgeAbove g E (g .owner c) c x
 
 module _ (g : Game) (E : Rel) (enough : Enough g E) where
   abbrev K : Game

@@ -1,8 +1,8 @@
 -- Refusal 16 is a return: one way the return is the closed walk, the other way the walk is started at the position.
-use mathlib.Core.Path.{_≡_, refl, sym, ap, _∙_}
-use mathlib.Core.Logic.{_⊎_, inl, inr, _↔_}
-use mathlib.Core.Bool.{Bool, So, false}
-use mathlib.Core.List.{List, [], _∷_}
+use mathlib.Core.Path.{_≡_, refl}
+use mathlib.Core.Logic.{inl, inr, _↔_}
+use mathlib.Core.Bool.{Bool, So}
+use mathlib.Core.List.{List, _∷_}
 use Prim.Native.Nat.{ℕ, _≤_, min}
 use native.Mathlib.Nat.{le-refl, le-antisymm}
 use Rattle.theory.specs.BoolsLaws.{decide, clash}

@@ -29,3 +29,7 @@ pub record Below (a : Player) (G₁ G₂ : Game) (v w : ℕ) : Type 1 where
   pub relation : ℕ → ℕ → Type 0
   pub simulation : Simulation a G₁ G₂ relation
   pub holds : relation v w
+
+-- one relation after another, through a vertex of Y in between
+abbrev pub Compose {ℓ} : (ℕ → Type 0) → (ℕ → ℕ → Type ℓ) → (ℕ → ℕ → Type ℓ) → ℕ → ℕ → Type ℓ
+Compose Y H K v w = (u : ℕ) × Y u × H v u × K u w

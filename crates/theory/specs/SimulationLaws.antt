@@ -2,9 +2,9 @@
 use mathlib.Core.Path.{_≡_, refl, sym, _∙_, subst}
 use mathlib.Core.Bool.{Bool, true, false, not}
 use Prim.Native.Nat.{ℕ, _<_}
-use Rattle.theory.specs.Game.{Player, even, odd, other, Game, own, Next, Succ}
-use Rattle.theory.specs.GameLaws.{same-other, same-fails}
-use Rattle.theory.specs.Simulation.{Moves, Passes, Simulation, Below}
+use Rattle.theory.specs.Game.{Player, other, Game, own, Succ}
+use Rattle.theory.specs.GameLaws.{same-other}
+use Rattle.theory.specs.Simulation.{Moves, Passes, Simulation, Below, Compose}
 
 -- ---- the pair test
 
@@ -29,10 +29,6 @@ pub moves-refl : (o : Bool) (X : ℕ → Type 0) → Moves o o X X (λ v w. v �
 unfolding Moves
 moves-refl true X = λ v s. (v, s, refl)
 moves-refl false X = λ v s. (v, s, refl)
-
--- through a vertex in between
-abbrev pub Compose {ℓ} : (ℕ → Type 0) → (ℕ → ℕ → Type ℓ) → (ℕ → ℕ → Type ℓ) → ℕ → ℕ → Type ℓ
-Compose Y H K v w = (u : ℕ) × Y u × H v u × K u w
 
 pub moves-compose {ℓ} : (ov ou ow : Bool) (X Y Z : ℕ → Type 0) (H K : ℕ → ℕ → Type ℓ)
     → Moves ov ou X Y H → Moves ou ow Y Z K → Moves ov ow X Z (Compose Y H K)

@@ -5,7 +5,7 @@ use Prim.Native.Nat.{ℕ, _+_, _*_, _/_, _%_, _≤_, _<_}
 use native.Mathlib.Nat.{le-trans}
 use lib.Arith.{digits-lt, digits-div, digits-mod}
 use Rattle.theory.specs.CountLaws.{count-mono, count-inject, row-lt, col-lt, pair-ext}
-use Rattle.theory.specs.Game.{Game, Next, edgeCount}
+use Rattle.theory.specs.Game.{Game, edgeCount}
 use Rattle.theory.specs.Order.{order}
 use Rattle.theory.specs.Reduction.{sameClass, classCount, representative, classGame, quotient, reduced}
 use Rattle.theory.specs.ClassLaws.{sameClass-sym, sameClass-refl, sameClass-trans, classCount-le, representative-lt, representative-one, representatives-apart}

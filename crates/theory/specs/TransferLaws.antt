@@ -1,61 +1,46 @@
 -- A winning plan is carried along a simulation: if H relates x to y for a player, a plan of that player's from x gives one from y.
 -- Core: a plan that projects to a winning one wins, since its closed walks project to closed walks with the same priorities.
 -- Step: at a related pair of a position and a vertex the simulation finds the next pair, or one for each move of the opponent's.
-use mathlib.Core.Path.{_≡_, refl, sym, ap, ap₂, _∙_, subst}
+use mathlib.Core.Path.{_≡_, refl, sym, _∙_, subst}
 use mathlib.Core.Bool.{Bool, true, false, cond, So, true≢false, false≢true}
-use mathlib.Core.List.{List, [], _∷_, map}
-use Prim.Native.Nat.{ℕ, zero, suc, _+_, _*_, _/_, _%_, _≤_, _<_}
+use mathlib.Core.List.{map}
+use Prim.Native.Nat.{ℕ, zero, suc, _+_, _*_, _/_, _%_, _<_}
 use native.Mathlib.Nat.{mod-lt}
 use native.Mathlib.Omega.{arith}
 use lib.Arith.{digits-lt, digits-div, digits-mod}
 use lib.ListN.{length, getD}
 use Rattle.theory.specs.BoolsLaws.{and-in, and-out}
-use Rattle.theory.specs.Range.{tabulate, pairsOf}
 use Rattle.theory.specs.CountLaws.{row-lt}
 use Rattle.theory.specs.ListLaws.{length-tabulate, getD-tabulate}
 use Rattle.theory.specs.Passes.{Rel}
-use Rattle.theory.specs.Game.{Player, even, odd, other, parity, Game, own, Next, Succ}
-use Rattle.theory.specs.Simulation.{Moves, Passes, Simulation, Below}
-use Rattle.theory.specs.Order.{below}
-use Rattle.theory.specs.OrderLaws.{Holds, below-simulation, below-in}
-use Rattle.theory.specs.Plan.{Plan, linked, Walk, seen, Winning, WinsBy, Won}
+use Rattle.theory.specs.Game.{Player, Game, own, Succ}
+use Rattle.theory.specs.Simulation.{Moves, Simulation, Below}
+use Rattle.theory.specs.Order.{below, Holds}
+use Rattle.theory.specs.OrderLaws.{below-simulation, below-in}
+use Rattle.theory.specs.Plan.{Plan, linked, Winning, WinsBy, Won}
 use Rattle.theory.specs.WalkLaws.{walk-over, seen-over}
 use Rattle.theory.specs.LinkLaws.{pairsOf-in, pairsOf-out}
-use Rattle.theory.specs.Transfer.{isPair, oldPosition, newVertex, newLink, positions, carried}
+use Rattle.theory.specs.Transfer.{isPair, oldPosition, newVertex, newLink, positions, carried, Projects}
 
 -- ---- core: positions k that stand for the positions `pos k` of a winning plan
 
 module _ (op : ℕ → ℕ → ℕ) (a : Player) (G₁ G₂ : Game)
     (len : ℕ) (at : ℕ → ℕ) (link : ℕ → ℕ → Bool) (v : ℕ) (win : Winning op a G₁ len at link v)
-    (len′ : ℕ) (at′ : ℕ → ℕ) (link′ : ℕ → ℕ → Bool) (w : ℕ) (pos : ℕ → ℕ) where
-  -- what the new plan has to bring: all of `Winning` but the closed walks, priorities as below, links over links
-  pub record Projects : Type 0 where
-    pub some : 0 < len′
-    pub start : at′ 0 ≡ w
-    pub vertex : (k : ℕ) → k < len′ → at′ k < G₂ .n
-    pub equal : (k : ℕ) → k < len′ → G₂ .priority (at′ k) ≡ G₁ .priority (at (pos k))
-    pub source : (k l : ℕ) → So (link′ k l) → k < len′
-    pub target : (k l : ℕ) → So (link′ k l) → l < len′
-    pub over : (k l : ℕ) → So (link′ k l) → So (link (pos k) (pos l))
-    pub follows : (k l : ℕ) → So (link′ k l) → So (G₂ .edge (at′ k) (at′ l))
-    pub moves : (k : ℕ) → k < len′ → So (own G₂ a (at′ k)) → (l : ℕ) × So (link′ k l)
-    pub answers : (k : ℕ) → k < len′ → own G₂ a (at′ k) ≡ false → (u : ℕ) → Succ G₂ (at′ k) u → (l : ℕ) × So (link′ k l) × (at′ l ≡ u)
-
-  module _ (p : Projects) where
-    pub winning-projects : Winning op a G₂ len′ at′ link′ w
-    winning-projects = record {
-      some = p .some;
-      start = p .start;
-      vertex = p .vertex;
-      source = p .source;
-      target = p .target;
-      follows = p .follows;
-      moves = p .moves;
-      answers = p .answers;
-      closed = λ i ks c.
-          rw (seen-over link link′ pos (p .over) op (λ i. G₁ .priority (at i)) (λ i. G₂ .priority (at′ i)) (λ k l t. p .equal k (p .source k l t)) i ks i c)
-          (win .closed (pos i) (map pos ks) (walk-over link link′ pos (p .over) i ks i c));
-    }
+    (len′ : ℕ) (at′ : ℕ → ℕ) (link′ : ℕ → ℕ → Bool) (w : ℕ) (pos : ℕ → ℕ) (p : Projects a G₁ G₂ at link len′ at′ link′ w pos) where
+  pub winning-projects : Winning op a G₂ len′ at′ link′ w
+  winning-projects = record {
+    some = p .some;
+    start = p .start;
+    vertex = p .vertex;
+    source = p .source;
+    target = p .target;
+    follows = p .follows;
+    moves = p .moves;
+    answers = p .answers;
+    closed = λ i ks c.
+        rw (seen-over link link′ pos (p .over) op (λ i. G₁ .priority (at i)) (λ i. G₂ .priority (at′ i)) (λ k l t. p .equal k (p .source k l t)) i ks i c)
+        (win .closed (pos i) (map pos ks) (walk-over link link′ pos (p .over) i ks i c));
+  }
 
 -- ---- step: a position i and a vertex u of G₂ that its vertex is related to
 
@@ -177,7 +162,7 @@ module _ (op : ℕ → ℕ → ℕ) (a : Player) (G₁ G₂ : Game) (H : Rel) (s
   unfolding new newVertex
   start-is = refl
 
-  carried-projects : Projects op a G₁ G₂ len at (linked (P .links)) x win
+  carried-projects : Projects a G₁ G₂ at (linked (P .links))
       (length (carried H G₂ y P .vertices)) (λ k. getD (carried H G₂ y P .vertices) k 0) (linked (carried H G₂ y P .links)) y old
   carried-projects =
       let inside : (k : ℕ) → k < length (carried H G₂ y P .vertices) → k < size = λ k h. rw size-is at h in record {

@@ -1,19 +1,19 @@
 -- No vertex has winning plans for both players: played against each other, the two plans walk in step through one vertex after another;
 -- after enough steps both are where they were before, on a closed walk of each that sees the same priorities.
-use mathlib.Core.Path.{_≡_, refl, sym, ap, ap₂, _∙_, subst}
+use mathlib.Core.Path.{_≡_, sym, ap, ap₂, _∙_, subst}
 use mathlib.Core.Logic.{_⊎_, inl, inr}
-use mathlib.Core.Bool.{Bool, true, false, not, So}
+use mathlib.Core.Bool.{Bool, false, not, So}
 use mathlib.Core.List.{List, [], _∷_, map}
-use Prim.Native.Nat.{ℕ, zero, suc, _+_, _*_, _/_, _%_, _-_, _≤_, _<_, min}
+use Prim.Native.Nat.{ℕ, zero, suc, _+_, _*_, _/_, _%_, _-_, _<_, min}
 use native.Mathlib.Nat.{zero-add, suc-add}
 use native.Mathlib.Omega.{arith}
 use lib.Arith.{digits-lt, digits-div, digits-mod}
 use lib.ListN.{length, getD}
-use Rattle.theory.specs.BoolsLaws.{decide, clash, not-out, not-in}
-use Rattle.theory.specs.CountLaws.{Twice, pigeonhole}
-use Rattle.theory.specs.Game.{Player, even, odd, other, parity, Game, own, Next, Succ}
+use Rattle.theory.specs.BoolsLaws.{decide, clash, not-out}
+use Rattle.theory.specs.CountLaws.{pigeonhole}
+use Rattle.theory.specs.Game.{Player, other, Game, own, Succ}
 use Rattle.theory.specs.GameLaws.{same-other, parity-other}
-use Rattle.theory.specs.Plan.{Plan, linked, Walk, seen, Winning, Wins, Won}
+use Rattle.theory.specs.Plan.{linked, Walk, seen, Winning, Won}
 
 module _ (a : Player) (G : Game) (len₁ : ℕ) (at₁ : ℕ → ℕ) (link₁ : ℕ → ℕ → Bool) (len₂ : ℕ) (at₂ : ℕ → ℕ) (link₂ : ℕ → ℕ → Bool) where
   -- a position of each plan, at one vertex

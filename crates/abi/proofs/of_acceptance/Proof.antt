@@ -5,32 +5,22 @@ use Rattle.abi.specs.Fields.{acceptFields}
 use borrow.Author.Needs.{needs}
 use Rattle.abi.proofs.of_acceptance.Statement.{statement}
 use Rattle.abi.proofs.of_acceptance.Tie as tie
-use Rattle.abi.proofs.of_acceptance.Reads as reads
-use Rattle.abi.proofs.of_acceptance.Lts as lts
-use Rattle.abi.proofs.accepted.Reads as accepted-reads
-use Rattle.abi.proofs.refused.Reads as refused-reads
 
--- src/lib.rt:73:33
 enum-told : tie.Need-enum-told
 enum-told c = search needs
 
--- src/lib.rt:73:33
 accepted-requires : tie.Need-accepted-requires
 accepted-requires c κs = search needs
 
--- src/lib.rt:74:29
 enum-known-acceptance : tie.Need-enum-known-acceptance
 enum-known-acceptance c = search needs
 
--- src/lib.rt:74:41
 refused-requires : tie.Need-refused-requires
 refused-requires c κs = search needs
 
--- src/lib.rt:69:1
 returns : tie.Need-returns
 returns c = c .accepted .ensures ∙ ap (λ (o : Acceptance). acceptFields (acceptanceAnswer o)) (sym (c .before .enum-told .given .1))
 
--- src/lib.rt:69:1
 returns-2 : tie.Need-returns-2
 returns-2 c = c .refused .ensures ∙ ap (λ (o : Acceptance). acceptFields (acceptanceAnswer o)) (sym (c .before .before .acceptance .given .1))
 

@@ -6,36 +6,25 @@ use Rattle.abi.specs.Fields.{classesFields, SmallCount}
 use borrow.Author.Needs.{needs}
 use Rattle.abi.proofs.of_classification.Statement.{statement}
 use Rattle.abi.proofs.of_classification.Tie as tie
-use Rattle.abi.proofs.of_classification.Reads as reads
-use Rattle.abi.proofs.of_classification.Lts as lts
-use Rattle.abi.proofs.accepted.Reads as accepted-reads
-use Rattle.abi.proofs.refused.Reads as refused-reads
 
--- src/lib.rt:125:34
 enum-known-classification : tie.Need-enum-known-classification
 enum-known-classification c = search needs
 
--- src/lib.rt:125:56
 cast-accepted : tie.Need-cast-accepted
 cast-accepted c = omega (arith, subst SmallCount (c .before .before .classification .given .1) (c .before .before .before .before .pre))
 
--- src/lib.rt:125:44
 accepted-requires : tie.Need-accepted-requires
 accepted-requires c κs = search needs
 
--- src/lib.rt:126:33
 enum-known-classification-2 : tie.Need-enum-known-classification-2
 enum-known-classification-2 c = search needs
 
--- src/lib.rt:126:45
 refused-requires : tie.Need-refused-requires
 refused-requires c κs = search needs
 
--- src/lib.rt:120:1
 returns : tie.Need-returns
 returns c = c .accepted .ensures ∙ ap (λ (o : Classification). classesFields (classificationAnswer o)) (sym (c .before .before .before .classification .given .1))
 
--- src/lib.rt:120:1
 returns-2 : tie.Need-returns-2
 returns-2 c = c .refused .ensures ∙ ap (λ (o : Classification). classesFields (classificationAnswer o)) (sym (c .before .before .classification2 .given .1))
 

@@ -5,32 +5,22 @@ use Rattle.abi.specs.Fields.{orderFields}
 use borrow.Author.Needs.{needs}
 use Rattle.abi.proofs.of_ordering.Statement.{statement}
 use Rattle.abi.proofs.of_ordering.Tie as tie
-use Rattle.abi.proofs.of_ordering.Reads as reads
-use Rattle.abi.proofs.of_ordering.Lts as lts
-use Rattle.abi.proofs.accepted.Reads as accepted-reads
-use Rattle.abi.proofs.refused.Reads as refused-reads
 
--- src/lib.rt:64:28
 enum-known-ordering : tie.Need-enum-known-ordering
 enum-known-ordering c = search needs
 
--- src/lib.rt:64:38
 accepted-requires : tie.Need-accepted-requires
 accepted-requires c κs = search needs
 
--- src/lib.rt:65:27
 enum-known-ordering-2 : tie.Need-enum-known-ordering-2
 enum-known-ordering-2 c = search needs
 
--- src/lib.rt:65:39
 refused-requires : tie.Need-refused-requires
 refused-requires c κs = search needs
 
--- src/lib.rt:60:1
 returns : tie.Need-returns
 returns c = c .accepted .ensures ∙ ap (λ (o : Ordering). orderFields (orderingAnswer o)) (sym (c .before .before .ordering .given .1))
 
--- src/lib.rt:60:1
 returns-2 : tie.Need-returns-2
 returns-2 c = c .refused .ensures ∙ ap (λ (o : Ordering). orderFields (orderingAnswer o)) (sym (c .before .before .ordering2 .given .1))
 

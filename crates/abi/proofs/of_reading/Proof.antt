@@ -6,40 +6,28 @@ use Rattle.abi.specs.Fields.{readFields, SmallSizes}
 use borrow.Author.Needs.{needs}
 use Rattle.abi.proofs.of_reading.Statement.{statement}
 use Rattle.abi.proofs.of_reading.Tie as tie
-use Rattle.abi.proofs.of_reading.Reads as reads
-use Rattle.abi.proofs.of_reading.Lts as lts
-use Rattle.abi.proofs.accepted.Reads as accepted-reads
-use Rattle.abi.proofs.refused.Reads as refused-reads
 
--- src/lib.rt:48:27
 enum-known-reading : tie.Need-enum-known-reading
 enum-known-reading c = search needs
 
--- src/lib.rt:48:52
 cast-accepted : tie.Need-cast-accepted
 cast-accepted c = omega (arith, subst SmallSizes (c .before .before .reading .given .1) (c .before .before .before .before .pre))
 
--- src/lib.rt:48:75
 cast-accepted-2 : tie.Need-cast-accepted-2
 cast-accepted-2 c = omega (arith, subst SmallSizes (c .before .before .before .reading .given .1) (c .before .before .before .before .before .pre))
 
--- src/lib.rt:48:37
 accepted-requires : tie.Need-accepted-requires
 accepted-requires c κs = search needs
 
--- src/lib.rt:49:26
 enum-known-reading-2 : tie.Need-enum-known-reading-2
 enum-known-reading-2 c = search needs
 
--- src/lib.rt:49:38
 refused-requires : tie.Need-refused-requires
 refused-requires c κs = search needs
 
--- src/lib.rt:43:1
 returns : tie.Need-returns
 returns c = c .accepted .ensures ∙ ap (λ (o : Reading). readFields (readingAnswer o)) (sym (c .before .before .before .before .reading .given .1))
 
--- src/lib.rt:43:1
 returns-2 : tie.Need-returns-2
 returns-2 c = c .refused .ensures ∙ ap (λ (o : Reading). readFields (readingAnswer o)) (sym (c .before .before .reading2 .given .1))
 

@@ -6,44 +6,31 @@ use Rattle.abi.specs.Fields.{tableFields, SmallCounts}
 use borrow.Author.Needs.{needs}
 use Rattle.abi.proofs.of_tabulation.Statement.{statement}
 use Rattle.abi.proofs.of_tabulation.Tie as tie
-use Rattle.abi.proofs.of_tabulation.Reads as reads
-use Rattle.abi.proofs.of_tabulation.Lts as lts
-use Rattle.abi.proofs.accepted.Reads as accepted-reads
-use Rattle.abi.proofs.refused.Reads as refused-reads
 
--- src/lib.rt:147:30
 enum-known-tabulation : tie.Need-enum-known-tabulation
 enum-known-tabulation c = search needs
 
--- src/lib.rt:149:13
 cast-accepted : tie.Need-cast-accepted
 cast-accepted c = omega (arith, subst SmallCounts (c .before .before .tabulation .given .1) (c .before .before .before .before .pre))
 
--- src/lib.rt:150:13
 cast-accepted-2 : tie.Need-cast-accepted-2
 cast-accepted-2 c = omega (arith, subst SmallCounts (c .before .before .before .tabulation .given .1) (c .before .before .before .before .before .pre))
 
--- src/lib.rt:151:13
 cast-accepted-3 : tie.Need-cast-accepted-3
 cast-accepted-3 c = omega (arith, subst SmallCounts (c .before .before .before .before .tabulation .given .1) (c .before .before .before .before .before .before .pre))
 
--- src/lib.rt:147:41
 accepted-requires : tie.Need-accepted-requires
 accepted-requires c κs = search needs
 
--- src/lib.rt:153:29
 enum-known-tabulation-2 : tie.Need-enum-known-tabulation-2
 enum-known-tabulation-2 c = search needs
 
--- src/lib.rt:153:41
 refused-requires : tie.Need-refused-requires
 refused-requires c κs = search needs
 
--- src/lib.rt:142:1
 returns : tie.Need-returns
 returns c = c .accepted .ensures ∙ ap (λ (o : Tabulation). tableFields (tabulationAnswer o)) (sym (c .before .before .before .before .before .tabulation .given .1))
 
--- src/lib.rt:142:1
 returns-2 : tie.Need-returns-2
 returns-2 c = c .refused .ensures ∙ ap (λ (o : Tabulation). tableFields (tabulationAnswer o)) (sym (c .before .before .tabulation2 .given .1))
 

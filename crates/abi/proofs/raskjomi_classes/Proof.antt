@@ -2,33 +2,23 @@ use Rattle.abi.specs.FieldsLaws.{classification-small}
 use borrow.Author.Needs.{needs}
 use Rattle.abi.proofs.raskjomi_classes.Statement.{statement}
 use Rattle.abi.proofs.raskjomi_classes.Tie as tie
-use Rattle.abi.proofs.raskjomi_classes.Reads as reads
-use Rattle.abi.proofs.raskjomi_classes.Lts as lts
-use Rattle.abi.proofs.of_classification.Reads as of-classification-reads
-use Rattle.reduction.proofs.write_classes.Reads as write-classes-reads
 
--- src/lib.rt:139:23
 write-classes-requires : tie.Need-write-classes-requires
 write-classes-requires c κs = search needs
 
--- src/lib.rt:139:5
 of-classification-requires : tie.Need-of-classification-requires
 of-classification-requires c κs =
     classification-small _ _ _ _ (c .before .before .before .before .before .before .write-classes .result) _ _ _ (c .before .before .before .before .before .before .write-classes .ensures)
 
--- src/lib.rt:130:1
 same-length : tie.Need-same-length
 same-length c = search needs
 
--- src/lib.rt:130:1
 same-length-2 : tie.Need-same-length-2
 same-length-2 c = search needs
 
--- src/lib.rt:130:1
 same-length-3 : tie.Need-same-length-3
 same-length-3 c = search needs
 
--- src/lib.rt:130:1
 returns : tie.Need-returns
 returns c = search needs
 

@@ -4,37 +4,26 @@ use Rattle.abi.specs.FieldsLaws.{tabulation-small}
 use borrow.Author.Needs.{needs}
 use Rattle.abi.proofs.raskjomi_quotient.Statement.{statement}
 use Rattle.abi.proofs.raskjomi_quotient.Tie as tie
-use Rattle.abi.proofs.raskjomi_quotient.Reads as reads
-use Rattle.abi.proofs.raskjomi_quotient.Lts as lts
-use Rattle.abi.proofs.of_tabulation.Reads as of-tabulation-reads
-use Rattle.reduction.proofs.write_quotient.Reads as write-quotient-reads
 
--- src/lib.rt:167:19
 write-quotient-requires : tie.Need-write-quotient-requires
 write-quotient-requires c κs = search needs
 
--- src/lib.rt:167:5
 of-tabulation-requires : tie.Need-of-tabulation-requires
 of-tabulation-requires c κs =
     tabulation-small quotient quotient-size quotient-edges _ _ _ _ _ (c .before .before .before .before .before .before .before .before .write-quotient .result) _ _ _ _ (c .before .before .before .before .before .before .before .before .write-quotient .ensures)
 
--- src/lib.rt:157:1
 same-length : tie.Need-same-length
 same-length c = search needs
 
--- src/lib.rt:157:1
 same-length-2 : tie.Need-same-length-2
 same-length-2 c = search needs
 
--- src/lib.rt:157:1
 same-length-3 : tie.Need-same-length-3
 same-length-3 c = search needs
 
--- src/lib.rt:157:1
 same-length-4 : tie.Need-same-length-4
 same-length-4 c = search needs
 
--- src/lib.rt:157:1
 returns : tie.Need-returns
 returns c = search needs
 

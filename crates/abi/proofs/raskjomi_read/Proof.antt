@@ -4,20 +4,13 @@ use Rattle.abi.specs.FieldsLaws.{reading-small}
 use borrow.Author.Needs.{needs}
 use Rattle.abi.proofs.raskjomi_read.Statement.{statement}
 use Rattle.abi.proofs.raskjomi_read.Tie as tie
-use Rattle.abi.proofs.raskjomi_read.Reads as reads
-use Rattle.abi.proofs.raskjomi_read.Lts as lts
-use Rattle.abi.proofs.of_reading.Reads as of-reading-reads
-use Rattle.table.proofs.read.Reads as read-reads
 
--- src/lib.rt:57:16
 read-requires : tie.Need-read-requires
 read-requires c κs = search needs
 
--- src/lib.rt:57:5
 of-reading-requires : tie.Need-of-reading-requires
 of-reading-requires c κs = reading-small _ (c .read .result) (c .read .ensures)
 
--- src/lib.rt:53:1
 returns : tie.Need-returns
 returns c = c .of-reading .ensures ∙ ap readFields (c .before .read .ensures)
 

@@ -4,37 +4,26 @@ use Rattle.abi.specs.FieldsLaws.{tabulation-small}
 use borrow.Author.Needs.{needs}
 use Rattle.abi.proofs.raskjomi_reduce.Statement.{statement}
 use Rattle.abi.proofs.raskjomi_reduce.Tie as tie
-use Rattle.abi.proofs.raskjomi_reduce.Reads as reads
-use Rattle.abi.proofs.raskjomi_reduce.Lts as lts
-use Rattle.abi.proofs.of_tabulation.Reads as of-tabulation-reads
-use Rattle.reduction.proofs.write_reduced.Reads as write-reduced-reads
 
--- src/lib.rt:180:19
 write-reduced-requires : tie.Need-write-reduced-requires
 write-reduced-requires c κs = search needs
 
--- src/lib.rt:180:5
 of-tabulation-requires : tie.Need-of-tabulation-requires
 of-tabulation-requires c κs =
     tabulation-small reduced reduced-size reduced-edges _ _ _ _ _ (c .before .before .before .before .before .before .before .before .write-reduced .result) _ _ _ _ (c .before .before .before .before .before .before .before .before .write-reduced .ensures)
 
--- src/lib.rt:170:1
 same-length : tie.Need-same-length
 same-length c = search needs
 
--- src/lib.rt:170:1
 same-length-2 : tie.Need-same-length-2
 same-length-2 c = search needs
 
--- src/lib.rt:170:1
 same-length-3 : tie.Need-same-length-3
 same-length-3 c = search needs
 
--- src/lib.rt:170:1
 same-length-4 : tie.Need-same-length-4
 same-length-4 c = search needs
 
--- src/lib.rt:170:1
 returns : tie.Need-returns
 returns c = search needs
 

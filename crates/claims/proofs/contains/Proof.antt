@@ -2,28 +2,19 @@ use Rattle.claims.specs.SentencesLaws as laws
 use borrow.Author.Needs.{needs}
 use Rattle.claims.proofs.contains.Statement.{statement}
 use Rattle.claims.proofs.contains.Tie as tie
-use Rattle.claims.proofs.contains.Reads as reads
-use Rattle.claims.proofs.contains.Lts as lts
-use Rattle.order.proofs.accept_relation.Reads as accept-relation-reads
-use Rattle.order.proofs.write_order.Reads as write-order-reads
 
--- src/lib.rt:19:9
 accept-relation-requires : tie.Need-accept-relation-requires
 accept-relation-requires c κs = search needs
 
--- src/lib.rt:20:9
 write-order-requires : tie.Need-write-order-requires
 write-order-requires c κs = search needs
 
--- src/lib.rt:16:1
 same-length : tie.Need-same-length
 same-length c = search needs
 
--- src/lib.rt:16:1
 same-length-2 : tie.Need-same-length-2
 same-length-2 c = search needs
 
--- src/lib.rt:16:1
 returns : tie.Need-returns
 returns c = laws.contains _ _ _ _ _ _ _ (c .before .before .before .before .before .before .before .accept-relation .ensures) (c .before .before .before .before .write-order .ensures)
 

@@ -2,31 +2,22 @@ use Rattle.claims.specs.SentencesLaws as laws
 use borrow.Author.Needs.{needs}
 use Rattle.claims.proofs.reduces.Statement.{statement}
 use Rattle.claims.proofs.reduces.Tie as tie
-use Rattle.claims.proofs.reduces.Reads as reads
-use Rattle.claims.proofs.reduces.Lts as lts
-use Rattle.reduction.proofs.write_reduced.Reads as write-reduced-reads
 
--- src/lib.rt:46:5
 write-reduced-requires : tie.Need-write-reduced-requires
 write-reduced-requires c κs = search needs
 
--- src/lib.rt:37:1
 same-length : tie.Need-same-length
 same-length c = search needs
 
--- src/lib.rt:37:1
 same-length-2 : tie.Need-same-length-2
 same-length-2 c = search needs
 
--- src/lib.rt:37:1
 same-length-3 : tie.Need-same-length-3
 same-length-3 c = search needs
 
--- src/lib.rt:37:1
 same-length-4 : tie.Need-same-length-4
 same-length-4 c = search needs
 
--- src/lib.rt:37:1
 returns : tie.Need-returns
 returns c = laws.reduces _ _ _ _ _ _ _ _ _ _ (c .before .before .before .before .before .before .before .before .write-reduced .ensures)
 

@@ -1,0 +1,29 @@
+-- What an accepted call has written, as the statements of `Demands` and `Sentences` name it.
+use mathlib.Core.Path.{_≡_}
+use mathlib.Core.Logic.{_↔_}
+use mathlib.Core.List.{List}
+use Prim.Native.Nat.{ℕ, _≤_, _<_}
+use lib.ListN.{take}
+use Rattle.theory.specs.Game.{Player, Game, Total, edgeCount}
+use Rattle.theory.specs.Order.{orderMarks}
+use Rattle.theory.specs.Plan.{Won}
+use Rattle.theory.specs.Reduction.{classOf}
+use Rattle.table.specs.Table.{tableLength, gameOf}
+use Rattle.table.specs.Verdict.{Answer, after}
+use Rattle.order.specs.Bytes.{bytes}
+
+-- the marks buffer, old before the call and new after it, holds the order where the call accepts
+abbrev pub LeavesOrder : List ℕ → Answer → List ℕ → List ℕ → Type 0
+LeavesOrder game answer old new = new ≡ after answer (bytes (orderMarks (gameOf game))) old
+
+-- the written table: as many words of the output as the verdict's counts, n vertices and e edges, tell
+abbrev pub writtenTable : ℕ → ℕ → List ℕ → List ℕ
+writtenTable n e output = take (tableLength n e) output
+
+-- what the quotient and the reduced game share, as functions K of the game
+pub record Faithful (K : Game → Game) : Type 0 where
+  pub total : (g : Game) → Total g → Total (K g)
+  pub size : (g : Game) → K g .n ≤ g .n
+  pub edges : (g : Game) → edgeCount (K g) ≤ edgeCount g
+  pub class : (g : Game) (v : ℕ) → v < g .n → classOf g v < K g .n
+  pub winner : (g : Game) (a : Player) (v : ℕ) → v < g .n → Won a g v ↔ Won a (K g) (classOf g v)
