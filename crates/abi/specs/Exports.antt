@@ -1,19 +1,19 @@
--- The promises of the exports that write: the library's, through the fields of the answer.
+-- The promises of the exports that write: the library's answer, its fields, and the library's promise.
 use mathlib.Core.Path.{_≡_}
 use mathlib.Core.List.{List}
 use Prim.Native.Nat.{ℕ}
 use Rattle.theory.specs.Game.{Game}
 use Rattle.table.specs.Verdict.{Answer}
-use Rattle.order.specs.OrderCall.{orderAnswer, OrderWritten}
+use Rattle.order.specs.OrderCall.{OrderWritten}
 use Rattle.reduction.specs.Calls.{ClassesCall, TableCall}
 use Rattle.abi.specs.Fields.{orderFields, classesFields, tableFields}
 use Rattle.abi.specs.declared.RaskjomiAnswer.{RaskjomiAnswer}
 
 pub record OrderExport (game oldMarks newMarks oldSpare newSpare : List ℕ) (r : RaskjomiAnswer) : Type 0 where
-  pub answer : r ≡ orderFields (orderAnswer game oldMarks oldSpare)
-  pub written : OrderWritten game oldMarks newMarks oldSpare newSpare (orderAnswer game oldMarks oldSpare)
+  pub answer : Answer
+  pub fields : r ≡ orderFields answer
+  pub call : OrderWritten game oldMarks newMarks oldSpare newSpare answer
 
--- the library's answer, and its fields
 pub record ClassesExport (game marks spare classes : List ℕ) (r : RaskjomiAnswer) (marks′ spare′ classes′ : List ℕ) : Type 0 where
   pub answer : Answer
   pub fields : r ≡ classesFields answer

@@ -9,10 +9,11 @@ use Rattle.reduction.specs.declared.Classification.{Classification}
 use Rattle.reduction.specs.declared.Tabulation.{Tabulation}
 use Rattle.abi.specs.declared.RaskjomiAnswer.{RaskjomiAnswer}
 
--- where a call's counts go: how many leading counts are passes, classes, and a table's vertices and edges
+-- the answer of an accepted call: its counts, and 0 for those that it doesn't have
 abbrev pub counted : ℕ → ℕ → ℕ → ℕ → RaskjomiAnswer
 counted passes classes vertices edges = record { number = 0; passes = passes; classes = classes; vertices = vertices; edges = edges; place = 0 }
 
+-- the answer of a refused call
 abbrev pub turnedDown : ℕ → ℕ → RaskjomiAnswer
 turnedDown number place = record { number = number; passes = 0; classes = 0; vertices = 0; edges = 0; place = place }
 

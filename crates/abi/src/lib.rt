@@ -54,6 +54,7 @@ fn refused(refusal: Refusal) -> RaskjomiAnswer
     }
 }
 
+// The kind of a refusal number.
 #[no_mangle]
 pub extern "C" fn raskjomi_kind(number: u32) -> u32
     ensures { λ r. ⌜ r ≡ kindOf number ⌝ }
@@ -71,6 +72,7 @@ fn of_reading(reading: Reading) -> RaskjomiAnswer
     }
 }
 
+// The reader.
 #[no_mangle]
 pub extern "C" fn raskjomi_read(game: &[u16]) -> RaskjomiAnswer
     ensures { λ r. ⌜ r ≡ readFields (readAnswer (now (game .entry))) ⌝ }
@@ -96,6 +98,7 @@ fn of_acceptance(acceptance: Acceptance) -> RaskjomiAnswer
     }
 }
 
+// The relation acceptor.
 #[no_mangle]
 pub extern "C" fn raskjomi_accept_relation(game: &[u16], marks: &[u8]) -> RaskjomiAnswer
     ensures { λ r. ⌜ r ≡ acceptFields (relationAnswer (now (game .entry)) (now (marks .entry))) ⌝ }
@@ -103,6 +106,7 @@ pub extern "C" fn raskjomi_accept_relation(game: &[u16], marks: &[u8]) -> Raskjo
     of_acceptance(order::accept_relation(game, marks))
 }
 
+// The order, into marks and spare.
 #[no_mangle]
 pub extern "C" fn raskjomi_order(game: &[u16], marks: &mut [u8], spare: &mut [u8]) -> RaskjomiAnswer
     ensures { λ r. ⌜ OrderExport (now (game .entry)) (now (marks .entry)) (now (marks .exit)) (now (spare .entry)) (now (spare .exit)) r ⌝ }
@@ -110,6 +114,7 @@ pub extern "C" fn raskjomi_order(game: &[u16], marks: &mut [u8], spare: &mut [u8
     of_ordering(order::write_order(game, marks, spare))
 }
 
+// The plan acceptor. Player 0 is Even, 1 Odd.
 #[no_mangle]
 pub extern "C" fn raskjomi_accept_plan(game: &[u16], player: u32, plan: &[u16]) -> RaskjomiAnswer
     ensures { λ r. ⌜ r ≡ acceptFields (planAnswer (now (game .entry)) player (now (plan .entry))) ⌝ }
@@ -127,6 +132,7 @@ fn of_classification(classification: Classification) -> RaskjomiAnswer
     }
 }
 
+// The classes, and the order.
 #[no_mangle]
 pub extern "C" fn raskjomi_classes(
     game: &[u16],
@@ -154,6 +160,7 @@ fn of_tabulation(tabulation: Tabulation) -> RaskjomiAnswer
     }
 }
 
+// The quotient game, the classes and the order.
 #[no_mangle]
 pub extern "C" fn raskjomi_quotient(
     game: &[u16],
@@ -167,6 +174,7 @@ pub extern "C" fn raskjomi_quotient(
     of_tabulation(reduction::write_quotient(game, marks, spare, classes, output))
 }
 
+// The reduced game, the classes and the order.
 #[no_mangle]
 pub extern "C" fn raskjomi_reduce(
     game: &[u16],
