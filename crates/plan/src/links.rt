@@ -14,6 +14,7 @@ ghost use Rattle.plan.specs.Acceptance.{firstBeyond, firstStray};
 ghost use Rattle.plan.specs.Edges.{straysBy};
 ghost use Rattle.plan.specs.PlanFormed.{PlanSized, PlanFormed};
 
+// The cast of a word, in a function of its own: that it keeps the value is shown here once, for the three reads below.
 fn wide(word: u16) -> usize
     ensures { λ r. ⌜ r ≡ word ⌝ }
 {
