@@ -110,35 +110,8 @@ pub fn bad_relations() {
     );
     accepts(b"unequal_priorities", &b, &[0, 1, 0, 1, 0, 0, 0, 0, 0]);
     accepts(b"missing_pair", &b, &[1, 0, 0, 0, 0, 0, 0, 0, 0]);
-    accepts(
-        b"P11",
-        &tables::game_c(),
-        &[
-            0,
-            0,
-            0,
-            0,
-            0,
-            0,
-            0,
-            0,
-            0,
-            0,
-            0,
-            1,
-            0,
-            0,
-            0,
-            0,
-            0,
-            0,
-            0,
-            0,
-            0,
-            0,
-            0,
-            0,
-            0,
-        ],
-    );
+    // the pair (2, 1) alone
+    let mut marks = [0u8; 25];
+    marks[11] = 1;
+    accepts(b"P11", &tables::game_c(), &marks);
 }

@@ -24,7 +24,7 @@ fn accepts_sizes(name: &[u8], p: u16, l: u16) {
 
 pub fn games() {
     let c = tables::game_c();
-    let words = [3u16, 3, 0, 2, 4, 0, 1, 2, 1, 2, 2];
+    let words = tables::plan_c();
     accepts(b"P12", &c, 0, &words);
     accepts(b"P13", &c, 1, &words);
     accepts(b"P14", &[1, 1, 1, 1, 0, 0], 0, &[1, 1, 0, 0, 0]);
@@ -33,7 +33,7 @@ pub fn games() {
 // Refusal 11, and the reader's before it.
 pub fn bad_players() {
     let c = tables::game_c();
-    let words = [3u16, 3, 0, 2, 4, 0, 1, 2, 1, 2, 2];
+    let words = tables::plan_c();
     accepts(b"plan_refused_game", &[1, 0, 0, 0], 2, &words);
     accepts(b"player_2", &c, 2, &words[..0]);
 }
@@ -41,10 +41,15 @@ pub fn bad_players() {
 // Refusal 12.
 pub fn bad_sizes() {
     let c = tables::game_c();
-    let words = [3u16, 3, 0, 2, 4, 0, 1, 2, 1, 2, 2];
+    let words = tables::plan_c();
     accepts(b"plan_of_no_word", &c, 0, &words[..0]);
-    accepts(b"plan_of_one_word", &c, 0, &words[..1]);
-    accepts(b"plan_one_word_short", &c, 0, &words[..10]);
+    accepts(b"plan_of_one_word", &c, 0, &[3]);
+    accepts(
+        b"plan_one_word_short",
+        &c,
+        0,
+        &[3, 3, 0, 2, 4, 0, 1, 2, 1, 2],
+    );
     accepts(b"plan_one_word_long", &c, 0, &[1, 0, 4, 4]);
     accepts(b"p_0", &c, 0, &[0, 0]);
 }

@@ -1,4 +1,4 @@
-// Game tables that the cases share: document 01's games B, C and D, and the largest.
+// Tables that the cases share: document 01's games B, C and D, its plan for game C, and the largest game.
 ghost use mathlib.Core.Path.{_≡_};
 ghost use lib.ListN.{length};
 
@@ -35,6 +35,11 @@ pub fn game_c() -> [u16; 26] {
         3,
         4,
     ]
+}
+
+// Positions at 0, 2 and 4, with links 0 to 1, 1 to 2 and 2 to 2.
+pub fn plan_c() -> [u16; 11] {
+    [3, 3, 0, 2, 4, 0, 1, 2, 1, 2, 2]
 }
 
 pub fn game_d() -> [u16; 30] {

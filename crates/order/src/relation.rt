@@ -4,7 +4,7 @@ use crate::pairs::Pair;
 use crate::pairs::pair_passes;
 use crate::pairs::same_priority;
 ghost use mathlib.Core.Path.{_≡_};
-ghost use Prim.Native.Nat.{_+_, _*_, _<_, _≤_};
+ghost use Prim.Native.Nat.{_+_, _*_, _≤_};
 ghost use lib.ListN.{length};
 ghost use Rattle.table.specs.Table.{vertexCount, gameOf};
 ghost use Rattle.table.specs.WellFormed.{WellFormed};

@@ -23,7 +23,7 @@ use Rattle.plan.specs.Acceptance.{answers, lacksLink}
 use Rattle.plan.specs.PlanFormed.{PlanFormed}
 use Rattle.plan.specs.Index.{LinkIndex}
 use Rattle.plan.specs.IndexLaws.{among-link}
-use Rattle.plan.specs.Marks.{standsAt, unanswered}
+use Rattle.plan.specs.Stamps.{standsAt, unanswered}
 
 -- the player moves at v exactly if v's owner word is the player's number
 pub own-number : (g : List ℕ) → WellFormed g → (player v : ℕ) → player ≤ 1 → v < vertexCount g → own (gameOf g) (playerOf player) v ≡ eqb (ownerAt g v) player

@@ -8,8 +8,8 @@ pub mod Index
 pub mod IndexLaws
 pub mod Edges
 pub mod EdgesLaws
-pub mod Marks
-pub mod MarksLaws
+pub mod Stamps
+pub mod StampsLaws
 pub mod AnswerLaws
 pub mod Reach
 pub mod ReachLaws

@@ -1,4 +1,4 @@
--- What the search for returns keeps in its work memory. A stamp in `seen` marks a position that was reached, and the queue lists these.
+-- What the search for returns keeps in its work memory. A stamp in `seen` says that a position was reached, and the queue lists these.
 use mathlib.Core.Path.{_≡_}
 use mathlib.Core.Logic.{_⊎_}
 use mathlib.Core.Bool.{Bool, not, cond, So}
@@ -22,10 +22,10 @@ pub record Graph (p : ℕ) (starts targets : List ℕ) : Type 0 where
   pub inside : (i t : ℕ) → i < p → getD starts i 0 ≤ t → t < getD starts (i + 1) 0 → getD targets t 0 < p
 
 -- a graph of p positions with their priorities, and room for the search
-pub record Workspace (p : ℕ) (starts targets rank seen queue : List ℕ) : Type 0 where
+pub record Workspace (p : ℕ) (starts targets priorities seen queue : List ℕ) : Type 0 where
   pub graph : Graph p starts targets
   pub few : p ≤ 4096
-  pub ranks : p ≤ length rank
+  pub values : p ≤ length priorities
   pub stamps : p ≤ length seen
   pub entries : p < length queue
 
@@ -34,31 +34,31 @@ unfoldable pub linkBy : List ℕ → List ℕ → ℕ → ℕ → Bool
 linkBy starts targets i j = among starts targets i (λ k. eqb k j)
 
 -- the priority of position j
-unfoldable pub rankAt : List ℕ → ℕ → ℕ
-rankAt rank j = getD rank j 0
+unfoldable pub listedPriority : List ℕ → ℕ → ℕ
+listedPriority priorities j = getD priorities j 0
 
 -- position j has a priority that isn't below q
 unfoldable pub notBelow : List ℕ → ℕ → ℕ → Bool
-notBelow rank q j = leb q (getD rank j 0)
+notBelow priorities q j = leb q (getD priorities j 0)
 
 unfoldable pub stamped : ℕ → List ℕ → ℕ → Bool
 stamped stamp seen j = eqb (getD seen j 0) stamp
 
 -- position j has a priority of at least q and no stamp yet
 unfoldable pub fresh : List ℕ → List ℕ → ℕ → ℕ → ℕ → Bool
-fresh rank seen q stamp j = notBelow rank q j & not (stamped stamp seen j)
+fresh priorities seen q stamp j = notBelow priorities q j & not (stamped stamp seen j)
 
 -- position j is stamped and queued, or nothing changes
 pub record Visited (yes : Bool) (stamp j : ℕ) (seen queue : List ℕ) (tail : ℕ) (seen′ queue′ : List ℕ) (tail′ : ℕ) : Type 0 where
   pub end : tail′ ≡ tail + bit yes
-  pub marks : seen′ ≡ cond yes (set seen j stamp) seen
+  pub stamps : seen′ ≡ cond yes (set seen j stamp) seen
   pub entries : queue′ ≡ cond yes (set queue tail j) queue
 
 -- the queue lists the positions below p that bear the stamp, each once; no stamp is later
 pub record Queued (p stamp : ℕ) (seen queue : List ℕ) (tail : ℕ) : Type 0 where
   pub size : tail ≡ count p (stamped stamp seen)
   pub inside : (s : ℕ) → s < tail → getD queue s 0 < p
-  pub marked : (s : ℕ) → s < tail → So (stamped stamp seen (getD queue s 0))
+  pub bears : (s : ℕ) → s < tail → So (stamped stamp seen (getD queue s 0))
   pub listed : (j : ℕ) → j < p → So (stamped stamp seen j) → (s : ℕ) × (s < tail) × (getD queue s 0 ≡ j)
   pub latest : (j : ℕ) → getD seen j 0 ≤ stamp
 
@@ -73,11 +73,11 @@ pub record Grown (p stamp : ℕ) (new : ℕ → Bool) (seen queue : List ℕ) (t
 
 -- position k is a target in the part of a group from a to t, and has a priority of at least q
 unfoldable pub followed : List ℕ → List ℕ → ℕ → ℕ → ℕ → ℕ → Bool
-followed targets rank q a t k = anyFrom a t (λ x. eqb (getD targets x 0) k) & notBelow rank q k
+followed targets priorities q a t k = anyFrom a t (λ x. eqb (getD targets x 0) k) & notBelow priorities q k
 
 -- a link leads from i to j, and j has a priority of at least q
 unfoldable pub follows : List ℕ → List ℕ → List ℕ → ℕ → ℕ → ℕ → Bool
-follows starts targets rank q i j = linkBy starts targets i j & notBelow rank q j
+follows starts targets priorities q i j = linkBy starts targets i j & notBelow priorities q j
 
 -- the search from i: whatever is stamped is reached, and the links of i and of the first `head` positions in the queue were followed
 pub record Searched (p : ℕ) (link : ℕ → ℕ → Bool) (pass : ℕ → Bool) (i stamp : ℕ) (seen queue : List ℕ) (head tail : ℕ) : Type 0 where
@@ -88,4 +88,4 @@ pub record Searched (p : ℕ) (link : ℕ → ℕ → Bool) (pass : ℕ → Bool
 
 -- position i has the wrong parity and returns, by the index and the priorities of positions
 unfoldable pub wrongBy : List ℕ → List ℕ → List ℕ → ℕ → ℕ → ℕ → Bool
-wrongBy starts targets rank p player i = not (parity (playerOf player) (rankAt rank i)) & returns p (linkBy starts targets) (rankAt rank) i
+wrongBy starts targets priorities p player i = not (parity (playerOf player) (listedPriority priorities i)) & returns p (linkBy starts targets) (listedPriority priorities) i

@@ -26,7 +26,7 @@ use Rattle.table.specs.GroupingLaws.{group-order, group-within, entry-at, targe
 use Rattle.plan.specs.Acceptance.{reaches, returns}
 use Rattle.plan.specs.Reach.{Each, Reach}
 use Rattle.plan.specs.ReachLaws.{reaches-in, reaches-out, reach-more}
-use Rattle.plan.specs.Search.{Graph, linkBy, rankAt, notBelow, stamped, fresh, Visited, Queued, Grown, followed, follows, Searched, wrongBy}
+use Rattle.plan.specs.Search.{Graph, linkBy, listedPriority, notBelow, stamped, fresh, Visited, Queued, Grown, followed, follows, Searched, wrongBy}
 
 -- ---- a target in the group of i
 
@@ -39,37 +39,37 @@ graph-target gr i t h a b = record { inside = omega (arith, gr .bound (i + 1) (o
 
 -- ---- one visit
 
-fresh-low : (rank seen : List ℕ) (q stamp j : ℕ) → getD rank j 0 < q → fresh rank seen q stamp j ≡ false
+fresh-low : (priorities seen : List ℕ) (q stamp j : ℕ) → getD priorities j 0 < q → fresh priorities seen q stamp j ≡ false
 unfolding fresh notBelow _&_
-fresh-low rank seen q stamp j h = rw (lt-leb q (getD rank j 0) h)
+fresh-low priorities seen q stamp j h = rw (lt-leb q (getD priorities j 0) h)
 
-fresh-seen : (rank seen : List ℕ) (q stamp j : ℕ) → getD seen j 0 ≡ stamp → fresh rank seen q stamp j ≡ false
+fresh-seen : (priorities seen : List ℕ) (q stamp j : ℕ) → getD seen j 0 ≡ stamp → fresh priorities seen q stamp j ≡ false
 unfolding fresh stamped
-fresh-seen rank seen q stamp j h = and-fails (notBelow rank q j) _ (ap not (eq-eqb (getD seen j 0) stamp h))
+fresh-seen priorities seen q stamp j h = and-fails (notBelow priorities q j) _ (ap not (eq-eqb (getD seen j 0) stamp h))
 
-fresh-new : (rank seen : List ℕ) (q stamp j : ℕ) → q ≤ getD rank j 0 → (getD seen j 0 ≡ stamp → ⊥) → fresh rank seen q stamp j ≡ true
+fresh-new : (priorities seen : List ℕ) (q stamp j : ℕ) → q ≤ getD priorities j 0 → (getD seen j 0 ≡ stamp → ⊥) → fresh priorities seen q stamp j ≡ true
 unfolding fresh notBelow stamped
-fresh-new rank seen q stamp j h d = and-in (le-leb q (getD rank j 0) h) (ap not (ne-eqb (getD seen j 0) stamp d))
+fresh-new priorities seen q stamp j h d = and-in (le-leb q (getD priorities j 0) h) (ap not (ne-eqb (getD seen j 0) stamp d))
 
-not-fresh : (rank seen : List ℕ) (q stamp j : ℕ) → fresh rank seen q stamp j ≡ false → So (notBelow rank q j) → So (stamped stamp seen j)
+not-fresh : (priorities seen : List ℕ) (q stamp j : ℕ) → fresh priorities seen q stamp j ≡ false → So (notBelow priorities q j) → So (stamped stamp seen j)
 unfolding fresh
-not-fresh rank seen q stamp j e t = elim (decide (stamped stamp seen j)) [ inl s ↦ s | inr f ↦ clash (and-in t (not-in f)) e ]
+not-fresh priorities seen q stamp j e t = elim (decide (stamped stamp seen j)) [ inl s ↦ s | inr f ↦ clash (and-in t (not-in f)) e ]
 
-module _ (rank seen queue : List ℕ) (q stamp j tail : ℕ) where
-  visited-not : fresh rank seen q stamp j ≡ false → Visited (fresh rank seen q stamp j) stamp j seen queue tail seen queue tail
+module _ (priorities seen queue : List ℕ) (q stamp j tail : ℕ) where
+  visited-not : fresh priorities seen q stamp j ≡ false → Visited (fresh priorities seen q stamp j) stamp j seen queue tail seen queue tail
   unfolding bit
-  visited-not e = rw e (record { end = omega arith; marks = refl; entries = refl })
+  visited-not e = rw e (record { end = omega arith; stamps = refl; entries = refl })
 
-  pub visited-low : getD rank j 0 < q → Visited (fresh rank seen q stamp j) stamp j seen queue tail seen queue tail
-  visited-low h = visited-not (fresh-low rank seen q stamp j h)
+  pub visited-low : getD priorities j 0 < q → Visited (fresh priorities seen q stamp j) stamp j seen queue tail seen queue tail
+  visited-low h = visited-not (fresh-low priorities seen q stamp j h)
 
-  pub visited-seen : getD seen j 0 ≡ stamp → Visited (fresh rank seen q stamp j) stamp j seen queue tail seen queue tail
-  visited-seen h = visited-not (fresh-seen rank seen q stamp j h)
+  pub visited-seen : getD seen j 0 ≡ stamp → Visited (fresh priorities seen q stamp j) stamp j seen queue tail seen queue tail
+  visited-seen h = visited-not (fresh-seen priorities seen q stamp j h)
 
-  pub visited-new : q ≤ getD rank j 0 → (getD seen j 0 ≡ stamp → ⊥)
-      → Visited (fresh rank seen q stamp j) stamp j seen queue tail (set seen j stamp) (set queue tail j) (tail + 1)
+  pub visited-new : q ≤ getD priorities j 0 → (getD seen j 0 ≡ stamp → ⊥)
+      → Visited (fresh priorities seen q stamp j) stamp j seen queue tail (set seen j stamp) (set queue tail j) (tail + 1)
   unfolding bit
-  visited-new h d = rw (fresh-new rank seen q stamp j h d) (record { end = refl; marks = refl; entries = refl })
+  visited-new h d = rw (fresh-new priorities seen q stamp j h d) (record { end = refl; stamps = refl; entries = refl })
 
 -- ---- the queue
 
@@ -115,7 +115,7 @@ pub queued-none : (p stamp : ℕ) (seen queue : List ℕ) → ((j : ℕ) → get
 queued-none p stamp seen queue f = record {
   size = count-none p (stamped stamp seen) (none-stamped stamp seen f);
   inside = λ s l. absurd (not-suc-le-zero l);
-  marked = λ s l. absurd (not-suc-le-zero l);
+  bears = λ s l. absurd (not-suc-le-zero l);
   listed = λ j l t. clash t (none-stamped stamp seen f j);
   latest = λ j. omega (arith, f j);
 }
@@ -129,8 +129,8 @@ module _ (p stamp : ℕ) (seen queue : List ℕ) (tail : ℕ) (st : Queued p sta
   queued-more j h a b e = record {
     size = ap (λ (k : ℕ). k + 1) (st .size) ∙ sym (count-more p (stamped stamp seen) (stamped stamp (set seen j stamp)) j h e (stamped-here stamp seen j a) (stamped-other stamp seen j));
     inside = λ s l. after-set (λ (s x : ℕ). s < tail + 1 → x < p) queue tail j b (λ k. h) (λ s d k. st .inside s (omega arith)) s l;
-    marked = λ s l. after-set (λ (s x : ℕ). s < tail + 1 → So (stamped stamp (set seen j stamp) x)) queue tail j b (λ k. stamped-here stamp seen j a)
-        (λ s d k. stamped-keeps stamp seen j a (getD queue s 0) (st .marked s (omega arith))) s l;
+    bears = λ s l. after-set (λ (s x : ℕ). s < tail + 1 → So (stamped stamp (set seen j stamp) x)) queue tail j b (λ k. stamped-here stamp seen j a)
+        (λ s d k. stamped-keeps stamp seen j a (getD queue s 0) (st .bears s (omega arith))) s l;
     listed = listed′;
     latest = after-set (λ (k x : ℕ). x ≤ stamp) seen j stamp a (omega arith) (λ k d. st .latest k);
   }
@@ -145,8 +145,8 @@ module _ (p stamp : ℕ) (seen queue : List ℕ) (tail : ℕ) (st : Queued p sta
 
 -- ---- following the links of one position
 
-module _ (p stamp : ℕ) (targets rank : List ℕ) (q a : ℕ) (seen₀ queue₀ : List ℕ) (tail₀ : ℕ) where
-  pub grown-none : Queued p stamp seen₀ queue₀ tail₀ → Grown p stamp (followed targets rank q a a) seen₀ queue₀ tail₀ seen₀ queue₀ tail₀
+module _ (p stamp : ℕ) (targets priorities : List ℕ) (q a : ℕ) (seen₀ queue₀ : List ℕ) (tail₀ : ℕ) where
+  pub grown-none : Queued p stamp seen₀ queue₀ tail₀ → Grown p stamp (followed targets priorities q a a) seen₀ queue₀ tail₀ seen₀ queue₀ tail₀
   unfolding followed
   grown-none st = record {
     queued = st;
@@ -157,14 +157,14 @@ module _ (p stamp : ℕ) (targets rank : List ℕ) (q a : ℕ) (seen₀ queue₀
     complete = λ j t. clash (and-out t .0) (from-end a a _ (le-refl a));
   }
 
-  module _ (t : ℕ) (seen queue : List ℕ) (tail : ℕ) (h : a ≤ t) (st : Grown p stamp (followed targets rank q a t) seen₀ queue₀ tail₀ seen queue tail) where
-    wider : (j : ℕ) → So (stamped stamp seen₀ j) ⊎ So (followed targets rank q a t j) → So (stamped stamp seen₀ j) ⊎ So (followed targets rank q a (t + 1) j)
+  module _ (t : ℕ) (seen queue : List ℕ) (tail : ℕ) (h : a ≤ t) (st : Grown p stamp (followed targets priorities q a t) seen₀ queue₀ tail₀ seen queue tail) where
+    wider : (j : ℕ) → So (stamped stamp seen₀ j) ⊎ So (followed targets priorities q a t j) → So (stamped stamp seen₀ j) ⊎ So (followed targets priorities q a (t + 1) j)
     unfolding followed
     wider j (inl b) = inl b
     wider j (inr b) = let c = and-out b in inr (and-in (from-less a t _ (c .0)) (c .1))
 
     -- the next target has a stamp or is too low
-    grown-old : fresh rank seen q stamp (getD targets t 0) ≡ false → Grown p stamp (followed targets rank q a (t + 1)) seen₀ queue₀ tail₀ seen queue tail
+    grown-old : fresh priorities seen q stamp (getD targets t 0) ≡ false → Grown p stamp (followed targets priorities q a (t + 1)) seen₀ queue₀ tail₀ seen queue tail
     unfolding followed
     grown-old e = record {
       queued = st .queued;
@@ -175,13 +175,13 @@ module _ (p stamp : ℕ) (targets rank : List ℕ) (q a : ℕ) (seen₀ queue₀
       complete = λ j b. let c = and-out b in next j (from-more a t _ (c .0)) (c .1);
     }
       where
-        next : (j : ℕ) → So (anyFrom a t (λ x. eqb (getD targets x 0) j)) ⊎ So (eqb (getD targets t 0) j) → So (notBelow rank q j) → So (stamped stamp seen j)
+        next : (j : ℕ) → So (anyFrom a t (λ x. eqb (getD targets x 0) j)) ⊎ So (eqb (getD targets t 0) j) → So (notBelow priorities q j) → So (stamped stamp seen j)
         next j (inl b) c = st .complete j (and-in b c)
-        next j (inr b) c = not-fresh rank seen q stamp j (rw (eqb-true (getD targets t 0) j b) at e) c
+        next j (inr b) c = not-fresh priorities seen q stamp j (rw (eqb-true (getD targets t 0) j b) at e) c
 
     -- the next target is stamped and queued
-    grown-new : (j : ℕ) → getD targets t 0 ≡ j → j < p → j < length seen → tail < length queue → So (fresh rank seen q stamp j)
-        → Grown p stamp (followed targets rank q a (t + 1)) seen₀ queue₀ tail₀ (set seen j stamp) (set queue tail j) (tail + 1)
+    grown-new : (j : ℕ) → getD targets t 0 ≡ j → j < p → j < length seen → tail < length queue → So (fresh priorities seen q stamp j)
+        → Grown p stamp (followed targets priorities q a (t + 1)) seen₀ queue₀ tail₀ (set seen j stamp) (set queue tail j) (tail + 1)
     unfolding followed fresh
     grown-new j here l ls lq e = record {
       queued = queued-more p stamp seen queue tail (st .queued) j l ls lq (not-out (and-out e .1));
@@ -198,34 +198,34 @@ module _ (p stamp : ℕ) (targets rank : List ℕ) (q a : ℕ) (seen₀ queue₀
         keep : (k : ℕ) → So (stamped stamp seen k) → So (stamped stamp (set seen j stamp) k)
         keep = stamped-keeps stamp seen j ls
 
-        next : (k : ℕ) → So (anyFrom a t (λ x. eqb (getD targets x 0) k)) ⊎ So (eqb (getD targets t 0) k) → So (notBelow rank q k) → So (stamped stamp (set seen j stamp) k)
+        next : (k : ℕ) → So (anyFrom a t (λ x. eqb (getD targets x 0) k)) ⊎ So (eqb (getD targets t 0) k) → So (notBelow priorities q k) → So (stamped stamp (set seen j stamp) k)
         next k (inl b) c = keep k (st .complete k (and-in b c))
         next k (inr b) c = rw (sym (eqb-true (getD targets t 0) k b) ∙ here) (stamped-here stamp seen j ls)
 
     pub grown-more : (j : ℕ) → getD targets t 0 ≡ j → j < p → j < length seen → tail < length queue → (seen′ queue′ : List ℕ) (tail′ : ℕ)
-        → Visited (fresh rank seen q stamp j) stamp j seen queue tail seen′ queue′ tail′
-        → Grown p stamp (followed targets rank q a (t + 1)) seen₀ queue₀ tail₀ seen′ queue′ tail′
+        → Visited (fresh priorities seen q stamp j) stamp j seen queue tail seen′ queue′ tail′
+        → Grown p stamp (followed targets priorities q a (t + 1)) seen₀ queue₀ tail₀ seen′ queue′ tail′
     unfolding bit
-    grown-more j here l ls lq seen′ queue′ tail′ v = go (fresh rank seen q stamp j) refl v
+    grown-more j here l ls lq seen′ queue′ tail′ v = go (fresh priorities seen q stamp j) refl v
       where
-        go : (b : Bool) → fresh rank seen q stamp j ≡ b → Visited b stamp j seen queue tail seen′ queue′ tail′ → Grown p stamp (followed targets rank q a (t + 1)) seen₀ queue₀ tail₀ seen′ queue′ tail′
-        go true e v = rw (v .marks, v .entries, v .end) (grown-new j here l ls lq e)
+        go : (b : Bool) → fresh priorities seen q stamp j ≡ b → Visited b stamp j seen queue tail seen′ queue′ tail′ → Grown p stamp (followed targets priorities q a (t + 1)) seen₀ queue₀ tail₀ seen′ queue′ tail′
+        go true e v = rw (v .stamps, v .entries, v .end) (grown-new j here l ls lq e)
         go false e v =
             let d : tail′ ≡ tail = omega (arith, v .end) in
-            rw (v .marks, v .entries, d) (grown-old (rw here e))
+            rw (v .stamps, v .entries, d) (grown-old (rw here e))
 
 -- a whole group
-pub grown-all : {p stamp : ℕ} (starts targets rank : List ℕ) (q i t : ℕ) {seen₀ queue₀ : List ℕ} {tail₀ : ℕ} {seen queue : List ℕ} {tail : ℕ} → t ≡ getD starts (i + 1) 0
-    → Grown p stamp (followed targets rank q (getD starts i 0) t) seen₀ queue₀ tail₀ seen queue tail → Grown p stamp (follows starts targets rank q i) seen₀ queue₀ tail₀ seen queue tail
+pub grown-all : {p stamp : ℕ} (starts targets priorities : List ℕ) (q i t : ℕ) {seen₀ queue₀ : List ℕ} {tail₀ : ℕ} {seen queue : List ℕ} {tail : ℕ} → t ≡ getD starts (i + 1) 0
+    → Grown p stamp (followed targets priorities q (getD starts i 0) t) seen₀ queue₀ tail₀ seen queue tail → Grown p stamp (follows starts targets priorities q i) seen₀ queue₀ tail₀ seen queue tail
 unfolding followed follows linkBy among
-grown-all starts targets rank q i t e g = rw e at g
+grown-all starts targets priorities q i t e g = rw e at g
 
 -- ---- the search from i
 
-module _ (p : ℕ) (starts targets rank : List ℕ) (i stamp : ℕ) where
+module _ (p : ℕ) (starts targets priorities : List ℕ) (i stamp : ℕ) where
   pub searched-none : (seen₀ queue₀ : List ℕ) → ((j : ℕ) → getD seen₀ j 0 < stamp) → (seen queue : List ℕ) (tail : ℕ)
-      → Grown p stamp (follows starts targets rank (getD rank i 0) i) seen₀ queue₀ 0 seen queue tail
-      → Searched p (linkBy starts targets) (notBelow rank (getD rank i 0)) i stamp seen queue 0 tail
+      → Grown p stamp (follows starts targets priorities (getD priorities i 0) i) seen₀ queue₀ 0 seen queue tail
+      → Searched p (linkBy starts targets) (notBelow priorities (getD priorities i 0)) i stamp seen queue 0 tail
   unfolding follows
   searched-none seen₀ queue₀ f seen queue tail g = record {
     queued = g .queued;
@@ -234,15 +234,15 @@ module _ (p : ℕ) (starts targets rank : List ℕ) (i stamp : ℕ) where
     done = λ s l. absurd (not-suc-le-zero l);
   }
     where
-      first : (j : ℕ) → So (stamped stamp seen₀ j) ⊎ So (follows starts targets rank (getD rank i 0) i j)
-          → Reach p (linkBy starts targets) (notBelow rank (getD rank i 0)) i j × So (notBelow rank (getD rank i 0) j)
+      first : (j : ℕ) → So (stamped stamp seen₀ j) ⊎ So (follows starts targets priorities (getD priorities i 0) i j)
+          → Reach p (linkBy starts targets) (notBelow priorities (getD priorities i 0)) i j × So (notBelow priorities (getD priorities i 0) j)
       first j (inl t) = clash t (none-stamped stamp seen₀ f j)
       first j (inr t) = let c = and-out t in (record { between = []; walk = c .0; each = tt }, c .1)
 
-  module _ (seen queue : List ℕ) (head tail : ℕ) (st : Searched p (linkBy starts targets) (notBelow rank (getD rank i 0)) i stamp seen queue head tail) where
+  module _ (seen queue : List ℕ) (head tail : ℕ) (st : Searched p (linkBy starts targets) (notBelow priorities (getD priorities i 0)) i stamp seen queue head tail) where
     pub searched-more : head < tail → (seen′ queue′ : List ℕ) (tail′ : ℕ)
-        → Grown p stamp (follows starts targets rank (getD rank i 0) (getD queue head 0)) seen queue tail seen′ queue′ tail′
-        → Searched p (linkBy starts targets) (notBelow rank (getD rank i 0)) i stamp seen′ queue′ (head + 1) tail′
+        → Grown p stamp (follows starts targets priorities (getD priorities i 0) (getD queue head 0)) seen queue tail seen′ queue′ tail′
+        → Searched p (linkBy starts targets) (notBelow priorities (getD priorities i 0)) i stamp seen′ queue′ (head + 1) tail′
     unfolding follows
     searched-more h seen′ queue′ tail′ g = record {
       queued = g .queued;
@@ -254,39 +254,39 @@ module _ (p : ℕ) (starts targets rank : List ℕ) (i stamp : ℕ) where
         k : ℕ
         k = getD queue head 0
 
-        next : (j : ℕ) → So (stamped stamp seen j) ⊎ So (follows starts targets rank (getD rank i 0) k j)
-            → Reach p (linkBy starts targets) (notBelow rank (getD rank i 0)) i j × So (notBelow rank (getD rank i 0) j)
+        next : (j : ℕ) → So (stamped stamp seen j) ⊎ So (follows starts targets priorities (getD priorities i 0) k j)
+            → Reach p (linkBy starts targets) (notBelow priorities (getD priorities i 0)) i j × So (notBelow priorities (getD priorities i 0) j)
         next j (inl t) = st .reached j t
         next j (inr t) =
             let c = and-out t in
-            let r = st .reached k (st .queued .marked head h) in
-            (reach-more p (linkBy starts targets) (notBelow rank (getD rank i 0)) i k j (r .0) (st .queued .inside head h) (r .1) (c .0), c .1)
+            let r = st .reached k (st .queued .bears head h) in
+            (reach-more p (linkBy starts targets) (notBelow priorities (getD priorities i 0)) i k j (r .0) (st .queued .inside head h) (r .1) (c .0), c .1)
 
-        followed-by : (s j : ℕ) → Dec (s < head) → s < head + 1 → So (linkBy starts targets (getD queue′ s 0) j) → So (notBelow rank (getD rank i 0) j) → So (stamped stamp seen′ j)
+        followed-by : (s j : ℕ) → Dec (s < head) → s < head + 1 → So (linkBy starts targets (getD queue′ s 0) j) → So (notBelow priorities (getD priorities i 0) j) → So (stamped stamp seen′ j)
         followed-by s j (yes m) l a t = g .grows j (st .done s m j (rw (g .keeps s (omega arith)) at a) t)
         followed-by s j (no m) l a t =
             let d : s ≡ head = omega arith in
             g .complete j (and-in (subst (λ (s : ℕ). So (linkBy starts targets (getD queue s 0) j)) d (rw (g .keeps s (omega arith)) at a)) t)
 
-    pub searched-found : So (stamped stamp seen i) → So (returns p (linkBy starts targets) (rankAt rank) i)
-    unfolding returns rankAt notBelow
-    searched-found t = reaches-in p (linkBy starts targets) (notBelow rank (getD rank i 0)) i i (st .reached i t .0)
+    pub searched-found : So (stamped stamp seen i) → So (returns p (linkBy starts targets) (listedPriority priorities) i)
+    unfolding returns listedPriority notBelow
+    searched-found t = reaches-in p (linkBy starts targets) (notBelow priorities (getD priorities i 0)) i i (st .reached i t .0)
 
     -- the stamped positions are closed under links to positions that pass, so a return never leaves them
-    stays : head ≡ tail → (k : ℕ) (ks : List ℕ) → ((j : ℕ) → So (linkBy starts targets k j) → So (notBelow rank (getD rank i 0) j) → So (stamped stamp seen j))
-        → Walk (linkBy starts targets) k ks i → Each (λ m. (m < p) × So (notBelow rank (getD rank i 0) m)) ks → So (stamped stamp seen i)
+    stays : head ≡ tail → (k : ℕ) (ks : List ℕ) → ((j : ℕ) → So (linkBy starts targets k j) → So (notBelow priorities (getD priorities i 0) j) → So (stamped stamp seen j))
+        → Walk (linkBy starts targets) k ks i → Each (λ m. (m < p) × So (notBelow priorities (getD priorities i 0) m)) ks → So (stamped stamp seen i)
     unfolding notBelow
-    stays e k [] f w a = f i w (le-leb (getD rank i 0) (getD rank i 0) (omega arith))
+    stays e k [] f w a = f i w (le-leb (getD priorities i 0) (getD priorities i 0) (omega arith))
     stays e k (m ∷ ks) f w a = stays e m ks (step m (a .0 .0) (f m (w .0) (a .0 .1))) (w .1) (a .1)
       where
-        step : (m : ℕ) → m < p → So (stamped stamp seen m) → (j : ℕ) → So (linkBy starts targets m j) → So (notBelow rank (getD rank i 0) j) → So (stamped stamp seen j)
+        step : (m : ℕ) → m < p → So (stamped stamp seen m) → (j : ℕ) → So (linkBy starts targets m j) → So (notBelow priorities (getD priorities i 0) j) → So (stamped stamp seen j)
         step m h t j l u = let r = st .queued .listed m h t in st .done (r .0) (omega (arith, r .1)) j (rw (r .2) l) u
 
     -- once all links are followed, i is stamped exactly if it returns
-    pub searched-all : head ≡ tail → stamped stamp seen i ≡ returns p (linkBy starts targets) (rankAt rank) i
-    unfolding returns rankAt notBelow
+    pub searched-all : head ≡ tail → stamped stamp seen i ≡ returns p (linkBy starts targets) (listedPriority priorities) i
+    unfolding returns listedPriority notBelow
     searched-all e = So-ext searched-found (λ t.
-        let r = reaches-out p (linkBy starts targets) (notBelow rank (getD rank i 0)) p i i t in
+        let r = reaches-out p (linkBy starts targets) (notBelow priorities (getD priorities i 0)) p i i t in
         stays e i (r .between) (st .begun) (r .walk) (r .each))
 
 -- ---- the parity of a position
@@ -306,14 +306,14 @@ parity-number player q h = elim (ℕ-discrete player 0) [
         let e : q % 2 ≡ 1 = omega arith in
         rw e
 
-module _ (starts targets rank : List ℕ) (p player i : ℕ) (h : player ≤ 1) where
-  pub wrong-right : getD rank i 0 % 2 ≡ player → wrongBy starts targets rank p player i ≡ false
-  unfolding wrongBy rankAt _&_
-  wrong-right e = rw (parity-number player (getD rank i 0) h, eq-eqb (getD rank i 0 % 2) player e)
+module _ (starts targets priorities : List ℕ) (p player i : ℕ) (h : player ≤ 1) where
+  pub wrong-right : getD priorities i 0 % 2 ≡ player → wrongBy starts targets priorities p player i ≡ false
+  unfolding wrongBy listedPriority _&_
+  wrong-right e = rw (parity-number player (getD priorities i 0) h, eq-eqb (getD priorities i 0 % 2) player e)
 
-  pub wrong-returns : (getD rank i 0 % 2 ≡ player → ⊥) → wrongBy starts targets rank p player i ≡ returns p (linkBy starts targets) (rankAt rank) i
-  unfolding wrongBy rankAt _&_
-  wrong-returns d = rw (parity-number player (getD rank i 0) h, ne-eqb (getD rank i 0 % 2) player d)
+  pub wrong-returns : (getD priorities i 0 % 2 ≡ player → ⊥) → wrongBy starts targets priorities p player i ≡ returns p (linkBy starts targets) (listedPriority priorities) i
+  unfolding wrongBy listedPriority _&_
+  wrong-returns d = rw (parity-number player (getD priorities i 0) h, ne-eqb (getD priorities i 0 % 2) player d)
 
 -- ---- the search by an index of links is that by the links
 

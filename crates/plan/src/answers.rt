@@ -11,46 +11,46 @@ ghost use Rattle.plan.specs.PlanFormed.{PlanFormed, WordsPass};
 ghost use Rattle.plan.specs.Acceptance.{lacksLink, firstLackingLink};
 ghost use Rattle.plan.specs.Index.{LinkIndex};
 ghost use Rattle.plan.specs.Search.{Graph};
-ghost use Rattle.plan.specs.Marks.{Marked, unmarked, unanswered};
+ghost use Rattle.plan.specs.Stamps.{Stamped, unstamped, unanswered};
 
 // Stamps the vertex of each position that a link of i leads to.
-fn mark_answers(
+fn stamp_answers(
     plan: &[u16],
     starts: &[u16],
     targets: &[u16],
-    marks: &mut [u16],
+    stamps: &mut [u16],
     i: usize,
     stamp: u16,
 )
-    requires { ⌜ PlanFormed (length (now marks)) (now plan) × (i < positionCount (now plan)) ⌝ }
+    requires { ⌜ PlanFormed (length (now stamps)) (now plan) × (i < positionCount (now plan)) ⌝ }
     requires { ⌜ Graph (positionCount (now plan)) (now starts) (now targets) ⌝ }
-    ensures { λ r. ⌜ Marked (now (plan .entry)) (now (starts .entry)) (now (targets .entry)) i stamp (now (marks .entry)) (now (marks .exit)) ⌝ }
+    ensures { λ r. ⌜ Stamped (now (plan .entry)) (now (starts .entry)) (now (targets .entry)) i stamp (now (stamps .entry)) (now (stamps .exit)) ⌝ }
 {
     let end = starts[i + 1] as usize;
     let mut t = starts[i] as usize;
     while t < end {
         let x = vertex_of(plan, targets[t] as usize);
-        marks[x] = stamp;
+        stamps[x] = stamp;
         t += 1;
     }
 }
 
 // Whether some target in the group of v has no stamp.
-fn some_unmarked(
+fn some_unstamped(
     starts: &[u16],
     targets: &[u16],
-    marks: &[u16],
+    stamps: &[u16],
     n: usize,
     v: usize,
     stamp: u16,
 ) -> bool
-    requires { ⌜ Graph n (now starts) (now targets) × (v < n) × (n ≤ 256) × (n ≤ length (now marks)) ⌝ }
-    ensures { λ r. ⌜ r ≡ among (now (starts .entry)) (now (targets .entry)) v (unmarked (now (marks .entry)) stamp) ⌝ }
+    requires { ⌜ Graph n (now starts) (now targets) × (v < n) × (n ≤ 256) × (n ≤ length (now stamps)) ⌝ }
+    ensures { λ r. ⌜ r ≡ among (now (starts .entry)) (now (targets .entry)) v (unstamped (now (stamps .entry)) stamp) ⌝ }
 {
     let end = starts[v + 1] as usize;
     let mut t = starts[v] as usize;
     while t < end {
-        if marks[targets[t] as usize] != stamp {
+        if stamps[targets[t] as usize] != stamp {
             return true;
         }
         t += 1;
@@ -58,7 +58,7 @@ fn some_unmarked(
     false
 }
 
-// Whether some successor of the vertex of position i has no link of i to a position at it. The stamps are i + 1, so `marks` needs no
+// Whether some successor of the vertex of position i has no link of i to a position at it. The stamps are i + 1, so `stamps` needs no
 // clearing between positions.
 fn lacks_answer(
     n: usize,
@@ -67,19 +67,19 @@ fn lacks_answer(
     targets: &[u16],
     edge_starts: &[u16],
     edge_targets: &[u16],
-    marks: &mut [u16],
+    stamps: &mut [u16],
     i: usize,
 ) -> bool
-    requires { ⌜ PlanFormed n (now plan) × (n ≤ 256) × (n ≤ length (now marks)) × (i < positionCount (now plan)) ⌝ }
+    requires { ⌜ PlanFormed n (now plan) × (n ≤ 256) × (n ≤ length (now stamps)) × (i < positionCount (now plan)) ⌝ }
     requires { ⌜ Graph (positionCount (now plan)) (now starts) (now targets) × Graph n (now «edge_starts») (now «edge_targets») ⌝ }
-    requires { ⌜ ((x : ℕ) → getD (now marks) x 0 ≤ i) ⌝ }
+    requires { ⌜ ((x : ℕ) → getD (now stamps) x 0 ≤ i) ⌝ }
     ensures { λ r. ⌜ r ≡ among (now («edge_starts» .entry)) (now («edge_targets» .entry)) (vertexAt (now (plan .entry)) i) (unanswered (now (plan .entry)) (now (starts .entry)) (now (targets .entry)) i) ⌝ }
-    ensures { λ r. ⌜ ((x : ℕ) → getD (now (marks .exit)) x 0 ≤ i + 1) ⌝ }
+    ensures { λ r. ⌜ ((x : ℕ) → getD (now (stamps .exit)) x 0 ≤ i + 1) ⌝ }
 {
     let stamp = (i + 1) as u16;
-    mark_answers(plan, starts, targets, marks, i, stamp);
+    stamp_answers(plan, starts, targets, stamps, i, stamp);
     let v = vertex_of(plan, i);
-    some_unmarked(edge_starts, edge_targets, marks, n, v, stamp)
+    some_unstamped(edge_starts, edge_targets, stamps, n, v, stamp)
 }
 
 // Whether position i lacks a needed link: at a vertex of the player's any link, at the opponent's an answer to some successor.
@@ -91,15 +91,15 @@ fn lacks_link(
     targets: &[u16],
     edge_starts: &[u16],
     edge_targets: &[u16],
-    marks: &mut [u16],
+    stamps: &mut [u16],
     i: usize,
 ) -> bool
     requires { ⌜ WordsPass (now game) player (now plan) ⌝ }
     requires { ⌜ LinkIndex (now plan) (now starts) (now targets) × EdgeIndex (now game) (now «edge_starts») (now «edge_targets») ⌝ }
-    requires { ⌜ (256 ≤ length (now marks)) × (i < positionCount (now plan)) ⌝ }
-    requires { ⌜ ((x : ℕ) → getD (now marks) x 0 ≤ i) ⌝ }
+    requires { ⌜ (256 ≤ length (now stamps)) × (i < positionCount (now plan)) ⌝ }
+    requires { ⌜ ((x : ℕ) → getD (now stamps) x 0 ≤ i) ⌝ }
     ensures { λ r. ⌜ r ≡ lacksLink (now (game .entry)) player (now (plan .entry)) i ⌝ }
-    ensures { λ r. ⌜ ((x : ℕ) → getD (now (marks .exit)) x 0 ≤ i + 1) ⌝ }
+    ensures { λ r. ⌜ ((x : ℕ) → getD (now (stamps .exit)) x 0 ≤ i + 1) ⌝ }
 {
     let n = game[0] as usize;
     let v = vertex_of(plan, i);
@@ -113,7 +113,7 @@ fn lacks_link(
         targets,
         edge_starts,
         edge_targets,
-        marks,
+        stamps,
         i,
     )
 }
@@ -127,12 +127,12 @@ fn first_lacking_by(
     targets: &[u16],
     edge_starts: &[u16],
     edge_targets: &[u16],
-    marks: &mut [u16],
+    stamps: &mut [u16],
 ) -> usize
     requires { ⌜ WordsPass (now game) player (now plan) ⌝ }
     requires { ⌜ LinkIndex (now plan) (now starts) (now targets) × EdgeIndex (now game) (now «edge_starts») (now «edge_targets») ⌝ }
-    requires { ⌜ 256 ≤ length (now marks) ⌝ }
-    requires { ⌜ ((x : ℕ) → getD (now marks) x 0 ≡ 0) ⌝ }
+    requires { ⌜ 256 ≤ length (now stamps) ⌝ }
+    requires { ⌜ ((x : ℕ) → getD (now stamps) x 0 ≡ 0) ⌝ }
     ensures { λ r. ⌜ r ≡ firstLackingLink (now (game .entry)) player (now (plan .entry)) ⌝ }
 {
     let p = plan[0] as usize;
@@ -146,7 +146,7 @@ fn first_lacking_by(
             targets,
             edge_starts,
             edge_targets,
-            marks,
+            stamps,
             i,
         ) {
             return i;
@@ -182,7 +182,7 @@ pub fn first_lacking(
         &mut edge_starts,
         &mut edge_targets,
     );
-    let mut marks = [0u16; 256];
+    let mut stamps = [0u16; 256];
     first_lacking_by(
         game,
         player,
@@ -191,6 +191,6 @@ pub fn first_lacking(
         targets,
         &edge_starts,
         &edge_targets,
-        &mut marks,
+        &mut stamps,
     )
 }

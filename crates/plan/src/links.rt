@@ -2,7 +2,7 @@
 // Refusals 13 and 14: the words of a plan, and its links along edges.
 ghost use mathlib.Core.Path.{_≡_};
 ghost use mathlib.Core.Bool.{cond};
-ghost use Prim.Native.Nat.{_+_, _*_, _≤_, _<_};
+ghost use Prim.Native.Nat.{_+_, _≤_, _<_};
 ghost use lib.Dec.{ltb};
 ghost use lib.ListN.{length};
 ghost use Rattle.theory.specs.Range.{first};
@@ -14,6 +14,7 @@ ghost use Rattle.plan.specs.Acceptance.{firstBeyond, firstStray};
 ghost use Rattle.plan.specs.Edges.{straysBy};
 ghost use Rattle.plan.specs.PlanFormed.{PlanSized, PlanFormed};
 
+// The cast of a word, in a function of its own: that it keeps the value is shown here once, for the three reads below.
 fn wide(word: u16) -> usize
     ensures { λ r. ⌜ r ≡ word ⌝ }
 {

@@ -1,5 +1,5 @@
 // A part of this crate's calls; no host calls it.
-// Refusal 16: the search for a position of the wrong parity that returns. `rank` has the priority of each position.
+// Refusal 16: the search for a position of the wrong parity that returns. `priorities` has the priority of each position.
 use crate::links::vertex_of;
 ghost use mathlib.Core.Path.{_≡_};
 ghost use Prim.Native.Nat.{ℕ, _+_, _≤_, _<_};
@@ -11,11 +11,11 @@ ghost use Rattle.plan.specs.PlanTable.{positionCount};
 ghost use Rattle.plan.specs.PlanFormed.{PlanFormed, WordsPass};
 ghost use Rattle.plan.specs.Index.{LinkIndex};
 ghost use Rattle.plan.specs.Acceptance.{returns, positionPriority, firstReturn};
-ghost use Rattle.plan.specs.Search.{Workspace, linkBy, rankAt, Queued, Grown, follows, fresh, Visited, wrongBy};
+ghost use Rattle.plan.specs.Search.{Workspace, linkBy, listedPriority, Queued, Grown, follows, fresh, Visited, wrongBy};
 
 // Stamps position j and queues it, if its priority is at least `least` and it isn't stamped yet. Returns the queue's new end.
 fn visit(
-    rank: &[u16],
+    priorities: &[u16],
     seen: &mut [u16],
     queue: &mut [u16],
     j: usize,
@@ -23,10 +23,10 @@ fn visit(
     stamp: u16,
     tail: usize,
 ) -> usize
-    requires { ⌜ (j < length (now rank)) × (j < length (now seen)) × (tail < length (now queue)) × (j ≤ 65535) ⌝ }
-    ensures { λ r. ⌜ Visited (fresh (now (rank .entry)) (now (seen .entry)) least stamp j) stamp j (now (seen .entry)) (now (queue .entry)) tail (now (seen .exit)) (now (queue .exit)) r ⌝ }
+    requires { ⌜ (j < length (now priorities)) × (j < length (now seen)) × (tail < length (now queue)) × (j ≤ 65535) ⌝ }
+    ensures { λ r. ⌜ Visited (fresh (now (priorities .entry)) (now (seen .entry)) least stamp j) stamp j (now (seen .entry)) (now (queue .entry)) tail (now (seen .exit)) (now (queue .exit)) r ⌝ }
 {
-    if rank[j] < least {
+    if priorities[j] < least {
         return tail;
     }
     if seen[j] == stamp {
@@ -41,7 +41,7 @@ fn visit(
 fn expand(
     starts: &[u16],
     targets: &[u16],
-    rank: &[u16],
+    priorities: &[u16],
     seen: &mut [u16],
     queue: &mut [u16],
     p: usize,
@@ -50,15 +50,23 @@ fn expand(
     stamp: u16,
     tail: usize,
 ) -> usize
-    requires { ⌜ Workspace p (now starts) (now targets) (now rank) (now seen) (now queue) × (i < p) ⌝ }
+    requires { ⌜ Workspace p (now starts) (now targets) (now priorities) (now seen) (now queue) × (i < p) ⌝ }
     requires { ⌜ Queued p stamp (now seen) (now queue) tail ⌝ }
-    ensures { λ r. ⌜ Grown p stamp (follows (now (starts .entry)) (now (targets .entry)) (now (rank .entry)) least i) (now (seen .entry)) (now (queue .entry)) tail (now (seen .exit)) (now (queue .exit)) r ⌝ }
+    ensures { λ r. ⌜ Grown p stamp (follows (now (starts .entry)) (now (targets .entry)) (now (priorities .entry)) least i) (now (seen .entry)) (now (queue .entry)) tail (now (seen .exit)) (now (queue .exit)) r ⌝ }
 {
     let end = starts[i + 1] as usize;
     let mut t = starts[i] as usize;
     let mut last = tail;
     while t < end {
-        last = visit(rank, seen, queue, targets[t] as usize, least, stamp, last);
+        last = visit(
+            priorities,
+            seen,
+            queue,
+            targets[t] as usize,
+            least,
+            stamp,
+            last,
+        );
         t += 1;
     }
     last
@@ -69,27 +77,49 @@ fn expand(
 fn returns(
     starts: &[u16],
     targets: &[u16],
-    rank: &[u16],
+    priorities: &[u16],
     seen: &mut [u16],
     queue: &mut [u16],
     p: usize,
     i: usize,
 ) -> bool
-    requires { ⌜ Workspace p (now starts) (now targets) (now rank) (now seen) (now queue) × (i < p) ⌝ }
+    requires { ⌜ Workspace p (now starts) (now targets) (now priorities) (now seen) (now queue) × (i < p) ⌝ }
     requires { ⌜ ((j : ℕ) → getD (now seen) j 0 ≤ i) ⌝ }
-    ensures { λ r. ⌜ r ≡ returns p (linkBy (now (starts .entry)) (now (targets .entry))) (rankAt (now (rank .entry))) i ⌝ }
+    ensures { λ r. ⌜ r ≡ returns p (linkBy (now (starts .entry)) (now (targets .entry))) (listedPriority (now (priorities .entry))) i ⌝ }
     ensures { λ r. ⌜ ((j : ℕ) → getD (now (seen .exit)) j 0 ≤ i + 1) ⌝ }
 {
-    let least = rank[i];
+    let least = priorities[i];
     let stamp = (i + 1) as u16;
-    let mut tail = expand(starts, targets, rank, seen, queue, p, i, least, stamp, 0);
+    let mut tail = expand(
+        starts,
+        targets,
+        priorities,
+        seen,
+        queue,
+        p,
+        i,
+        least,
+        stamp,
+        0,
+    );
     let mut head = 0;
     while head < tail {
         if seen[i] == stamp {
             return true;
         }
         let j = queue[head] as usize;
-        tail = expand(starts, targets, rank, seen, queue, p, j, least, stamp, tail);
+        tail = expand(
+            starts,
+            targets,
+            priorities,
+            seen,
+            queue,
+            p,
+            j,
+            least,
+            stamp,
+            tail,
+        );
         head += 1;
     }
     seen[i] == stamp
@@ -99,41 +129,41 @@ fn returns(
 fn returns_wrong(
     starts: &[u16],
     targets: &[u16],
-    rank: &[u16],
+    priorities: &[u16],
     seen: &mut [u16],
     queue: &mut [u16],
     p: usize,
     player: u32,
     i: usize,
 ) -> bool
-    requires { ⌜ Workspace p (now starts) (now targets) (now rank) (now seen) (now queue) × (i < p) × (player ≤ 1) ⌝ }
+    requires { ⌜ Workspace p (now starts) (now targets) (now priorities) (now seen) (now queue) × (i < p) × (player ≤ 1) ⌝ }
     requires { ⌜ ((j : ℕ) → getD (now seen) j 0 ≤ i) ⌝ }
-    ensures { λ r. ⌜ r ≡ wrongBy (now (starts .entry)) (now (targets .entry)) (now (rank .entry)) p player i ⌝ }
+    ensures { λ r. ⌜ r ≡ wrongBy (now (starts .entry)) (now (targets .entry)) (now (priorities .entry)) p player i ⌝ }
     ensures { λ r. ⌜ ((j : ℕ) → getD (now (seen .exit)) j 0 ≤ i + 1) ⌝ }
 {
-    if (rank[i] % 2) as u32 == player {
+    if (priorities[i] % 2) as u32 == player {
         return false;
     }
-    returns(starts, targets, rank, seen, queue, p, i)
+    returns(starts, targets, priorities, seen, queue, p, i)
 }
 
 // The lowest position of the wrong parity that returns; p where there is none. No more than p × l links are looked at.
 fn first_returning(
     starts: &[u16],
     targets: &[u16],
-    rank: &[u16],
+    priorities: &[u16],
     seen: &mut [u16],
     queue: &mut [u16],
     p: usize,
     player: u32,
 ) -> usize
-    requires { ⌜ Workspace p (now starts) (now targets) (now rank) (now seen) (now queue) × (player ≤ 1) ⌝ }
+    requires { ⌜ Workspace p (now starts) (now targets) (now priorities) (now seen) (now queue) × (player ≤ 1) ⌝ }
     requires { ⌜ ((j : ℕ) → getD (now seen) j 0 ≡ 0) ⌝ }
-    ensures { λ r. ⌜ r ≡ first (wrongBy (now (starts .entry)) (now (targets .entry)) (now (rank .entry)) p player) 0 p ⌝ }
+    ensures { λ r. ⌜ r ≡ first (wrongBy (now (starts .entry)) (now (targets .entry)) (now (priorities .entry)) p player) 0 p ⌝ }
 {
     let mut i = 0;
     while i < p {
-        if returns_wrong(starts, targets, rank, seen, queue, p, player, i) {
+        if returns_wrong(starts, targets, priorities, seen, queue, p, player, i) {
             return i;
         }
         i += 1;
@@ -142,15 +172,15 @@ fn first_returning(
 }
 
 // The priority of each position.
-fn fill_rank(game: &[u16], plan: &[u16], rank: &mut [u16])
+fn fill_priorities(game: &[u16], plan: &[u16], priorities: &mut [u16])
     requires { ⌜ WellFormed (now game) × PlanFormed (vertexCount (now game)) (now plan) ⌝ }
-    requires { ⌜ positionCount (now plan) ≤ length (now rank) ⌝ }
-    ensures { λ r. ⌜ ((i : ℕ) → i < positionCount (now (plan .entry)) → getD (now (rank .exit)) i 0 ≡ positionPriority (now (game .entry)) (now (plan .entry)) i) ⌝ }
+    requires { ⌜ positionCount (now plan) ≤ length (now priorities) ⌝ }
+    ensures { λ r. ⌜ ((i : ℕ) → i < positionCount (now (plan .entry)) → getD (now (priorities .exit)) i 0 ≡ positionPriority (now (game .entry)) (now (plan .entry)) i) ⌝ }
 {
     let p = plan[0] as usize;
     let mut j = 0;
     while j < p {
-        rank[j] = game[2 + vertex_of(plan, j)];
+        priorities[j] = game[2 + vertex_of(plan, j)];
         j += 1;
     }
 }
@@ -168,9 +198,17 @@ pub fn first_return(
     ensures { λ r. ⌜ r ≡ firstReturn (now (game .entry)) player (now (plan .entry)) ⌝ }
 {
     let p = plan[0] as usize;
-    let mut rank = [0u16; 4096];
-    fill_rank(game, plan, &mut rank);
+    let mut priorities = [0u16; 4096];
+    fill_priorities(game, plan, &mut priorities);
     let mut seen = [0u16; 4096];
     let mut queue = [0u16; 4097];
-    first_returning(starts, targets, &rank, &mut seen, &mut queue, p, player)
+    first_returning(
+        starts,
+        targets,
+        &priorities,
+        &mut seen,
+        &mut queue,
+        p,
+        player,
+    )
 }

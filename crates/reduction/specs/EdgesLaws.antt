@@ -7,7 +7,7 @@ use Prim.Native.Nat.{ℕ, zero, suc, _+_, _*_, _/_, _%_, _≤_, _<_}
 use native.Mathlib.Nat.{zero-mul, mul-le-mul-right}
 use native.Mathlib.Omega.{arith}
 use lib.ListN.{length, getD, set, length-append, length-map}
-use Rattle.theory.specs.Range.{count, tabulate, pairsBelow, pairsOf}
+use Rattle.theory.specs.Range.{tabulate, pairsBelow, pairsOf}
 use Rattle.theory.specs.CountLaws.{count-grows}
 use Rattle.theory.specs.ListLaws.{length-tabulate, getD-tabulate, tabulate-by}
 use Rattle.theory.specs.LinkLaws.{length-pairsBelow}

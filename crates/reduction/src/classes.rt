@@ -28,16 +28,13 @@ fn lowest_member(marks: &[u8], n: usize, v: usize) -> usize
     ensures { λ r. ⌜ r ≡ lowest n (relation n (now (marks .entry))) v ⌝ }
 {
     let mut u = 0;
-    let found = loop {
-        if u >= n {
-            break u;
-        }
+    while u < n {
         if same_class(marks, n, u, v) {
-            break u;
+            return u;
         }
         u += 1;
-    };
-    found
+    }
+    u
 }
 
 // Gives v its class, where k classes have a lower member: class k with the representative v if v is the lowest member, else the class of

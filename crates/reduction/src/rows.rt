@@ -1,6 +1,7 @@
 // A part of this crate's calls; no host calls it.
 // The edges of one class. A class d gets an edge from class c exactly if every member of c reaches it: the members are passed one by one,
 // and the count of d goes from s to s + 1 at member number s only where that member, too, has a successor in d.
+use order::index::run_of;
 ghost use mathlib.Core.Path.{_≡_};
 ghost use Prim.Native.Nat.{ℕ, _+_, _<_, _≤_};
 ghost use mathlib.Core.Bool.{cond};
@@ -63,9 +64,8 @@ fn count_vertex(
     if classes[v] as usize != c {
         return s;
     }
-    let from = offsets[v] as usize;
-    let end = offsets[v + 1] as usize;
-    raise_reached(classes, targets, from, end, s, counts);
+    let run = run_of(offsets, v);
+    raise_reached(classes, targets, run.from, run.end, s, counts);
     s + 1
 }
 

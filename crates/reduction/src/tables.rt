@@ -6,7 +6,7 @@ use crate::rows;
 use crate::words;
 ghost use mathlib.Core.Path.{_≡_};
 ghost use mathlib.Core.List.{map};
-ghost use Prim.Native.Nat.{_+_, _*_, _<_, _≤_};
+ghost use Prim.Native.Nat.{_+_, _<_, _≤_};
 ghost use lib.ListN.{length};
 ghost use Rattle.theory.specs.Range.{pairsOf};
 ghost use Rattle.table.specs.Table.{vertexCount, tableEdges, tableLength, gameOf};

@@ -46,7 +46,7 @@ passes-given : (o : Ordering) (k : ℕ) → orderingAnswer o ≡ accepted (k ∷
 passes-given (Ordering.Accepted p) k e = cc
 passes-given (Ordering.Refused f) k e = absurd (not-both e)
 
--- these counts
+-- the counts are those of k classes, n vertices and m edges
 pub record Given (c : TableCounts) (k n m : ℕ) : Type 0 where
   pub classes : c .classes ≡ k
   pub vertices : c .vertices ≡ n

@@ -1,3 +1,4 @@
+-- Each case of the verdict is one of the fields' definition.
 use mathlib.Core.Path.{sym, ap, _∙_}
 use Rattle.table.specs.declared.Acceptance.{Acceptance}
 use Rattle.table.specs.Acceptance.{acceptanceAnswer}

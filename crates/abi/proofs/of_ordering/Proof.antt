@@ -1,3 +1,4 @@
+-- Each case of the verdict is one of the fields' definition.
 use mathlib.Core.Path.{sym, ap, _∙_}
 use Rattle.order.specs.declared.Ordering.{Ordering}
 use Rattle.order.specs.OrderCall.{orderingAnswer}

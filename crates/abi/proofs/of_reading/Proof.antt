@@ -1,3 +1,4 @@
+-- Each case of the verdict is one of the fields' definition; small sizes fit 32 bits.
 use mathlib.Core.Path.{sym, ap, _∙_, subst}
 use native.Mathlib.Omega.{arith}
 use Rattle.table.specs.declared.Reading.{Reading}

@@ -1,3 +1,4 @@
+-- Each case of the verdict is one of the fields' definition; small counts fit 32 bits.
 use mathlib.Core.Path.{sym, ap, _∙_, subst}
 use native.Mathlib.Omega.{arith}
 use Rattle.reduction.specs.declared.Tabulation.{Tabulation}

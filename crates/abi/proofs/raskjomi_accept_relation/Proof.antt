@@ -1,3 +1,4 @@
+-- The fields are those of the call's answer.
 use mathlib.Core.Path.{ap, _∙_}
 use Rattle.abi.specs.Fields.{acceptFields}
 use borrow.Author.Needs.{needs}

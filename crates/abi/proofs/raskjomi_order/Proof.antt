@@ -1,3 +1,4 @@
+-- The fields are those of the call's answer.
 use borrow.Author.Needs.{needs}
 use Rattle.abi.proofs.raskjomi_order.Statement.{statement}
 use Rattle.abi.proofs.raskjomi_order.Tie as tie

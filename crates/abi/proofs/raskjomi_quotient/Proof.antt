@@ -1,3 +1,4 @@
+-- The quotient has no more vertices and edges than the game, so the counts fit their fields.
 use Rattle.theory.specs.Reduction.{quotient}
 use Rattle.theory.specs.SizeLaws.{quotient-size, quotient-edges}
 use Rattle.abi.specs.FieldsLaws.{tabulation-small}

@@ -1,3 +1,4 @@
+-- An accepted table has small sizes, so they fit their fields.
 use mathlib.Core.Path.{ap, _∙_}
 use Rattle.abi.specs.Fields.{readFields}
 use Rattle.abi.specs.FieldsLaws.{reading-small}

@@ -1,3 +1,4 @@
+-- The reduced game has no more vertices and edges than the game, so the counts fit their fields.
 use Rattle.theory.specs.Reduction.{reduced}
 use Rattle.theory.specs.SizeLaws.{reduced-size, reduced-edges}
 use Rattle.abi.specs.FieldsLaws.{tabulation-small}

@@ -1,3 +1,4 @@
+-- The sentence follows from what the call promises.
 use Rattle.claims.specs.SentencesLaws as laws
 use borrow.Author.Needs.{needs}
 use Rattle.claims.proofs.reduces.Statement.{statement}

@@ -1,3 +1,4 @@
+-- Each way out is a row of the memory's table of refusals, or none of them.
 use Rattle.table.specs.VerdictLaws.{judge-hit, judge-next, judge-clean}
 use mathlib.Core.Path.{sym, _∙_}
 use native.Mathlib.Omega.{arith}

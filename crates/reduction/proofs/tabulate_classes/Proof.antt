@@ -1,3 +1,4 @@
+-- Each way out is a row of the call's table of refusals, or what the order and the table leave.
 use mathlib.Core.Path.{_≡_, sym, ap, _∙_}
 use mathlib.Core.List.{[]}
 use native.Mathlib.Omega.{arith}

@@ -1,3 +1,4 @@
+-- The reader's refusal is the call's; an accepted game is well-formed, which is what the rest needs.
 use Rattle.table.specs.ReadingLaws.{reading-accepted}
 use Rattle.reduction.specs.Rows.{gameBy}
 use Rattle.reduction.specs.CallsLaws.{table-handed}

@@ -1,3 +1,4 @@
+-- An accepted game has no more vertices than there are class words.
 use borrow.Author.Needs.{needs}
 use Rattle.report.proofs.print_report.Statement.{statement}
 use Rattle.report.proofs.print_report.Tie as tie

@@ -1,3 +1,4 @@
+-- The arrays are enough for any accepted game, and an accepted game has at most 256 vertices to print.
 use native.Mathlib.Omega.{arith}
 use Rattle.report.specs.PartsLaws.{reported-small}
 use borrow.Author.Needs.{needs}

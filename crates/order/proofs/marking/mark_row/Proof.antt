@@ -2,15 +2,10 @@
 use borrow.Author.Needs.{needs}
 use native.Mathlib.Omega.{arith}
 use mathlib.Core.Path.{_≡_}
-use mathlib.Core.List.{List}
-use Prim.Native.Nat.{ℕ, _+_, _*_, _-_, _≤_, _<_}
+use Prim.Native.Nat.{_+_, _*_, _-_, _≤_, _<_}
 use lib.Arith.{digits-lt}
 use lib.ListN.{length, length-set}
-use Rattle.theory.specs.Range.{tabulate}
 use Rattle.table.specs.Table.{vertexCount}
-use Rattle.table.specs.Verdict.{written}
-use Rattle.order.specs.Bytes.{bytes}
-use Rattle.order.specs.BytesLaws.{fill-more}
 use Rattle.order.specs.Clearing.{pairCount, equalPairs, RowWritten}
 use Rattle.order.specs.ClearingLaws.{equal-of, row-start, row-next}
 use Rattle.order.proofs.marking.mark_row.Statement.{statement}

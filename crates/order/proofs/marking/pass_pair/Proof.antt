@@ -2,10 +2,9 @@
 use borrow.Author.Needs.{needs}
 use native.Mathlib.Omega.{arith}
 use borrow.Author.Tests.{eq-eqb, ne-eqb, not-true, not-false}
-use Prim.Native.Nat.{_+_, _*_, _<_}
+use Prim.Native.Nat.{_<_}
 use lib.Arith.{digits-lt}
 use Rattle.theory.specs.Bools.{_&_, bit}
-use Rattle.table.specs.Table.{vertexCount}
 use Rattle.order.specs.Bytes.{isMark}
 use Rattle.order.specs.Clearing.{pairCount, keeps, clears}
 use Rattle.order.proofs.marking.pass_pair.Statement.{statement}

@@ -5,8 +5,6 @@ use Rattle.theory.specs.Order.{equalPriority}
 use Rattle.table.specs.Table.{gameOf}
 use Rattle.order.proofs.pairs.same_priority.Statement.{statement}
 use Rattle.order.proofs.pairs.same_priority.Tie as tie
-use Rattle.order.proofs.pairs.same_priority.Reads as reads
-use Rattle.order.proofs.pairs.same_priority.Lts as lts
 
 -- src/pairs.rt:110:18
 add-p : tie.Need-add-p

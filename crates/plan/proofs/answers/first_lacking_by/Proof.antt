@@ -11,12 +11,12 @@ use Rattle.plan.proofs.answers.first_lacking_by.Statement.{statement}
 use Rattle.plan.proofs.answers.first_lacking_by.Tie as tie
 
 abbrev Inv-loop : tie.InvT-loop
-Inv-loop game player plan starts targets edge-starts edge-targets marks₀ p i₀ marks i =
-    (i ≤ p) × (length marks ≡ length marks₀) × ((x : ℕ) → getD marks x 0 ≤ i)
+Inv-loop game player plan starts targets edge-starts edge-targets stamps₀ p i₀ stamps i =
+    (i ≤ p) × (length stamps ≡ length stamps₀) × ((x : ℕ) → getD stamps x 0 ≤ i)
     × (first (lacksLink game player plan) 0 p ≡ first (lacksLink game player plan) i p)
 
 abbrev μ-loop : tie.MeasureT-loop
-μ-loop game player plan starts targets edge-starts edge-targets marks₀ p i₀ marks i = p - i
+μ-loop game player plan starts targets edge-starts edge-targets stamps₀ p i₀ stamps i = p - i
 
 shared-slice-read-p : tie.Need-shared-slice-read-p Inv-loop μ-loop
 shared-slice-read-p c = search needs

@@ -10,12 +10,12 @@ use Rattle.plan.proofs.returns.expand.Statement.{statement}
 use Rattle.plan.proofs.returns.expand.Tie as tie
 
 abbrev Inv-loop : tie.InvT-loop
-Inv-loop starts targets rank seen₀ queue₀ p i least stamp tail end t₀ last₀ seen queue t last =
+Inv-loop starts targets priorities seen₀ queue₀ p i least stamp tail end t₀ last₀ seen queue t last =
     (t₀ ≤ t) × (t ≤ end) × (length seen ≡ length seen₀) × (length queue ≡ length queue₀)
-    × Grown p stamp (followed targets rank least t₀ t) seen₀ queue₀ tail seen queue last
+    × Grown p stamp (followed targets priorities least t₀ t) seen₀ queue₀ tail seen queue last
 
 abbrev μ-loop : tie.MeasureT-loop
-μ-loop starts targets rank seen₀ queue₀ p i least stamp tail end t₀ last₀ seen queue t last = end - t
+μ-loop starts targets priorities seen₀ queue₀ p i least stamp tail end t₀ last₀ seen queue t last = end - t
 
 abbrev entry : tie.At-loop Inv-loop μ-loop → tie.Start Inv-loop μ-loop
 entry c = c .before .before .before .before .before .before .before .before
@@ -100,7 +100,7 @@ returns : tie.Need-returns Inv-loop μ-loop
 returns c =
     let e = entry (c .before) in
     let l = c .before .loop in
-    grown-all (e .args .starts .now) (e .args .targets .now) (e .args .rank .now) (e .args .least) (e .args .i) (l .t) (omega (arith, l .inv .1, c .loop-test .left)) (l .inv .4)
+    grown-all (e .args .starts .now) (e .args .targets .now) (e .args .priorities .now) (e .args .least) (e .args .i) (l .t) (omega (arith, l .inv .1, c .loop-test .left)) (l .inv .4)
 
 pub expand-spec : {M : Type 1} → statement M
 expand-spec =

@@ -16,11 +16,11 @@ shared-slice-read-p c = search needs
 cast-p : tie.Need-cast-p
 cast-p c = search needs
 
-slice-aggregate-fill-rank : tie.Need-slice-aggregate-fill-rank
-slice-aggregate-fill-rank c = search needs
+slice-aggregate-fill-priorities : tie.Need-slice-aggregate-fill-priorities
+slice-aggregate-fill-priorities c = search needs
 
-fill-rank-requires : tie.Need-fill-rank-requires
-fill-rank-requires c κs = search needs
+fill-priorities-requires : tie.Need-fill-priorities-requires
+fill-priorities-requires c κs = search needs
 
 slice-aggregate-first-returning : tie.Need-slice-aggregate-first-returning
 slice-aggregate-first-returning c = search needs
@@ -39,7 +39,7 @@ first-returning-requires c κs =
         record {
           graph = index-graph (e .pre .1) (f .targets);
           few = f .sized .positions;
-          ranks = omega (arith, c .before .before .before .before .fill-rank .kept .1 .1 .0, length-replicate {A = ℕ} 4096 0, f .sized .positions);
+          values = omega (arith, c .before .before .before .before .fill-priorities .kept .1 .1 .0, length-replicate {A = ℕ} 4096 0, f .sized .positions);
           stamps = f .sized .positions;
           entries = omega (arith, f .sized .positions);
         },
@@ -51,7 +51,7 @@ first-returning-requires c κs =
 returns : tie.Need-returns
 returns c =
     let e = c .before .before .before .before .before .before .before .before .before .before .before .before .before .before in
-    c .before .before .first-returning .ensures ∙ first-return-same (e .args .plan .now) (e .args .starts .now) (e .args .targets .now) (e .pre .1) (e .args .game .now) _ (e .args .player) (c .before .before .before .before .before .before .before .fill-rank .ensures)
+    c .before .before .first-returning .ensures ∙ first-return-same (e .args .plan .now) (e .args .starts .now) (e .args .targets .now) (e .pre .1) (e .args .game .now) _ (e .args .player) (c .before .before .before .before .before .before .before .fill-priorities .ensures)
 
 pub first-return-spec : {M : Type 1} → statement M
 first-return-spec =
@@ -59,8 +59,8 @@ first-return-spec =
     (tie.spec
     shared-slice-read-p
     cast-p
-    slice-aggregate-fill-rank
-    fill-rank-requires
+    slice-aggregate-fill-priorities
+    fill-priorities-requires
     slice-aggregate-first-returning
     slice-aggregate-first-returning-2
     slice-aggregate-first-returning-3

@@ -11,12 +11,12 @@ use Rattle.plan.proofs.returns.first_returning.Statement.{statement}
 use Rattle.plan.proofs.returns.first_returning.Tie as tie
 
 abbrev Inv-loop : tie.InvT-loop
-Inv-loop starts targets rank seen₀ queue₀ p player i₀ seen queue i =
+Inv-loop starts targets priorities seen₀ queue₀ p player i₀ seen queue i =
     (i ≤ p) × (length seen ≡ length seen₀) × (length queue ≡ length queue₀) × ((j : ℕ) → getD seen j 0 ≤ i)
-    × (first (wrongBy starts targets rank p player) 0 p ≡ first (wrongBy starts targets rank p player) i p)
+    × (first (wrongBy starts targets priorities p player) 0 p ≡ first (wrongBy starts targets priorities p player) i p)
 
 abbrev μ-loop : tie.MeasureT-loop
-μ-loop starts targets rank seen₀ queue₀ p player i₀ seen queue i = p - i
+μ-loop starts targets priorities seen₀ queue₀ p player i₀ seen queue i = p - i
 
 loop-holds : tie.Need-loop-holds Inv-loop μ-loop
 loop-holds c = (omega arith, refl, refl, λ j. omega (arith, c .before .before .before .before .before .pre .1 j), refl)
@@ -25,7 +25,7 @@ returns-wrong-requires : tie.Need-returns-wrong-requires Inv-loop μ-loop
 returns-wrong-requires c κs =
     let e = c .before .before .before .before .before .before .before .before .before in
     let l = c .before .before .before .loop in
-    ((record { graph = e .pre .0 .0 .graph; few = e .pre .0 .0 .few; ranks = e .pre .0 .0 .ranks; stamps = omega (arith, e .pre .0 .0 .stamps, l .inv .1); entries = omega (arith, e .pre .0 .0 .entries, l .inv .2) }, c .before .before .loop-test .taken, e .pre .0 .1), l .inv .3)
+    ((record { graph = e .pre .0 .0 .graph; few = e .pre .0 .0 .few; values = e .pre .0 .0 .values; stamps = omega (arith, e .pre .0 .0 .stamps, l .inv .1); entries = omega (arith, e .pre .0 .0 .entries, l .inv .2) }, c .before .before .loop-test .taken, e .pre .0 .1), l .inv .3)
 
 same-length : tie.Need-same-length Inv-loop μ-loop
 same-length c = search needs

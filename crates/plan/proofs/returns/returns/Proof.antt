@@ -12,12 +12,12 @@ use Rattle.plan.proofs.returns.returns.Statement.{statement}
 use Rattle.plan.proofs.returns.returns.Tie as tie
 
 abbrev Inv-loop : tie.InvT-loop
-Inv-loop starts targets rank seen₀ queue₀ p i least stamp tail₀ head₀ seen queue tail head =
+Inv-loop starts targets priorities seen₀ queue₀ p i least stamp tail₀ head₀ seen queue tail head =
     (head ≤ tail) × (length seen ≡ length seen₀) × (length queue ≡ length queue₀)
-    × Searched p (linkBy starts targets) (notBelow rank (getD rank i 0)) i (i + 1) seen queue head tail
+    × Searched p (linkBy starts targets) (notBelow priorities (getD priorities i 0)) i (i + 1) seen queue head tail
 
 abbrev μ-loop : tie.MeasureT-loop
-μ-loop starts targets rank seen₀ queue₀ p i least stamp tail₀ head₀ seen queue tail head = p - head
+μ-loop starts targets priorities seen₀ queue₀ p i least stamp tail₀ head₀ seen queue tail head = p - head
 
 abbrev entry : tie.At-loop Inv-loop μ-loop → tie.Start Inv-loop μ-loop
 entry c = c .before .before .before .before .before .before .before .before .before .before .before .before .before .before
@@ -95,7 +95,7 @@ expand-requires-2 : tie.Need-expand-requires-2 Inv-loop μ-loop
 expand-requires-2 c κs =
     let w = turn (c .before .before .before .before .before) in
     let e = entry (c .before .before .before .before .before .before) in
-    ((record { graph = e .pre .0 .0 .graph; few = e .pre .0 .0 .few; ranks = e .pre .0 .0 .ranks; stamps = w .seen-room; entries = w .queue-room }, omega (arith, w .below, e .pre .0 .1)), c .before .before .before .before .before .before .loop .inv .3 .queued)
+    ((record { graph = e .pre .0 .0 .graph; few = e .pre .0 .0 .few; values = e .pre .0 .0 .values; stamps = w .seen-room; entries = w .queue-room }, omega (arith, w .below, e .pre .0 .1)), c .before .before .before .before .before .before .loop .inv .3 .queued)
 
 add-head : tie.Need-add-head Inv-loop μ-loop
 add-head c = search needs

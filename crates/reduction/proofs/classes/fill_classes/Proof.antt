@@ -1,3 +1,4 @@
+-- 256 representatives are enough for any well-formed game.
 use Rattle.table.specs.Table.{gameOf}
 use Rattle.reduction.specs.NumberingLaws.{numbered-total}
 use Rattle.reduction.specs.Calls.{classTotal}

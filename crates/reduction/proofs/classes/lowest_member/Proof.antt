@@ -1,3 +1,4 @@
+-- Invariant: the search from u on finds what the whole search finds.
 use mathlib.Core.Path.{_≡_, refl, sym, _∙_}
 use Prim.Native.Nat.{_-_, _≤_}
 use Rattle.theory.specs.RangeLaws.{first-step, first-hit, first-end}
@@ -19,7 +20,12 @@ unfolding lowest
 loop-holds c = (search needs, refl)
 
 same-class-requires : tie.Need-same-class-requires Inv-loop μ-loop
-same-class-requires c κs = let s = c .before .before .before in (c .if1 .left, s .pre .0, s .pre .1)
+same-class-requires c κs = let s = c .before .before .before in (c .loop-test .taken, s .pre .0, s .pre .1)
+
+returns : tie.Need-returns Inv-loop μ-loop
+returns c =
+    let l = c .before .before .before .loop in
+    sym (l .inv .1 ∙ first-hit _ (l .u) _ (c .before .before .loop-test .taken) (sym (c .before .same-class .ensures) ∙ c .if1 .taken))
 
 add-u : tie.Need-add-u Inv-loop μ-loop
 add-u c = search needs
@@ -30,15 +36,10 @@ loop-less c = search needs
 loop-again : tie.Need-loop-again Inv-loop μ-loop
 loop-again c =
     let l = c .before .before .before .loop in
-    (search needs, l .inv .1 ∙ first-step _ (l .u) _ (c .before .before .if1 .left) (sym (c .before .same-class .ensures) ∙ c .if2 .left))
-
-returns : tie.Need-returns Inv-loop μ-loop
-returns c = sym (c .before .loop .inv .1 ∙ first-end _ _ _ (c .if1 .taken))
+    (search needs, l .inv .1 ∙ first-step _ (l .u) _ (c .before .before .loop-test .taken) (sym (c .before .same-class .ensures) ∙ c .if1 .left))
 
 returns-2 : tie.Need-returns-2 Inv-loop μ-loop
-returns-2 c =
-    let l = c .before .before .before .loop in
-    sym (l .inv .1 ∙ first-hit _ (l .u) _ (c .before .before .if1 .left) (sym (c .before .same-class .ensures) ∙ c .if2 .taken))
+returns-2 c = sym (c .before .loop .inv .1 ∙ first-end _ _ _ (c .loop-test .left))
 
 pub lowest-member-spec : {M : Type 1} → statement M
 lowest-member-spec =
@@ -48,8 +49,8 @@ lowest-member-spec =
     μ-loop
     loop-holds
     same-class-requires
+    returns
     add-u
     loop-less
     loop-again
-    returns
     returns-2)

@@ -1,3 +1,4 @@
+-- Invariant: the vertices below v have their class numbers, and the k classes among them their lowest members.
 use Rattle.reduction.specs.NumberingLaws.{numbered-start}
 use mathlib.Core.Path.{_≡_, ap, _∙_}
 use Prim.Native.Nat.{_-_, _≤_}

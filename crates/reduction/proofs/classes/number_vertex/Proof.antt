@@ -1,3 +1,4 @@
+-- The lowest member is v, and its class is new, or it stands before v and has its class already.
 use mathlib.Core.Path.{_≡_, sym, ap, _∙_}
 use Prim.Native.Nat.{_≤_, _<_}
 use native.Mathlib.Omega.{arith}

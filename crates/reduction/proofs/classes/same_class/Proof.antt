@@ -1,3 +1,4 @@
+-- The marks of (u, v) and of (v, u) lie inside n × n, and decide one after the other.
 use native.Mathlib.Omega.{arith}
 use lib.Arith.{digits-lt}
 use borrow.Author.Tests.{ne-eqb, eq-eqb}

@@ -1,3 +1,4 @@
+-- The representative of c has its owner. For Even the row of d is read, for Odd the column; both lie inside n × n.
 use mathlib.Core.Path.{_≡_, _∙_}
 use Prim.Native.Nat.{_+_, _*_, _<_}
 use native.Mathlib.Omega.{arith}

@@ -1,3 +1,4 @@
+-- The two ways out: the same class, or what the mark says.
 use native.Mathlib.Omega.{arith}
 use borrow.Author.Tests.{eq-eqb, ne-eqb}
 use Rattle.theory.specs.Bools.{_&_}

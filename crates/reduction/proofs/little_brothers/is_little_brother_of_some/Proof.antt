@@ -1,3 +1,4 @@
+-- Invariant: d is a little brother of none of the first j targets.
 use mathlib.Core.Path.{_≡_, sym, _∙_}
 use mathlib.Core.Bool.{false}
 use Prim.Native.Nat.{_-_, _≤_}

@@ -1,3 +1,4 @@
+-- Compared with no edge, the row is the quotient's; compared with the quotient's row, it is the reduced game's.
 use Rattle.reduction.specs.Rows.{keeps, picked, gameBy}
 use mathlib.Core.List.{List}
 use Rattle.table.specs.Verdict.{written}

@@ -1,3 +1,4 @@
+-- Invariant: the kept ones of the classes below d are written, and r is their number.
 use mathlib.Core.Path.{_≡_, refl, _∙_}
 use Prim.Native.Nat.{_-_, _≤_}
 use native.Mathlib.Omega.{arith}

@@ -1,3 +1,4 @@
+-- Invariant: s members of c are below v, and the count of d is s exactly where each of them reaches d.
 use mathlib.Core.Path.{_≡_}
 use Prim.Native.Nat.{_-_, _≤_}
 use native.Mathlib.Omega.{arith}

@@ -1,3 +1,4 @@
+-- A vertex of another class raises nothing; a member raises the classes that its run reaches.
 use native.Mathlib.Omega.{arith}
 use native.Mathlib.Nat.{add-zero}
 use borrow.Author.Tests.{eq-eqb, ne-eqb}
@@ -21,29 +22,11 @@ returns : tie.Need-returns
 unfolding memberReaches bit _&_
 returns c = let e = ne-eqb _ _ (c .if1 .taken) in (rw (e, add-zero (c .before .before .before .before .before .before .args .s)), raised-none _ _ _ (λ d. rw e))
 
-mul-from : tie.Need-mul-from
-mul-from c = search needs
-
-shared-slice-read-from : tie.Need-shared-slice-read-from
-shared-slice-read-from c = search needs
-
-cast-from : tie.Need-cast-from
-cast-from c = search needs
-
-add-end : tie.Need-add-end
-add-end c = search needs
-
-mul-end : tie.Need-mul-end
-mul-end c = search needs
-
-shared-slice-read-end : tie.Need-shared-slice-read-end
-shared-slice-read-end c = search needs
-
-cast-end : tie.Need-cast-end
-cast-end c = search needs
+run-of-requires : tie.Need-run-of-requires
+run-of-requires c κs = search needs
 
 raise-reached-requires : tie.Need-raise-reached-requires
-raise-reached-requires c κs = search needs
+raise-reached-requires c κs = rw (c .before .run-of .ensures) (search needs)
 
 add-result : tie.Need-add-result
 add-result c = search needs
@@ -55,8 +38,8 @@ returns-2 : tie.Need-returns-2
 unfolding memberReaches bit _&_
 returns-2 c =
     let a = c .before .before in
-    let e = eq-eqb _ _ (a .before .before .before .before .if1 .left) in
-    (rw e, raised-ext _ _ _ _ _ (λ d. rw e) (a .raise-reached .ensures))
+    let e = eq-eqb _ _ (a .before .before .before .if1 .left) in
+    (rw e, raised-ext _ _ _ _ _ (λ d. rw e) (rw (a .before .before .run-of .ensures) at (a .raise-reached .ensures)))
 
 pub count-vertex-spec : {M : Type 1} → statement M
 count-vertex-spec =
@@ -66,13 +49,7 @@ count-vertex-spec =
     shared-slice-read-if1
     cast-if1
     returns
-    mul-from
-    shared-slice-read-from
-    cast-from
-    add-end
-    mul-end
-    shared-slice-read-end
-    cast-end
+    run-of-requires
     raise-reached-requires
     add-result
     same-length

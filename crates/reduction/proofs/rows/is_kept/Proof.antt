@@ -1,3 +1,4 @@
+-- The two ways out: no quotient edge, or what the test for little brothers says.
 use mathlib.Core.Bool.{not}
 use mathlib.Core.Path.{ap}
 use borrow.Author.Tests.{eq-eqb, ne-eqb}

@@ -1,3 +1,4 @@
+-- The two ways out, by `kept`.
 use mathlib.Core.Path.{refl}
 use native.Mathlib.Nat.{add-zero}
 use Rattle.theory.specs.Bools.{bit}

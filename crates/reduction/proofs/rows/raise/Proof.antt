@@ -1,3 +1,4 @@
+-- The count is s and is raised, or it stays.
 use mathlib.Core.Path.{sym}
 use lib.Seq.{set-getD}
 use borrow.Author.Tests.{eq-eqb, ne-eqb}

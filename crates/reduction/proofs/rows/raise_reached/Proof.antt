@@ -1,3 +1,4 @@
+-- Invariant: the counts of the classes of the targets before k are raised.
 use mathlib.Core.Path.{_≡_, sym, ap, _∙_}
 use Prim.Native.Nat.{_-_, _≤_, _<_}
 use native.Mathlib.Omega.{arith}

@@ -1,3 +1,4 @@
+-- A row has at most 256 targets, so it fits the array; as many sources are put beside them.
 use Prim.Native.Nat.{_≤_}
 use native.Mathlib.Omega.{arith}
 use Rattle.table.specs.Table.{gameOf}

@@ -1,3 +1,4 @@
+-- The local arrays hold the representatives, the index and the edges of any well-formed game.
 use mathlib.Core.Path.{_≡_}
 use Prim.Native.Nat.{_≤_}
 use native.Mathlib.Omega.{arith}

@@ -1,3 +1,4 @@
+-- Invariant: the edges of the classes before c are listed. They are at most the game's, so each row has room.
 use Rattle.reduction.specs.Rows.{picked, gameBy}
 use mathlib.Core.Path.{_≡_}
 use Prim.Native.Nat.{_+_, _-_, _*_, _≤_}

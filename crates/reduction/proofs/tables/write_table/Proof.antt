@@ -1,3 +1,4 @@
+-- Each part is put behind the one before it, so the five together are the table.
 use mathlib.Core.Path.{_≡_, refl, _∙_}
 use Prim.Native.Nat.{ℕ, _≤_, _<_}
 use native.Mathlib.Omega.{arith}

@@ -1,3 +1,4 @@
+-- Invariant: the first i words are put, and the others are as before.
 use mathlib.Core.Path.{_≡_}
 use Rattle.reduction.specs.PlacingLaws.{placed-start, placed-more}
 use Prim.Native.Nat.{_-_, _≤_}

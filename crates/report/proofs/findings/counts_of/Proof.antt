@@ -1,3 +1,4 @@
+-- Each case of the verdict is one of the definition.
 use borrow.Author.Needs.{needs}
 use Rattle.report.proofs.findings.counts_of.Statement.{statement}
 use Rattle.report.proofs.findings.counts_of.Tie as tie

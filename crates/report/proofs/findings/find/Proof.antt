@@ -1,3 +1,4 @@
+-- The reader refuses, or both calls accept, since their memory is enough.
 use native.Mathlib.Omega.{arith}
 use Rattle.report.specs.PartsLaws.{reported-refused, reported-accepted}
 use borrow.Author.Needs.{needs}

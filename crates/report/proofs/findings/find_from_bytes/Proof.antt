@@ -1,3 +1,4 @@
+-- The first `count` words after decoding are the words of the bytes.
 use mathlib.Core.Path.{sym}
 use Prim.Native.Nat.{_≤_}
 use lib.ListN.{length}

@@ -1,3 +1,4 @@
+-- Invariant: v is at most n, so its class word is there.
 use Prim.Native.Nat.{_≤_, _-_}
 use native.Mathlib.Omega.{arith}
 use borrow.Author.Needs.{needs}

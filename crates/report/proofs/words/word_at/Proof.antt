@@ -1,3 +1,4 @@
+-- Past the last byte the definition reads 0, the high byte of a half word.
 use Rattle.report.specs.Words.{wordAt}
 use Rattle.report.specs.WordsLaws.{half-word}
 use native.Mathlib.Omega.{arith}

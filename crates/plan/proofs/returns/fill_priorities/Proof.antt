@@ -6,14 +6,14 @@ use mathlib.Core.Path.{_≡_}
 use lib.ListN.{length, getD, length-set}
 use Rattle.plan.specs.Acceptance.{positionPriority}
 use Rattle.theory.specs.ListLaws.{after-set}
-use Rattle.plan.proofs.returns.fill_rank.Statement.{statement}
-use Rattle.plan.proofs.returns.fill_rank.Tie as tie
+use Rattle.plan.proofs.returns.fill_priorities.Statement.{statement}
+use Rattle.plan.proofs.returns.fill_priorities.Tie as tie
 
 abbrev Inv-loop : tie.InvT-loop
-Inv-loop game plan rank₀ p j₀ rank j = (j ≤ p) × (length rank ≡ length rank₀) × ((i : ℕ) → i < j → getD rank i 0 ≡ positionPriority game plan i)
+Inv-loop game plan priorities₀ p j₀ priorities j = (j ≤ p) × (length priorities ≡ length priorities₀) × ((i : ℕ) → i < j → getD priorities i 0 ≡ positionPriority game plan i)
 
 abbrev μ-loop : tie.MeasureT-loop
-μ-loop game plan rank₀ p j₀ rank j = p - j
+μ-loop game plan priorities₀ p j₀ priorities j = p - j
 
 -- the vertex of a turn's position
 below : (c : tie.After-vertex-of Inv-loop μ-loop) → c .vertex-of .result < getD (c .before .before .before .before .before .before .before .args .game .now) 0 0
@@ -31,20 +31,20 @@ loop-holds c = search needs
 vertex-of-requires : tie.Need-vertex-of-requires Inv-loop μ-loop
 vertex-of-requires c κs = search needs
 
-add-rank : tie.Need-add-rank Inv-loop μ-loop
-add-rank c = omega (arith, below c, c .before .before .before .before .before .before .before .pre .0 .0 .vertices)
+add-priorities : tie.Need-add-priorities Inv-loop μ-loop
+add-priorities c = omega (arith, below c, c .before .before .before .before .before .before .before .pre .0 .0 .vertices)
 
-mul-rank : tie.Need-mul-rank Inv-loop μ-loop
-mul-rank c = omega (arith, below c, c .before .before .before .before .before .before .before .pre .0 .0 .vertices)
+mul-priorities : tie.Need-mul-priorities Inv-loop μ-loop
+mul-priorities c = omega (arith, below c, c .before .before .before .before .before .before .before .pre .0 .0 .vertices)
 
-shared-slice-read-rank : tie.Need-shared-slice-read-rank Inv-loop μ-loop
-shared-slice-read-rank c = omega (arith, below (c .before), c .before .before .before .before .before .before .before .before .pre .0 .0 .size)
+shared-slice-read-priorities : tie.Need-shared-slice-read-priorities Inv-loop μ-loop
+shared-slice-read-priorities c = omega (arith, below (c .before), c .before .before .before .before .before .before .before .before .pre .0 .0 .size)
 
-mul-rank-2 : tie.Need-mul-rank-2 Inv-loop μ-loop
-mul-rank-2 c = search needs
+mul-priorities-2 : tie.Need-mul-priorities-2 Inv-loop μ-loop
+mul-priorities-2 c = search needs
 
-slice-write-rank : tie.Need-slice-write-rank Inv-loop μ-loop
-slice-write-rank c = search needs
+slice-write-priorities : tie.Need-slice-write-priorities Inv-loop μ-loop
+slice-write-priorities c = search needs
 
 add-j : tie.Need-add-j Inv-loop μ-loop
 add-j c = search needs
@@ -59,7 +59,7 @@ loop-again c =
     let e = c .before .before .before .before .before .before .before .before in (
       omega (arith, c .before .before .loop-test .taken),
       simp length-set (l .inv .1),
-      λ j h. after-set (λ (j x : ℕ). j < l .j + 1 → x ≡ positionPriority (e .args .game .now) (e .args .plan .now) j) (l .rank) (l .j) _
+      λ j h. after-set (λ (j x : ℕ). j < l .j + 1 → x ≡ positionPriority (e .args .game .now) (e .args .plan .now) j) (l .priorities) (l .j) _
           (omega (arith, l .inv .1, e .pre .1, c .before .before .loop-test .taken))
           (λ k. rw (c .before .vertex-of .ensures))
           (λ j d k. l .inv .2 j (omega arith)) j h,
@@ -71,8 +71,8 @@ same-length c = search needs
 returns : tie.Need-returns Inv-loop μ-loop
 returns c = λ i h. c .before .loop .inv .2 i (omega (arith, c .loop-test .left))
 
-pub fill-rank-spec : {M : Type 1} → statement M
-fill-rank-spec =
+pub fill-priorities-spec : {M : Type 1} → statement M
+fill-priorities-spec =
     tie.close
     (tie.spec
     Inv-loop
@@ -81,11 +81,11 @@ fill-rank-spec =
     cast-p
     loop-holds
     vertex-of-requires
-    add-rank
-    mul-rank
-    shared-slice-read-rank
-    mul-rank-2
-    slice-write-rank
+    add-priorities
+    mul-priorities
+    shared-slice-read-priorities
+    mul-priorities-2
+    slice-write-priorities
     add-j
     loop-less
     loop-again

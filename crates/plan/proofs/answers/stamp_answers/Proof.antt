@@ -4,17 +4,17 @@ use native.Mathlib.Omega.{arith}
 use Prim.Native.Nat.{_≤_, _<_, _-_, _+_}
 use mathlib.Core.Path.{_≡_, refl}
 use lib.ListN.{length, getD, length-set}
-use Rattle.plan.specs.Marks.{MarkedTo}
-use Rattle.plan.specs.MarksLaws.{marked-none, marked-more, marked-all}
+use Rattle.plan.specs.Stamps.{StampedTo}
+use Rattle.plan.specs.StampsLaws.{stamped-none, stamped-more, stamped-all}
 use Rattle.plan.specs.SearchLaws.{Target, graph-target}
-use Rattle.plan.proofs.answers.mark_answers.Statement.{statement}
-use Rattle.plan.proofs.answers.mark_answers.Tie as tie
+use Rattle.plan.proofs.answers.stamp_answers.Statement.{statement}
+use Rattle.plan.proofs.answers.stamp_answers.Tie as tie
 
 abbrev Inv-loop : tie.InvT-loop
-Inv-loop plan starts targets marks₀ i stamp end t₀ marks t = (t₀ ≤ t) × (t ≤ end) × (length marks ≡ length marks₀) × MarkedTo plan targets t₀ t stamp marks₀ marks
+Inv-loop plan starts targets stamps₀ i stamp end t₀ stamps t = (t₀ ≤ t) × (t ≤ end) × (length stamps ≡ length stamps₀) × StampedTo plan targets t₀ t stamp stamps₀ stamps
 
 abbrev μ-loop : tie.MeasureT-loop
-μ-loop plan starts targets marks₀ i stamp end t₀ marks t = end - t
+μ-loop plan starts targets stamps₀ i stamp end t₀ stamps t = end - t
 
 abbrev entry : tie.At-loop Inv-loop μ-loop → tie.Start Inv-loop μ-loop
 entry c = c .before .before .before .before .before .before .before
@@ -23,7 +23,7 @@ turn : (c : tie.In-loop Inv-loop μ-loop) → let e = entry (c .before) in Targe
 turn c = let e = entry (c .before) in graph-target (e .pre .1) (e .args .i) (c .before .loop .t) (e .pre .0 .1) (c .before .loop .inv .0) (c .loop-test .taken)
 
 -- the vertex that a turn stamps
-below : (c : tie.After-vertex-of Inv-loop μ-loop) → c .vertex-of .result < length (c .before .before .before .loop .marks)
+below : (c : tie.After-vertex-of Inv-loop μ-loop) → c .vertex-of .result < length (c .before .before .before .loop .stamps)
 below c =
     let e = entry (c .before .before .before) in
     rw (c .before .before .before .loop .inv .2, c .vertex-of .ensures) (e .pre .0 .0 .vertices _ (turn (c .before .before) .below))
@@ -52,7 +52,7 @@ cast-t c = omega (arith, c .shared-slice-known5 .given (c .before .before .befor
 loop-holds : tie.Need-loop-holds Inv-loop μ-loop
 loop-holds c =
     let e = c .before .before .before .before .before .before in
-    (omega arith, e .pre .1 .order (e .args .i) (e .pre .0 .1), refl, marked-none _ _ _ _ _)
+    (omega arith, e .pre .1 .order (e .args .i) (e .pre .0 .1), refl, stamped-none _ _ _ _ _)
 
 mul-vertex-of : tie.Need-mul-vertex-of Inv-loop μ-loop
 mul-vertex-of c = omega (arith, turn c .inside)
@@ -66,11 +66,11 @@ cast-vertex-of c = omega (arith, turn (c .before) .below, entry (c .before .befo
 vertex-of-requires : tie.Need-vertex-of-requires Inv-loop μ-loop
 vertex-of-requires c κs = (entry (c .before .before) .pre .0 .0 .sized, turn (c .before) .below)
 
-mul-marks : tie.Need-mul-marks Inv-loop μ-loop
-mul-marks c = omega (arith, below c)
+mul-stamps : tie.Need-mul-stamps Inv-loop μ-loop
+mul-stamps c = omega (arith, below c)
 
-slice-write-marks : tie.Need-slice-write-marks Inv-loop μ-loop
-slice-write-marks c = below c
+slice-write-stamps : tie.Need-slice-write-stamps Inv-loop μ-loop
+slice-write-stamps c = below c
 
 add-t : tie.Need-add-t Inv-loop μ-loop
 add-t c = omega (arith, turn (c .before .before) .inside)
@@ -84,7 +84,7 @@ loop-again c =
       omega (arith, l .inv .0),
       omega (arith, c .before .before .loop-test .taken),
       simp length-set (l .inv .2),
-      marked-more _ _ _ _ _ _ _ (l .inv .0) (c .vertex-of .result) (c .vertex-of .ensures) (below c) (l .inv .3),
+      stamped-more _ _ _ _ _ _ _ (l .inv .0) (c .vertex-of .result) (c .vertex-of .ensures) (below c) (l .inv .3),
     )
 
 same-length : tie.Need-same-length Inv-loop μ-loop
@@ -93,10 +93,10 @@ same-length c = search needs
 returns : tie.Need-returns Inv-loop μ-loop
 returns c =
     let l = c .before .loop in
-    marked-all _ _ _ _ (l .t) _ _ _ (omega (arith, l .inv .1, c .loop-test .left)) (l .inv .3)
+    stamped-all _ _ _ _ (l .t) _ _ _ (omega (arith, l .inv .1, c .loop-test .left)) (l .inv .3)
 
-pub mark-answers-spec : {M : Type 1} → statement M
-mark-answers-spec =
+pub stamp-answers-spec : {M : Type 1} → statement M
+stamp-answers-spec =
     tie.close
     (tie.spec
     Inv-loop
@@ -113,8 +113,8 @@ mark-answers-spec =
     shared-slice-read-vertex-of
     cast-vertex-of
     vertex-of-requires
-    mul-marks
-    slice-write-marks
+    mul-stamps
+    slice-write-stamps
     add-t
     loop-less
     loop-again

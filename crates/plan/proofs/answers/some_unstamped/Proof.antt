@@ -5,17 +5,17 @@ use Prim.Native.Nat.{_≤_, _-_, _+_}
 use mathlib.Core.Path.{_≡_, sym}
 use mathlib.Core.Bool.{false}
 use Rattle.theory.specs.Range.{anyFrom}
-use Rattle.plan.specs.Marks.{unmarkedTarget}
-use Rattle.plan.specs.MarksLaws.{unmarked-none, unmarked-not, unmarked-here, unmarked-all}
+use Rattle.plan.specs.Stamps.{unstampedTarget}
+use Rattle.plan.specs.StampsLaws.{unstamped-none, unstamped-not, unstamped-here, unstamped-all}
 use Rattle.plan.specs.SearchLaws.{Target, graph-target}
-use Rattle.plan.proofs.answers.some_unmarked.Statement.{statement}
-use Rattle.plan.proofs.answers.some_unmarked.Tie as tie
+use Rattle.plan.proofs.answers.some_unstamped.Statement.{statement}
+use Rattle.plan.proofs.answers.some_unstamped.Tie as tie
 
 abbrev Inv-loop : tie.InvT-loop
-Inv-loop starts targets marks n v stamp end t₀ t = (t₀ ≤ t) × (t ≤ end) × (anyFrom t₀ t (unmarkedTarget marks stamp targets) ≡ false)
+Inv-loop starts targets stamps n v stamp end t₀ t = (t₀ ≤ t) × (t ≤ end) × (anyFrom t₀ t (unstampedTarget stamps stamp targets) ≡ false)
 
 abbrev μ-loop : tie.MeasureT-loop
-μ-loop starts targets marks n v stamp end t₀ t = end - t
+μ-loop starts targets stamps n v stamp end t₀ t = end - t
 
 abbrev entry : tie.At-loop Inv-loop μ-loop → tie.Start Inv-loop μ-loop
 entry c = c .before .before .before
@@ -47,7 +47,7 @@ cast-t c = omega (arith, c .shared-slice-known2 .given (c .before .before .args 
 loop-holds : tie.Need-loop-holds Inv-loop μ-loop
 loop-holds c =
     let e = c .before .before in
-    (omega arith, e .pre .0 .order (e .args .v) (e .pre .1), unmarked-none (e .args .starts .now) (e .args .targets .now) (e .args .marks .now) (e .args .v) (e .args .stamp))
+    (omega arith, e .pre .0 .order (e .args .v) (e .pre .1), unstamped-none (e .args .starts .now) (e .args .targets .now) (e .args .stamps .now) (e .args .v) (e .args .stamp))
 
 mul-if1 : tie.Need-mul-if1 Inv-loop μ-loop
 mul-if1 c = omega (arith, turn c .inside)
@@ -67,7 +67,7 @@ shared-slice-read-if1-2 c = omega (arith, turn (c .before .before) .below, entry
 returns : tie.Need-returns Inv-loop μ-loop
 returns c =
     let e = entry (c .before .before .before .before) in
-    sym (unmarked-here (e .args .starts .now) (e .args .targets .now) (e .args .marks .now) (e .args .v) (e .args .stamp) (c .before .before .before .before .loop .t) (c .before .before .before .before .loop .inv .0) (c .before .before .before .loop-test .taken) (c .if1 .taken))
+    sym (unstamped-here (e .args .starts .now) (e .args .targets .now) (e .args .stamps .now) (e .args .v) (e .args .stamp) (c .before .before .before .before .loop .t) (c .before .before .before .before .loop .inv .0) (c .before .before .before .loop-test .taken) (c .if1 .taken))
 
 add-t : tie.Need-add-t Inv-loop μ-loop
 add-t c = omega (arith, turn (c .before .before .before) .inside)
@@ -81,17 +81,17 @@ loop-again c =
     let l = c .before .before .before .before .loop in (
       omega (arith, l .inv .0),
       omega (arith, c .before .before .before .loop-test .taken),
-      unmarked-not (e .args .starts .now) (e .args .targets .now) (e .args .marks .now) (e .args .v) (e .args .stamp) _ _ (c .if1 .left) (l .inv .2),
+      unstamped-not (e .args .starts .now) (e .args .targets .now) (e .args .stamps .now) (e .args .v) (e .args .stamp) _ _ (c .if1 .left) (l .inv .2),
     )
 
 returns-2 : tie.Need-returns-2 Inv-loop μ-loop
 returns-2 c =
     let e = entry (c .before) in
     let l = c .before .loop in
-    sym (unmarked-all (e .args .starts .now) (e .args .targets .now) (e .args .marks .now) (e .args .v) (e .args .stamp) (l .t) (omega (arith, l .inv .1, c .loop-test .left)) (l .inv .2))
+    sym (unstamped-all (e .args .starts .now) (e .args .targets .now) (e .args .stamps .now) (e .args .v) (e .args .stamp) (l .t) (omega (arith, l .inv .1, c .loop-test .left)) (l .inv .2))
 
-pub some-unmarked-spec : {M : Type 1} → statement M
-some-unmarked-spec =
+pub some-unstamped-spec : {M : Type 1} → statement M
+some-unstamped-spec =
     tie.close
     (tie.spec
     Inv-loop
