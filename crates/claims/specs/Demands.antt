@@ -6,15 +6,14 @@ use mathlib.Core.Bool.{So}
 use mathlib.Core.List.{List, [], _∷_}
 use Prim.Native.Nat.{ℕ, _+_, _*_, _≤_, _<_}
 use native.Mathlib.Omega.{arith}
-use lib.Arith.{digits-lt}
 use lib.ListN.{length, getD}
 use lib.Seq.{take-at}
-use borrow.Author.Tests.{eqb-true, eq-eqb}
+use Rattle.theory.specs.Bools.{bit}
+use Rattle.theory.specs.BoolsLaws.{bit-in, bit-out}
 use Rattle.theory.specs.ListLaws.{length-tabulate, getD-tabulate}
-use Rattle.theory.specs.Passes.{marked, relOf}
 use Rattle.theory.specs.Game.{Player, even, odd, Game}
-use Rattle.theory.specs.Order.{order, orderMarks}
-use Rattle.theory.specs.OrderLaws.{length-orderMarks, order-in}
+use Rattle.theory.specs.Order.{order}
+use Rattle.theory.specs.OrderLaws.{order-in}
 use Rattle.theory.specs.Plan.{Won}
 use Rattle.theory.specs.Reduction.{quotient, reduced, classOf}
 use Rattle.theory.specs.ReductionLaws.{quotient-total, reduced-total, classOf-quotient, classOf-reduced}
@@ -28,8 +27,7 @@ use Rattle.table.specs.Reading.{gameRows, readAnswer}
 use Rattle.table.specs.ReadingLaws.{read-accepts, clean-well}
 use Rattle.table.specs.WellFormed.{WellFormed}
 use Rattle.table.specs.TableLaws.{edges-listed, game-total}
-use Rattle.order.specs.Bytes.{bytes, isMark}
-use Rattle.order.specs.BytesLaws.{mark-written}
+use Rattle.order.specs.OrderRulesLaws.{after-byte}
 use Rattle.order.specs.RelationCall.{relationAnswer}
 use Rattle.order.specs.RelationRules.{Marked}
 use Rattle.order.specs.RelationRulesLaws.{passed-below}
@@ -45,13 +43,9 @@ module _ (game old new counts : List ℕ) (answer : Answer) (left : LeavesOrder 
   -- byte v × n + w is 1 exactly if v is below w
   pub written-mark : (v w : ℕ) → v < vertexCount game → w < vertexCount game
       → (getD new (v * vertexCount game + w) 0 ≡ 1) ↔ So (order (gameOf game) v w)
-  unfolding order relOf gameOf isMark
   written-mark v w hv hw =
-      let i = v * vertexCount game + w in
-      let e : isMark new i ≡ marked (orderMarks (gameOf game)) i =
-      rw (left, after-accepted (bytes (orderMarks (gameOf game))) old accepts)
-      (mark-written (orderMarks (gameOf game)) old i (omega (arith, digits-lt hv hw, length-orderMarks (gameOf game)))) in
-      (λ b. sym e ∙ eq-eqb (getD new i 0) 1 b, λ t. eqb-true (getD new i 0) 1 (e ∙ t))
+      let e : getD new (v * vertexCount game + w) 0 ≡ bit (order (gameOf game) v w) = rw left (after-byte game old answer counts accepts v w hv hw) in
+      (λ b. bit-out _ (sym e ∙ b), λ t. e ∙ bit-in t)
 
   -- "The written order contains every relation that the acceptor passes."
   pub contains : (relation : List ℕ) → relationAnswer game relation ≡ accepted []

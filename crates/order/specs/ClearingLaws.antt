@@ -13,7 +13,7 @@ use Rattle.theory.specs.Bools.{_&_, bit}
 use Rattle.theory.specs.BoolsLaws.{decide, clash, So-ext, So-not, and-in, and-out, not-in, not-out, imp-in, imp-out}
 use Rattle.theory.specs.Range.{count, tabulate}
 use Rattle.theory.specs.RangeLaws.{all-in, all-out, first-step, first-hit, first-ge}
-use Rattle.theory.specs.CountLaws.{count-lt}
+use Rattle.theory.specs.CountLaws.{count-step, count-none, count-lt}
 use Rattle.theory.specs.ListLaws.{getD-tabulate, tabulate-by}
 use Rattle.theory.specs.Passes.{Marks, marked, Test, nextPass, pass, settled, rounds, passCount, finalMarks, Rel, relOf, pairStart, pairTest}
 use Rattle.theory.specs.PassesLaws.{length-pass, rounds-le}
@@ -22,10 +22,10 @@ use Rattle.theory.specs.SimulationLaws.{moves-mono}
 use Rattle.theory.specs.Order.{equalPriority, test, orderMarks, marksBetween, orderPasses, Holds}
 use Rattle.theory.specs.OrderLaws.{moves-in, moves-out}
 use Rattle.table.specs.Table.{vertexCount, gameOf}
-use Rattle.order.specs.CountingLaws.{count-step, count-none}
 use Rattle.table.specs.Verdict.{written}
+use Rattle.table.specs.VerdictLaws.{written-over, drop-written}
 use Rattle.order.specs.Bytes.{bytes, isMark, marksOf, relation}
-use Rattle.order.specs.BytesLaws.{length-bytes, fill-more, marks-written, written-over, drop-written}
+use Rattle.order.specs.BytesLaws.{length-bytes, fill-more, marks-written}
 use Rattle.order.specs.IndexLaws.{game-n}
 use Rattle.order.specs.Clearing.{cleared, Unsettled, pairCount, equalPairs, pairPasses, marksAfter, keptAt, clearedAt, keeps, clears, RowWritten, PairDone, RowDone, PassDone}
 

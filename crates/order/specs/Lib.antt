@@ -1,5 +1,4 @@
 pub mod Index
-pub mod CountingLaws
 pub mod Runs
 pub mod Bytes
 pub mod BytesLaws

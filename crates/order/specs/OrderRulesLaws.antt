@@ -1,8 +1,7 @@
 -- Laws of the order call: it refuses k at p exactly as document 01's table says, accepts exactly otherwise, and what an accepted call
 -- wrote is the order of the table's game.
-use mathlib.Core.Path.{_≡_, refl, sym, ap, subst, _∙_}
+use mathlib.Core.Path.{_≡_, sym, ap, subst, _∙_}
 use mathlib.Core.Logic.{_↔_}
-use mathlib.Core.Bool.{Bool, true, false, So}
 use mathlib.Core.List.{List, [], _∷_}
 use Prim.Native.Nat.{ℕ, suc, _+_, _*_, _≤_, _<_}
 use native.Mathlib.Omega.{arith}
@@ -10,6 +9,7 @@ use lib.Arith.{digits-lt}
 use lib.ListN.{length, getD}
 use borrow.Author.Tests.{ltb-true, ltb-false, lt-ltb, le-ltb}
 use Rattle.theory.specs.Bools.{bit}
+use Rattle.theory.specs.BoolsLaws.{bit-in, bit-out}
 use Rattle.theory.specs.Passes.{marked, relOf}
 use Rattle.theory.specs.Game.{even}
 use Rattle.theory.specs.Simulation.{Below}
@@ -70,7 +70,7 @@ order-mark g v w = ap (λ (n : ℕ). marked (orderMarks (gameOf g)) (v * n + w))
 
 -- a buffer after it: the byte of (v, w), and bytes beyond
 module _ (g old : List ℕ) (answer : Answer) (counts : List ℕ) (e : answer ≡ accepted counts) where
-  after-byte : (v w : ℕ) → v < vertexCount g → w < vertexCount g
+  pub after-byte : (v w : ℕ) → v < vertexCount g → w < vertexCount g
       → getD (after answer (bytes (orderMarks (gameOf g))) old) (v * vertexCount g + w) 0 ≡ bit (order (gameOf g) v w)
   after-byte v w hv hw =
       rw (after-accepted (bytes (orderMarks (gameOf g))) old e, order-mark g v w)
@@ -80,11 +80,6 @@ module _ (g old : List ℕ) (answer : Answer) (counts : List ℕ) (e : answer �
   after-beyond : (i : ℕ) → vertexCount g * vertexCount g ≤ i → getD (after answer (bytes (orderMarks (gameOf g))) old) i 0 ≡ getD old i 0
   after-beyond i h =
       rw (after-accepted (bytes (orderMarks (gameOf g))) old e) (getD-written-beyond (bytes (orderMarks (gameOf g))) old i 0 (rw (length-order-bytes g) h))
-
-bit-one : (b : Bool) → bit b ≡ 1 → So b
-unfolding bit
-bit-one true e = refl
-bit-one false e = absurd (omega arith)
 
 module _ (g oldMarks newMarks oldSpare newSpare counts : List ℕ) (p : OrderWritten g oldMarks newMarks oldSpare newSpare (accepted counts)) where
   module _ (v w : ℕ) (hv : v < vertexCount g) (hw : w < vertexCount g) where
@@ -96,11 +91,10 @@ module _ (g oldMarks newMarks oldSpare newSpare counts : List ℕ) (p : OrderWri
 
     -- 1 exactly if some direct simulation holds the pair
     pub marked-below : getD newMarks (v * vertexCount g + w) 0 ≡ 1 → Below even (gameOf g) (gameOf g) v w
-    marked-below e = order-out (gameOf g) (bit-one _ (sym written-marks ∙ e))
+    marked-below e = order-out (gameOf g) (bit-out _ (sym written-marks ∙ e))
 
     pub below-marked : Below even (gameOf g) (gameOf g) v w → getD newMarks (v * vertexCount g + w) 0 ≡ 1
-    unfolding bit
-    below-marked b = written-marks ∙ rw (order-in (gameOf g) (rw (game-n g) hv) (rw (game-n g) hw) b)
+    below-marked b = written-marks ∙ bit-in (order-in (gameOf g) (rw (game-n g) hv) (rw (game-n g) hw) b)
 
   pub length-marks : length newMarks ≡ length oldMarks
   length-marks =

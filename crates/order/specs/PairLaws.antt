@@ -6,7 +6,7 @@ use Prim.Native.Nat.{ℕ, _+_, _*_, _≤_, _<_}
 use native.Mathlib.Nat.{mul-one, add-comm, lt-of-lt-of-le}
 use lib.Arith.{digits-lt}
 use lib.ListN.{length, getD}
-use Rattle.theory.specs.BoolsLaws.{So-ext, So-not, clash, not-in, not-out, imp-fails}
+use Rattle.theory.specs.BoolsLaws.{So-ext, So-not, clash, not-in, not-out, not-not, imp-fails}
 use Rattle.theory.specs.RangeLaws.{all-fails}
 use Rattle.theory.specs.Passes.{relOf}
 use Rattle.theory.specs.Game.{even, same, Game, Succ}
@@ -34,10 +34,6 @@ beq-false {b} {c} e = same b ∙ ap not e
     same : (b : Bool) → Bool·beq b false ≡ not b
     same true = refl
     same false = refl
-
-not-not : (b : Bool) → not (not b) ≡ b
-not-not true = refl
-not-not false = refl
 
 -- ---- each and some successor
 

@@ -2,7 +2,7 @@
 -- that it passes lies in the written order.
 use mathlib.Core.Path.{_≡_, sym, subst, subst₂}
 use mathlib.Core.Logic.{_↔_, inl, inr}
-use mathlib.Core.Bool.{Bool, true, false, So}
+use mathlib.Core.Bool.{Bool, false, So}
 use mathlib.Core.List.{List, []}
 use Prim.Native.Nat.{ℕ, _+_, _*_, _/_, _%_, _≤_, _<_}
 use native.Mathlib.Omega.{arith}
@@ -11,10 +11,9 @@ use lib.Arith.{digits-lt, digits-div, digits-mod}
 use lib.Dec.{ltb}
 use lib.ListN.{length, getD}
 use borrow.Author.Tests.{eqb-true, eq-eqb, ltb-true, ltb-false, lt-ltb, le-ltb}
-use Rattle.theory.specs.Bools.{_&_, bit}
-use Rattle.theory.specs.BoolsLaws.{clash, decide, So-not, and-in, and-out, not-in, not-out}
-use Rattle.theory.specs.Range.{first}
-use Rattle.theory.specs.RangeLaws.{first-before, first-passes}
+use Rattle.theory.specs.Bools.{_&_}
+use Rattle.theory.specs.BoolsLaws.{clash, decide, So-not, and-in, and-out, not-in, not-out, bit-le}
+use Rattle.theory.specs.RangeLaws.{none-found, found-none}
 use Rattle.theory.specs.CountLaws.{row-lt, col-lt}
 use Rattle.theory.specs.Passes.{relOf}
 use Rattle.theory.specs.Game.{even}
@@ -94,13 +93,6 @@ relation-refused g marks k p = (judge-refused (relation-rows-render g marks) _ k
 
 -- ---- accepted exactly if the marked pairs form a direct simulation
 
--- no first, so none
-none-before : (p : ℕ → Bool) (e : ℕ) → ltb (first p 0 e) e ≡ false → (i : ℕ) → i < e → p i ≡ false
-none-before p e f i h = first-before p 0 e i (omega arith) (omega (arith, ltb-false (first p 0 e) e f))
-
-none-first : (p : ℕ → Bool) (e : ℕ) → ((i : ℕ) → i < e → p i ≡ false) → ltb (first p 0 e) e ≡ false
-none-first p e f = So-not (λ t. let l = ltb-true (first p 0 e) e t in clash (first-passes p 0 e (omega arith) l) (f (first p 0 e) l))
-
 module _ (g marks : List ℕ) where
   pub relation-accepted : relationAnswer g marks ≡ accepted [] → RelationPasses g marks
   unfolding relationAnswer relationRows firstHigh firstFailing
@@ -110,13 +102,13 @@ module _ (g marks : List ℕ) where
       record {
         game = clean-well g (c .0);
         fits = ltb-false (length marks) (n * n) (c .1 .0);
-        low = λ i h. ltb-false 1 (getD marks i 0) (none-before _ (n * n) (c .1 .1 .0) i h);
+        low = λ i h. ltb-false 1 (getD marks i 0) (none-found _ (n * n) (c .1 .1 .0) i h);
         simulation = λ v w hv hw m.
             let hv′ = rw (game-n g) at hv in
             let hw′ = rw (game-n g) at hw in
             let f : fails g marks v w ≡ false =
             subst₂ (λ (x y : ℕ). fails g marks x y ≡ false) (digits-div v hw′) (digits-mod v hw′)
-            (none-before _ (n * n) (c .1 .1 .1 .0) (v * n + w) (digits-lt hv′ hw′)) in
+            (none-found _ (n * n) (c .1 .1 .1 .0) (v * n + w) (digits-lt hv′ hw′)) in
             elim (decide (passesTest g marks v w)) [
               | inl t ↦ test-out g marks v w t
               | inr t ↦ clash (fails-is g marks v w .1 (record { marked = m; failing = λ p. clash (test-in g marks v w p) t })) f
@@ -131,9 +123,9 @@ module _ (g marks : List ℕ) where
       (clean-append (gameRows g) _ (well-clean g (r .game)) (
         le-ltb (length marks) (n * n) (r .fits),
         (
-          none-first _ (n * n) (λ i h. le-ltb 1 (getD marks i 0) (r .low i h)),
+          found-none _ (n * n) (λ i h. le-ltb 1 (getD marks i 0) (r .low i h)),
           (
-            none-first _ (n * n)
+            found-none _ (n * n)
                 (λ i h. So-not (λ t.
                 let f = fails-is g marks (i / n) (i % n) .0 t in
                 f .failing (r .simulation (i / n) (i % n) (rw (game-n g) (row-lt n n i h)) (rw (game-n g) (col-lt n n i h)) (f .marked)))),
@@ -167,11 +159,6 @@ module _ (g marks : List ℕ) where
 -- ---- the written order passes
 
 module _ (g oldMarks newMarks oldSpare newSpare counts : List ℕ) (p : OrderWritten g oldMarks newMarks oldSpare newSpare (accepted counts)) where
-  bits-low : (b : Bool) → bit b ≤ 1
-  unfolding bit
-  bits-low true = omega arith
-  bits-low false = omega arith
-
   pub written-passes : relationAnswer g newMarks ≡ accepted []
   written-passes =
       let n = vertexCount g in
@@ -181,7 +168,7 @@ module _ (g oldMarks newMarks oldSpare newSpare counts : List ℕ) (p : OrderWri
         fits = omega (arith, f .marksFit, length-marks g oldMarks newMarks oldSpare newSpare counts p);
         low = λ i h.
             subst (λ (k : ℕ). getD newMarks k 0 ≤ 1) (div-add-mod' i n)
-            (rw (written-marks g oldMarks newMarks oldSpare newSpare counts p (i / n) (i % n) (row-lt n n i h) (col-lt n n i h)) (bits-low _));
+            (rw (written-marks g oldMarks newMarks oldSpare newSpare counts p (i / n) (i % n) (row-lt n n i h) (col-lt n n i h)) (bit-le _));
         simulation = λ v w hv hw m.
             let b = marked-below g oldMarks newMarks oldSpare newSpare counts p v w (rw (game-n g) at hv) (rw (game-n g) at hw) m in
             let q = b .simulation v w hv hw (b .holds) in

@@ -10,8 +10,7 @@ use lib.ListN.{length, getD}
 use borrow.Author.Tests.{ltb-false, lt-ltb, le-ltb, leb-false, lt-leb, eqb-true, eqb-false, eq-eqb, ne-eqb, not-false}
 use Rattle.theory.specs.Bools.{_or_}
 use Rattle.theory.specs.BoolsLaws.{clash}
-use Rattle.theory.specs.Range.{first}
-use Rattle.theory.specs.RangeLaws.{first-ge, first-before, first-passes}
+use Rattle.theory.specs.RangeLaws.{first-before, first-none}
 use Rattle.plan.specs.PlanTable.{positionCount, linkCount, vertexAt, linkSource, linkTarget, planLength}
 use Rattle.plan.specs.Acceptance.{badSize, beyond, firstBeyond}
 use Rattle.plan.specs.PlanFormed.{PlanSized, PlanFormed}
@@ -74,10 +73,7 @@ module _ (n : ℕ) (w : List ℕ) where
 
   pub good-words : PlanFormed n w → planLength (positionCount w) (linkCount w) ≤ firstBeyond n w
   unfolding firstBeyond
-  good-words f = elim (decLt (first (beyond n w) 2 (planLength (positionCount w) (linkCount w))) (planLength (positionCount w) (linkCount w))) [
-    | yes l ↦ clash (first-passes (beyond n w) 2 _ (omega arith) l) (within (first (beyond n w) 2 (planLength (positionCount w) (linkCount w))) (first-ge (beyond n w) 2 _) l)
-    | no m ↦ omega arith
-  ]
+  good-words f = first-none (beyond n w) 2 (planLength (positionCount w) (linkCount w)) (omega arith) within
     where
       at : (a k : ℕ) → a ≤ k → a + (k - a) ≡ k
       at a k l = omega arith

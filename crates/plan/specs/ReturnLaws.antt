@@ -7,9 +7,9 @@ use lib.Dec.{eqb}
 use lib.ListN.{getD}
 use Rattle.theory.specs.Bools.{_&_}
 use Rattle.theory.specs.Range.{first}
+use Rattle.theory.specs.RangeLaws.{first-ext}
 use Rattle.theory.specs.Game.{parity}
 use Rattle.table.specs.Table.{playerOf}
-use Rattle.table.specs.SearchLaws.{first-ext}
 use Rattle.plan.specs.PlanTable.{positionCount}
 use Rattle.plan.specs.Acceptance.{hasLink, positionPriority, returnsWrong, firstReturn}
 use Rattle.plan.specs.Index.{LinkIndex}

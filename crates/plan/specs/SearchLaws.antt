@@ -14,13 +14,12 @@ use borrow.Author.Tests.{eqb-true, eq-eqb, ne-eqb, le-leb, lt-leb}
 use Rattle.theory.specs.Bools.{_&_, _or_, bit}
 use Rattle.theory.specs.BoolsLaws.{decide, clash, So-ext, and-in, and-out, and-fails, not-in, not-out}
 use Rattle.theory.specs.Range.{anyFrom, count}
-use Rattle.theory.specs.RangeLaws.{from-in, from-end, from-more, from-less}
-use Rattle.theory.specs.CountLaws.{count-le}
+use Rattle.theory.specs.RangeLaws.{any-ext, from-in, from-end, from-more, from-less}
+use Rattle.theory.specs.CountLaws.{count-ext, count-none, count-le}
 use Rattle.theory.specs.ListLaws.{after-set}
 use Rattle.theory.specs.Game.{parity}
 use Rattle.theory.specs.Plan.{Walk}
 use Rattle.table.specs.Table.{playerOf}
-use Rattle.table.specs.SearchLaws.{any-ext}
 use Rattle.table.specs.Grouping.{Grouping, among}
 use Rattle.table.specs.GroupingLaws.{group-order, group-within, entry-at, target-at}
 use Rattle.plan.specs.Acceptance.{reaches, returns}
@@ -73,11 +72,6 @@ module _ (priorities seen queue : List ℕ) (q stamp j tail : ℕ) where
 
 -- ---- the queue
 
-count-ext : (n : ℕ) (q r : ℕ → Bool) → ((k : ℕ) → k < n → q k ≡ r k) → count n q ≡ count n r
-unfolding count
-count-ext zero q r f = refl
-count-ext (suc n) q r f = omega (arith, count-ext n q r (λ k h. f k (omega arith)), ap bit (f n (omega arith)))
-
 -- one number more passes
 count-more : (n : ℕ) (q r : ℕ → Bool) (j : ℕ) → j < n → q j ≡ false → So (r j) → ((k : ℕ) → (k ≡ j → ⊥) → r k ≡ q k) → count n r ≡ count n q + 1
 unfolding count bit
@@ -106,14 +100,9 @@ none-stamped : (stamp : ℕ) (seen : List ℕ) → ((j : ℕ) → getD seen j 0 
 unfolding stamped
 none-stamped stamp seen f j = ne-eqb (getD seen j 0) stamp (λ e. omega (arith, f j, e))
 
-count-none : (n : ℕ) (q : ℕ → Bool) → ((k : ℕ) → q k ≡ false) → 0 ≡ count n q
-unfolding count bit
-count-none zero q f = refl
-count-none (suc n) q f = rw (f n) (omega (arith, count-none n q f))
-
 pub queued-none : (p stamp : ℕ) (seen queue : List ℕ) → ((j : ℕ) → getD seen j 0 < stamp) → Queued p stamp seen queue 0
 queued-none p stamp seen queue f = record {
-  size = count-none p (stamped stamp seen) (none-stamped stamp seen f);
+  size = sym (count-none p (stamped stamp seen) (λ j h. none-stamped stamp seen f j));
   inside = λ s l. absurd (not-suc-le-zero l);
   bears = λ s l. absurd (not-suc-le-zero l);
   listed = λ j l t. clash t (none-stamped stamp seen f j);

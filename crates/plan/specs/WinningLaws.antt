@@ -4,15 +4,11 @@ use mathlib.Core.Logic.{_⊎_, inl, inr}
 use mathlib.Core.Bool.{Bool, true, false, not, So}
 use mathlib.Core.List.{List, [], _∷_, _++_}
 use Prim.Native.Nat.{ℕ, _<_, min}
-use native.Mathlib.Decide.{decLt}
-use native.Mathlib.Omega.{arith}
-use lib.Dec.{ltb}
 use lib.ListN.{length, getD, drop}
-use borrow.Author.Tests.{ltb-false, le-ltb, not-false}
+use borrow.Author.Tests.{le-ltb, not-false}
 use Rattle.theory.specs.Bools.{_&_}
 use Rattle.theory.specs.BoolsLaws.{clash, So-not}
-use Rattle.theory.specs.Range.{first}
-use Rattle.theory.specs.RangeLaws.{first-before, first-passes}
+use Rattle.theory.specs.RangeLaws.{none-found, found-none}
 use Rattle.theory.specs.Game.{own, Succ, parity}
 use Rattle.theory.specs.Plan.{linked, Walk, Winning, Wins}
 use Rattle.theory.specs.Returns.{Return}
@@ -33,16 +29,6 @@ use Rattle.plan.specs.SearchLaws.{returns-ext}
 use Rattle.plan.specs.AcceptanceLaws.{answers-out, lacks-out, link-inside, wordRows, clean-words, split-rows}
 
 -- ---- rows 14 to 16
-
--- a search that finds nothing
-none-found : (q : ℕ → Bool) (e : ℕ) → ltb (first q 0 e) e ≡ false → (i : ℕ) → i < e → q i ≡ false
-none-found q e f i h = first-before q 0 e i (omega arith) (omega (arith, ltb-false (first q 0 e) e f))
-
-found-none : (q : ℕ → Bool) (e : ℕ) → ((i : ℕ) → i < e → q i ≡ false) → ltb (first q 0 e) e ≡ false
-found-none q e f = elim (decLt (first q 0 e) e) [
-  | yes l ↦ clash (first-passes q 0 e (omega arith) l) (f (first q 0 e) l)
-  | no m ↦ le-ltb (first q 0 e) e (omega arith)
-]
 
 pub record LinksPass (g : List ℕ) (player : ℕ) (w : List ℕ) : Type 0 where
   pub follow : (k : ℕ) → k < linkCount w → strays g w k ≡ false

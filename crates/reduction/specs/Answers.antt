@@ -1,14 +1,12 @@
 -- What the cases of the verdicts say, and what the calls do once the game and the memory are judged.
 use mathlib.Core.Path.{_≡_}
 use mathlib.Core.List.{List, [], _∷_}
-use Prim.Native.Nat.{ℕ, _*_}
-use lib.Dec.{ltb}
+use Prim.Native.Nat.{ℕ}
 use lib.ListN.{length}
 use Rattle.theory.specs.Range.{pairsOf}
 use Rattle.theory.specs.Game.{Game}
 use Rattle.table.specs.Table.{gameOf}
-use Rattle.table.specs.Verdict.{Row, Answer, accepted, refused, written}
-use Rattle.table.specs.Reading.{row}
+use Rattle.table.specs.Verdict.{Answer, accepted, refused, written}
 use Rattle.reduction.specs.ClassTable.{tableWords}
 use Rattle.reduction.specs.Calls.{classTotal, classWords}
 use Rattle.reduction.specs.declared.TableCounts.{TableCounts}
@@ -38,13 +36,7 @@ pub record TableDone (K : Game → Game) (game classes classes′ output output�
   pub vertex-count : counts .vertices ≡ K (gameOf game) .n
   pub edge-count : counts .edges ≡ length (ascending (K (gameOf game)))
 
--- ---- the lent memory of all three calls
-
--- 21 to 23, for n vertices and buffers of these lengths
-unfoldable pub memoryRows : ℕ → ℕ → ℕ → ℕ → List Row
-memoryRows n marks spare classes =
-    row 21 (ltb marks (n * n)) (n * n) ∷ row 22 (ltb spare (n * n)) (n * n) ∷ row 23 (ltb classes n) n ∷ []
-
+-- whether the lent memory is enough
 abbrev pub memoryAnswer : Memory → Answer
 memoryAnswer Memory.Enough = accepted []
 memoryAnswer (Memory.Short f) = refused (f .number) (f .place)

@@ -3,6 +3,7 @@
 use mathlib.Core.Path.{_≡_}
 use mathlib.Core.List.{List, [], _∷_, _++_}
 use Prim.Native.Nat.{ℕ, _*_}
+use lib.Dec.{ltb}
 use lib.ListN.{length}
 use Rattle.theory.specs.Range.{tabulate}
 use Rattle.theory.specs.Game.{Game}
@@ -10,19 +11,19 @@ use Rattle.theory.specs.Order.{order, orderMarks}
 use Rattle.theory.specs.Reduction.{classCount, classOf}
 use Rattle.table.specs.Table.{vertexCount, tableEdges, tableLength, gameOf}
 use Rattle.table.specs.Verdict.{Row, Answer, judge, after}
-use Rattle.table.specs.Reading.{gameRows}
+use Rattle.table.specs.Reading.{row, gameRows}
 use Rattle.order.specs.Bytes.{bytes}
 use Rattle.order.specs.OrderCall.{memoryRow}
 use Rattle.reduction.specs.ClassTable.{tableWords, Lists}
 
+-- 21 to 23, for n vertices and buffers of these lengths
+abbrev pub memoryRows : ℕ → ℕ → ℕ → ℕ → List Row
+memoryRows n marks spare classes =
+    row 21 (ltb marks (n * n)) (n * n) ∷ row 22 (ltb spare (n * n)) (n * n) ∷ row 23 (ltb classes n) n ∷ []
+
 -- 1 to 8, then 21 to 23
 unfoldable pub classRows : List ℕ → List ℕ → List ℕ → List ℕ → List Row
-classRows game marks spare classes =
-    gameRows game
-    ++ (memoryRow 21 (vertexCount game * vertexCount game) marks
-    ∷ memoryRow 22 (vertexCount game * vertexCount game) spare
-    ∷ memoryRow 23 (vertexCount game) classes
-    ∷ [])
+classRows game marks spare classes = gameRows game ++ memoryRows (vertexCount game) (length marks) (length spare) (length classes)
 
 -- and 24, which goes by the input's sizes
 unfoldable pub tableRows : List ℕ → List ℕ → List ℕ → List ℕ → List ℕ → List Row

@@ -1,6 +1,6 @@
 -- Laws of the calls: their promise at each way out.
 use mathlib.Core.Path.{_≡_, refl, sym, _∙_}
-use mathlib.Core.List.{List, [], _∷_, _++_, append-nil}
+use mathlib.Core.List.{List, [], _∷_, append-nil}
 use Prim.Native.Nat.{ℕ, _<_}
 use lib.ListN.{length}
 use borrow.Author.Tests.{ltb-false, lt-ltb}
@@ -16,10 +16,10 @@ use Rattle.table.specs.declared.Reading.the-variants.{Refused}
 use Rattle.order.specs.Clearing.{OrderDone}
 use Rattle.order.specs.OrderCall.{memoryRow}
 use Rattle.reduction.specs.ClassTableLaws.{pairsOf-lists}
-use Rattle.reduction.specs.Calls.{classRows, tableRows, classTotal, classWords, ClassesCall, TableCall}
+use Rattle.reduction.specs.Calls.{memoryRows, classRows, tableRows, classTotal, classWords, ClassesCall, TableCall}
 use Rattle.reduction.specs.CallRules.{ClassesFit, TableFits}
 use Rattle.reduction.specs.CallRulesLaws.{classes-clean, table-clean}
-use Rattle.reduction.specs.Answers.{memoryRows, memoryAnswer, ascending, TableDone}
+use Rattle.reduction.specs.Answers.{memoryAnswer, ascending, TableDone}
 use Rattle.reduction.specs.declared.TableCounts.{TableCounts}
 use Rattle.reduction.specs.declared.Memory.the-variants.{Enough, Short}
 
@@ -28,12 +28,7 @@ module _ (game marks spare classes : List ℕ) where
   abbrev memory : List Row
   memory = memoryRows (vertexCount game) (length marks) (length spare) (length classes)
 
-  rows-split : classRows game marks spare classes ≡ gameRows game ++ memory
-  unfolding classRows memoryRows
-  rows-split = refl
-
   pub memory-fits : WellFormed game → memoryAnswer Enough ≡ judge memory [] → ClassesFit game marks spare classes
-  unfolding memoryRows
   memory-fits well e =
       let c = judge-accepted memory [] [] (sym e) .0 in record {
         orderFits = record { game = well; marksFit = ltb-false _ _ (c .0); spareFit = ltb-false _ _ (c .1 .0) };
@@ -44,10 +39,12 @@ module _ (game marks spare classes : List ℕ) where
 
   module _ (counts : List ℕ) where
     handed : (f : Refusal) → readingAnswer (Refused f) ≡ readAnswer game → judge (classRows game marks spare classes) counts ≡ refused (f .number) (f .place)
-    handed f e = rw rows-split (reading-stays game f e memory counts)
+    unfolding classRows
+    handed f e = reading-stays game f e memory counts
 
     short : WellFormed game → (f : Refusal) → memoryAnswer (Short f) ≡ judge memory [] → judge (classRows game marks spare classes) counts ≡ refused (f .number) (f .place)
-    short well f e = rw rows-split (judge-past (gameRows game) memory counts (well-clean game well) ∙ (rw (append-nil memory) at (judge-stays memory [] [] counts _ _ (sym e))))
+    unfolding classRows
+    short well f e = judge-past (gameRows game) memory counts (well-clean game well) ∙ (rw (append-nil memory) at (judge-stays memory [] [] counts _ _ (sym e)))
 
   -- ---- classes
 

@@ -14,8 +14,7 @@ use Rattle.theory.specs.LinkLaws.{length-pairsBelow}
 use Rattle.theory.specs.Game.{Game, edgeCount}
 use Rattle.theory.specs.Order.{order}
 use Rattle.theory.specs.Reduction.{representative, classGame, quotient, reduced}
-use Rattle.theory.specs.ClassLaws.{representative-lt}
-use Rattle.theory.specs.QuotientLaws.{order-preorder}
+use Rattle.theory.specs.QuotientLaws.{rep-lt}
 use Rattle.theory.specs.SizeLaws.{quotient-edges, reduced-edges}
 use Rattle.table.specs.Table.{vertexCount, tableEdges, ownerAt, playerOf, gameOf}
 use Rattle.table.specs.TableLaws.{edges-listed}
@@ -188,7 +187,7 @@ module _ (game reps : List ℕ) (drop : Bool) (k e : ℕ) (s s′ t t′ : List 
       tabulate-ext k _ _ (λ c h.
       let l : c < classesIn (gameOf game) = omega arith in
       rw (represented .lowest c l, gameBy-owner drop (gameOf game) c)
-      (owner-word (ownerAt game (representative (vertexCount game) (order (gameOf game)) c)) (well .owners _ (representative-lt (vertexCount game) (order (gameOf game)) (order-preorder (gameOf game)) c l))))
+      (owner-word (ownerAt game (representative (vertexCount game) (order (gameOf game)) c)) (well .owners _ (rep-lt (gameOf game) c l))))
       ∙ ap (λ (n : ℕ). tabulate n (λ c. ownerWord (K .owner c))) size
 
   table-words : tableBy game reps k s′ t′ e ≡ tableWords K (pairsOf (K .n) (K .edge))

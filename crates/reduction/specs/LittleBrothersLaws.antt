@@ -10,25 +10,24 @@ use lib.Arith.{digits-lt}
 use lib.Dec.{eqb}
 use lib.ListN.{length, getD}
 use borrow.Author.Tests.{eqb-false, ne-eqb}
-use Rattle.theory.specs.Bools.{_&_, _or_}
-use Rattle.theory.specs.BoolsLaws.{So-ext, and-in, and-out, not-in, not-out}
+use Rattle.theory.specs.Bools.{_&_}
+use Rattle.theory.specs.BoolsLaws.{So-ext, and-in, and-out, and-true, not-in, not-out}
 use Rattle.theory.specs.Range.{anyBelow}
-use Rattle.theory.specs.RangeLaws.{any-in, any-out}
+use Rattle.theory.specs.RangeLaws.{any-in, any-out, any-ext, any-same}
 use Rattle.theory.specs.Passes.{relOf}
 use Rattle.theory.specs.Game.{even, odd, Game}
 use Rattle.theory.specs.Order.{order}
 use Rattle.theory.specs.Reduction.{classNumber, representative, worse, quotientEdge, reducedEdge, classGame, quotient, reduced}
-use Rattle.theory.specs.ClassLaws.{classNumber-lt, representative-lt, representative-at, representative-one, representative-of}
+use Rattle.theory.specs.ClassLaws.{classNumber-lt, representative-at, representative-one, representative-of}
 use Rattle.theory.specs.ClassEdges.{Better}
-use Rattle.theory.specs.QuotientLaws.{order-preorder, dropped-in, dropped-out}
-use Rattle.table.specs.SearchLaws.{any-ext}
+use Rattle.theory.specs.QuotientLaws.{order-preorder, rep-lt, dropped-in, dropped-out}
 use Rattle.table.specs.Verdict.{written}
 use Rattle.table.specs.VerdictLaws.{getD-written}
 use Rattle.order.specs.Bytes.{relation}
 use Rattle.reduction.specs.Numbering.{Ordered, classesIn, Represented}
 use Rattle.reduction.specs.LittleBrothers.{littleBrotherMark, droppedBy}
 use Rattle.reduction.specs.Rows.{Counted, keeps, picked, gameBy}
-use Rattle.reduction.specs.RowsLaws.{any-more, and-true, members-quotient}
+use Rattle.reduction.specs.RowsLaws.{members-quotient}
 use Rattle.reduction.specs.PickedLaws.{length-picked, picked-at, picked-find, picked-ext}
 
 -- none so far, and one that isn't either
@@ -37,27 +36,23 @@ unfolding anyBelow
 none-start p = refl
 
 pub none-more : (n : ℕ) (p : ℕ → Bool) → anyBelow n p ≡ false → p n ≡ false → anyBelow (n + 1) p ≡ false
-unfolding _or_
-none-more n p e f = any-more n p ∙ rw (e, f)
+none-more n p e f = any-same n p f ∙ e
 
 module _ (G : Game) (marks reps edges : List ℕ) (ordered : Ordered G marks) (represented : Represented G reps)
     (q c d : ℕ) (hd : d < classesIn G) (inside : (j : ℕ) → j < q → getD edges j 0 < classesIn G) where
   abbrev rep : ℕ → ℕ
   rep = representative (G .n) (order G)
 
-  rep-lt : (c : ℕ) → c < classesIn G → rep c < G .n
-  rep-lt = representative-lt (G .n) (order G) (order-preorder G)
-
   -- Even's classes compare by the row of d, Odd's by its column
   pub even-inside : (j : ℕ) → j < q → getD reps d 0 * G .n + getD reps (getD edges j 0) 0 * 1 < length marks
   even-inside j h =
       rw (mul-one (getD reps (getD edges j 0) 0), represented .lowest d hd, represented .lowest _ (inside j h))
-      (omega (arith, digits-lt (rep-lt d hd) (rep-lt _ (inside j h)), ordered .long))
+      (omega (arith, digits-lt (rep-lt G d hd) (rep-lt G _ (inside j h)), ordered .long))
 
   pub odd-inside : (j : ℕ) → j < q → getD reps d 0 + getD reps (getD edges j 0) 0 * G .n < length marks
   odd-inside j h =
       rw (represented .lowest d hd, represented .lowest _ (inside j h))
-      (omega (arith, digits-lt (rep-lt _ (inside j h)) (rep-lt d hd), ordered .long))
+      (omega (arith, digits-lt (rep-lt G _ (inside j h)) (rep-lt G d hd), ordered .long))
 
   pub dropped-even : G .owner (rep c) ≡ even
       → anyBelow q (λ j. littleBrotherMark marks reps d (getD reps d 0 * G .n) 1 (getD edges j 0)) ≡ droppedBy G edges q c d
@@ -66,7 +61,7 @@ module _ (G : Game) (marks reps edges : List ℕ) (ordered : Ordered G marks) (r
       rw o (any-ext q _ _ (λ j h.
       ap (λ (b : Bool). not (eqb (getD edges j 0) d) & b)
       (rw (mul-one (getD reps (getD edges j 0) 0), represented .lowest d hd, represented .lowest _ (inside j h))
-      (unfold relation relOf in ordered .marked (rep d) (rep (getD edges j 0)) (rep-lt d hd) (rep-lt _ (inside j h))))))
+      (unfold relation relOf in ordered .marked (rep d) (rep (getD edges j 0)) (rep-lt G d hd) (rep-lt G _ (inside j h))))))
 
   pub dropped-odd : G .owner (rep c) ≡ odd
       → anyBelow q (λ j. littleBrotherMark marks reps d (getD reps d 0) (G .n) (getD edges j 0)) ≡ droppedBy G edges q c d
@@ -75,7 +70,7 @@ module _ (G : Game) (marks reps edges : List ℕ) (ordered : Ordered G marks) (r
       rw o (any-ext q _ _ (λ j h.
       ap (λ (b : Bool). not (eqb (getD edges j 0) d) & b)
       (rw (represented .lowest d hd, represented .lowest _ (inside j h), add-comm (rep d) (rep (getD edges j 0) * G .n))
-      (unfold relation relOf in ordered .marked (rep (getD edges j 0)) (rep d) (rep-lt _ (inside j h)) (rep-lt d hd)))))
+      (unfold relation relOf in ordered .marked (rep (getD edges j 0)) (rep d) (rep-lt G _ (inside j h)) (rep-lt G d hd)))))
 
 -- ---- compared with none, the quotient's edges are kept; with the quotient edges of the class, the reduced game's
 

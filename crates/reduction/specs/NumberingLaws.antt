@@ -12,18 +12,18 @@ use lib.Seq.{getD-set-same, getD-set-other}
 use borrow.Author.Tests.{eq-eqb, ne-eqb}
 use Rattle.theory.specs.Bools.{_&_, bit}
 use Rattle.theory.specs.Range.{count, nth}
+use Rattle.theory.specs.RangeLaws.{first-ext}
 use Rattle.theory.specs.CountLaws.{nth-count, count-le}
 use Rattle.theory.specs.Game.{Game}
 use Rattle.theory.specs.Passes.{relOf}
 use Rattle.theory.specs.Order.{orderMarks, order}
 use Rattle.theory.specs.OrderLaws.{length-orderMarks}
 use Rattle.theory.specs.Reduction.{sameClass, lowest, isLowest, classCount, classNumber, representative, classOf}
-use Rattle.theory.specs.ClassLaws.{lowest-le, lowest-lt, lowest-one, lowest-same, sameClass-refl, representative-lt, classCount-le}
-use Rattle.theory.specs.QuotientLaws.{order-preorder}
+use Rattle.theory.specs.ClassLaws.{lowest-le, lowest-lt, lowest-one, lowest-same, sameClass-refl, classCount-le}
+use Rattle.theory.specs.QuotientLaws.{order-preorder, rep-lt}
 use Rattle.table.specs.Table.{vertexCount, gameOf}
 use Rattle.table.specs.Verdict.{written}
 use Rattle.table.specs.VerdictLaws.{length-written}
-use Rattle.table.specs.SearchLaws.{first-ext}
 use Rattle.table.specs.WellFormed.{WellFormed}
 use Rattle.order.specs.Bytes.{bytes, relation}
 use Rattle.order.specs.BytesLaws.{length-bytes, mark-written}
@@ -99,7 +99,7 @@ module _ (G : Game) (v k : ℕ) (classes reps : List ℕ) (p : Numbered G v k cl
 
 -- a representative is a vertex
 pub represented-lt : (G : Game) (reps : List ℕ) → Represented G reps → (c : ℕ) → c < classesIn G → (c < length reps) × (getD reps c 0 < G .n)
-represented-lt G reps r c h = (omega (arith, r .long), rw (r .lowest c h) (representative-lt (G .n) (order G) (order-preorder G) c h))
+represented-lt G reps r c h = (omega (arith, r .long), rw (r .lowest c h) (rep-lt G c h))
 
 -- at most one class a vertex
 pub classes-few : (game : List ℕ) → WellFormed game → classesIn (gameOf game) ≤ 256

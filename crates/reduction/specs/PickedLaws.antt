@@ -14,8 +14,8 @@ use Rattle.theory.specs.Bools.{bit}
 use Rattle.theory.specs.Range.{pairsBelow}
 use Rattle.theory.specs.RangeLaws.{below-suc}
 use Rattle.table.specs.Verdict.{written}
+use Rattle.table.specs.VerdictLaws.{written-snoc}
 use Rattle.reduction.specs.Rows.{picked, edgeTo}
-use Rattle.reduction.specs.PlacingLaws.{written-snoc}
 
 module _ (p : ℕ → Bool) where
   picked-more : (n : ℕ) → picked (n + 1) p ≡ picked n p ++ cond (p n) (n ∷ []) []

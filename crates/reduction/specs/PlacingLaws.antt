@@ -1,15 +1,16 @@
 -- Laws of words put into a buffer at a place.
 use mathlib.Core.Path.{_≡_, sym, ap, _∙_}
 use mathlib.Core.List.{List, [], _∷_, _++_, append-assoc}
-use Prim.Native.Nat.{ℕ, suc, _+_, _≤_, _<_}
+use Prim.Native.Nat.{ℕ, _+_, _≤_, _<_}
 use native.Mathlib.Nat.{zero-add, add-zero}
 use native.Mathlib.Numerals.{add-one}
 use native.Mathlib.Omega.{arith}
-use lib.ListN.{length, take, drop, set, length-append, length-drop, take-append-drop}
-use lib.Seq.{length-take-le, drop-cons, set-at, take-at, drop-at, drop-drop}
+use lib.ListN.{length, take, drop, set, length-append, take-append-drop}
+use lib.Seq.{length-take-le, take-at, drop-at, drop-drop}
 use Rattle.theory.specs.Range.{tabulate}
 use Rattle.theory.specs.ListLaws.{length-tabulate, tabulate-snoc}
 use Rattle.table.specs.Verdict.{written}
+use Rattle.table.specs.VerdictLaws.{length-written, written-snoc}
 use Rattle.reduction.specs.Placing.{placed}
 
 -- from word 0 on
@@ -25,18 +26,22 @@ head-first : (at : ℕ) (new old : List ℕ) → placed at new old ≡ (take at 
 unfolding placed
 head-first at new old = sym (append-assoc (take at old) new (drop (at + length new) old))
 
+-- both are written from the start
+placed-head : (at : ℕ) (new old : List ℕ) → at ≤ length old → placed at new old ≡ written (take at old ++ new) old
+unfolding written
+placed-head at new old h = rw (length-head at new old h) (head-first at new old)
+
 pub length-placed : (at : ℕ) (new old : List ℕ) → at + length new ≤ length old → length (placed at new old) ≡ length old
 length-placed at new old h =
-    rw (head-first at new old, length-append (take at old ++ new) (drop (at + length new) old), length-head at new old (omega arith), length-drop (at + length new) old)
-    (omega arith)
+    rw (placed-head at new old (omega arith)) (length-written (take at old ++ new) old (omega (arith, length-head at new old (omega arith))))
 
 -- one word more
 pub placed-snoc : (at : ℕ) (new old : List ℕ) (x : ℕ) → at + length new < length old
     → set (placed at new old) (at + length new) x ≡ placed at (new ++ (x ∷ [])) old
 placed-snoc at new old x h =
-    let e : at + length (new ++ (x ∷ [])) ≡ suc (at + length new) = omega (arith, length-append new (x ∷ [])) in
-    rw (head-first at new old, head-first at (new ++ (x ∷ [])) old, e, drop-cons old (at + length new) 0 h)
-    (set-at (take at old ++ new) _ _ x (at + length new) (length-head at new old (omega arith)) ∙ simp append-assoc)
+    let l = length-head at new old (omega arith) in
+    let s = written-snoc (take at old ++ new) old x (omega arith) in
+    rw (placed-head at new old (omega arith), placed-head at (new ++ (x ∷ [])) old (omega arith)) (rw (l, append-assoc (take at old) new (x ∷ [])) at s)
 
 -- more words behind those
 pub placed-join : (at : ℕ) (new more old : List ℕ) → at + length new ≤ length old
@@ -63,19 +68,6 @@ placed-more at f i old h =
     let l = length-tabulate i f in
     let s = placed-snoc at (tabulate i f) old (f i) (omega arith) in
     rw (add-one i, tabulate-snoc i f) (rw l at s)
-
-pub written-start : (f : ℕ → ℕ) (old : List ℕ) → old ≡ written (tabulate 0 f) old
-written-start f old = placed-start 0 f old ∙ placed-written (tabulate 0 f) old
-
-pub written-more : (f : ℕ → ℕ) (i : ℕ) (old : List ℕ) → i < length old → set (written (tabulate i f) old) i (f i) ≡ written (tabulate (i + 1) f) old
-written-more f i old h =
-    let m = placed-more 0 f i old (omega arith) in
-    rw (placed-written (tabulate i f) old, placed-written (tabulate (i + 1) f) old, zero-add i) at m
-
-pub written-snoc : (new old : List ℕ) (x : ℕ) → length new < length old → set (written new old) (length new) x ≡ written (new ++ (x ∷ [])) old
-written-snoc new old x h =
-    let m = placed-snoc 0 new old x (omega arith) in
-    rw (placed-written new old, placed-written (new ++ (x ∷ [])) old, zero-add (length new)) at m
 
 pub written-join : (at : ℕ) (new more old : List ℕ) → at ≡ length new → length new ≤ length old → placed at more (written new old) ≡ written (new ++ more) old
 written-join at new more old e h =

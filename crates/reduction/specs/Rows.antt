@@ -3,10 +3,10 @@ use mathlib.Core.Path.{_≡_}
 use mathlib.Core.Bool.{Bool, true, false, not, cond}
 use mathlib.Core.List.{List, [], _∷_, _++_}
 use Prim.Native.Nat.{ℕ, zero, suc, _+_, _≤_, _<_}
-use lib.Dec.{eqb, leb}
+use lib.Dec.{eqb}
 use lib.ListN.{length, getD}
 use Rattle.theory.specs.Bools.{_&_, imp}
-use Rattle.theory.specs.Range.{allBelow, anyBelow}
+use Rattle.theory.specs.Range.{allBelow, anyFrom}
 use Rattle.theory.specs.Game.{Game}
 use Rattle.theory.specs.Order.{anyNext}
 use Rattle.theory.specs.Reduction.{classOf, quotient, reduced}
@@ -28,7 +28,7 @@ membersReach G c v d = allBelow v (λ u. imp (eqb (classOf G u) c) (reaches G u 
 
 -- some target from place a on, below e, has class d
 unfoldable pub runReaches : List ℕ → List ℕ → ℕ → ℕ → ℕ → Bool
-runReaches classes targets a e d = anyBelow e (λ k. leb a k & eqb (getD classes (getD targets k 0) 0) d)
+runReaches classes targets a e d = anyFrom a e (λ k. eqb (getD classes (getD targets k 0) 0) d)
 
 -- the targets from place a on, below e, are there, and their classes are below size
 pub record RunInside (classes targets : List ℕ) (size a e : ℕ) : Type 0 where

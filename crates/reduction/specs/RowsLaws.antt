@@ -4,36 +4,25 @@ use mathlib.Core.Bool.{Bool, true, false, cond}
 use mathlib.Core.List.{List}
 use Prim.Native.Nat.{ℕ, _+_, _≤_, _<_}
 use native.Mathlib.Decide.{ℕ-discrete}
-use native.Mathlib.Numerals.{add-one}
 use native.Mathlib.Omega.{arith}
 use native.Mathlib.Nat.{add-zero}
 use lib.Dec.{eqb}
 use lib.ListN.{length, getD, set}
 use lib.Seq.{getD-set-same, getD-set-other}
-use borrow.Author.Tests.{eqb-true, eq-eqb, ne-eqb, le-leb, leb-true}
+use borrow.Author.Tests.{eqb-true, eq-eqb, ne-eqb, le-leb}
 use Rattle.theory.specs.Bools.{_&_, _or_, imp, bit}
-use Rattle.theory.specs.BoolsLaws.{So-ext, So-not, and-in, and-out}
-use Rattle.theory.specs.Range.{allBelow, anyBelow, count}
-use Rattle.theory.specs.RangeLaws.{any-in, any-out, all-in, all-out}
+use Rattle.theory.specs.BoolsLaws.{So-ext, and-true, and-fails, or-false}
+use Rattle.theory.specs.Range.{allBelow, anyFrom, count}
+use Rattle.theory.specs.RangeLaws.{all-in, all-out, all-more, any-more, from-in, from-out, from-end}
 use Rattle.theory.specs.Game.{Game, Total}
 use Rattle.theory.specs.Order.{anyNext, order}
 use Rattle.theory.specs.OrderLaws.{anyNext-in, anyNext-out}
 use Rattle.theory.specs.Reduction.{sameClass, isLowest, classNumber, representative, classOf, quotientEdge}
-use Rattle.theory.specs.ClassLaws.{classNumber-same, representative-lt, representative-at, classNumber-lt, classCount-le}
-use Rattle.theory.specs.QuotientLaws.{order-preorder}
+use Rattle.theory.specs.ClassLaws.{classNumber-same, representative-at, classNumber-lt, classCount-le}
+use Rattle.theory.specs.QuotientLaws.{order-preorder, rep-lt}
 use Rattle.order.specs.Index.{Index}
 use Rattle.reduction.specs.Numbering.{Classed, classesIn}
 use Rattle.reduction.specs.Rows.{reaches, membersReach, runReaches, RunInside, memberReaches, raise, Raised, Counted}
-
--- ---- one number more, for "some" and "each"
-
-pub any-more : (n : ℕ) (p : ℕ → Bool) → anyBelow (n + 1) p ≡ (anyBelow n p or p n)
-unfolding anyBelow
-any-more n p = rw (add-one n)
-
-all-more : (n : ℕ) (p : ℕ → Bool) → allBelow (n + 1) p ≡ allBelow n p & p n
-unfolding allBelow
-all-more n p = rw (add-one n)
 
 -- ---- raised counts
 
@@ -46,23 +35,8 @@ raise-step s o b = go (eqb o s) refl b
     go true e false = rw e
     go false e b = rw e
 
-or-false : (b : Bool) → (b or false) ≡ b
-unfolding _or_
-or-false true = refl
-or-false false = refl
-
-and-false : (b : Bool) → b & false ≡ false
-unfolding _&_
-and-false true = refl
-and-false false = refl
-
-pub and-true : (b : Bool) → b & true ≡ b
-unfolding _&_
-and-true true = refl
-and-true false = refl
-
 pub raised-none : (s : ℕ) (p : ℕ → Bool) (old : List ℕ) → ((d : ℕ) → p d ≡ false) → Raised s p old old
-raised-none s p old f = record { at = λ d. rw (f d, and-false (eqb (getD old d 0) s)) }
+raised-none s p old f = record { at = λ d. rw (and-fails (eqb (getD old d 0) s) (p d) (f d)) }
 
 pub raised-more : (s : ℕ) (p : ℕ → Bool) (old new : List ℕ) (x : ℕ) → Raised s p old new → x < length new
     → Raised s (λ d. p d or eqb x d) old (set new x (raise s (getD new x 0)))
@@ -108,7 +82,7 @@ module _ (G : Game) (c : ℕ) where
         all = λ d. rw (r .at d, members-more v d, e, ← p .all d) (step d (eqb (getD counts d 0) s) refl (reaches G v d));
       }
       go false e r =
-          let same : (d : ℕ) → getD counts′ d 0 ≡ getD counts d 0 = λ d. r .at d ∙ rw (and-false (eqb (getD counts d 0) s)) in record {
+          let same : (d : ℕ) → getD counts′ d 0 ≡ getD counts d 0 = λ d. r .at d ∙ rw (and-fails (eqb (getD counts d 0) s) false refl) in record {
             few = omega (arith, p .few);
             most = λ d. omega (arith, same d, p .most d);
             all = λ d. rw (same d, add-zero s, members-more v d, e, and-true (membersReach G c v d)) (p .all d);
@@ -119,11 +93,11 @@ module _ (G : Game) (c : ℕ) where
 -- no place yet
 pub run-none : (classes targets : List ℕ) (a d : ℕ) → runReaches classes targets a a d ≡ false
 unfolding runReaches
-run-none classes targets a d = So-not (λ t. let r = any-out t in absurd (omega (arith, r .1, leb-true a (r .0) (and-out (r .2) .0))))
+run-none classes targets a d = from-end a a _ (omega arith)
 
 pub run-more : (classes targets : List ℕ) (a e d : ℕ) → a ≤ e
     → runReaches classes targets a (e + 1) d ≡ (runReaches classes targets a e d or eqb (getD classes (getD targets e 0) 0) d)
-unfolding runReaches _&_
+unfolding runReaches anyFrom _&_
 run-more classes targets a e d h = any-more e _ ∙ rw (le-leb a e h)
 
 pub run-reaches : (G : Game) (offsets targets classes : List ℕ) → Index G offsets targets → ((u : ℕ) → u < G .n → getD classes u 0 ≡ classOf G u)
@@ -132,14 +106,13 @@ unfolding runReaches reaches
 run-reaches G offsets targets classes index numbers v h d =
     So-ext
     (λ t.
-    let r = any-out t in
-    let q = and-out (r .2) in
-    let s = index .sound v (r .0) h (record { from = leb-true _ _ (q .0); below = r .1 }) in
-    anyNext-in G v _ (getD targets (r .0) 0) s (rw (← numbers _ (s .inside)) (q .1)))
+    let r = from-out t in
+    let s = index .sound v (r .at) h (record { from = r .low; below = r .high }) in
+    anyNext-in G v _ (getD targets (r .at) 0) s (rw (← numbers _ (s .inside)) (r .passes)))
     (λ t.
     let r = anyNext-out G v _ t in
     let k = index .whole v (r .0) h (r .1) in
-    any-in _ _ (k .0) (k .1 .below) (and-in (le-leb _ _ (k .1 .from)) (rw (k .2, numbers (r .0) (r .1 .inside)) (r .2))))
+    from-in _ _ _ (k .0) (k .1 .from) (k .1 .below) (rw (k .2, numbers (r .0) (r .1 .inside)) (r .2)))
 
 -- what `count_vertex` asks of the places of v, and what it tells
 module _ (G : Game) (offsets targets classes : List ℕ) (index : Index G offsets targets) (classed : Classed G classes) (v : ℕ) (h : v < G .n) where
@@ -170,9 +143,6 @@ module _ (G : Game) where
   abbrev rep : ℕ → ℕ
   rep = representative (G .n) (order G)
 
-  rep-lt : (c : ℕ) → c < classesIn G → rep c < G .n
-  rep-lt = representative-lt (G .n) (order G) (order-preorder G)
-
   class-rep : (c : ℕ) → c < classesIn G → classOf G (rep c) ≡ c
   unfolding classOf classNumber isLowest
   class-rep c h =
@@ -183,7 +153,7 @@ module _ (G : Game) where
   pub member-same : (u c : ℕ) → u < G .n → c < classesIn G → eqb (classOf G u) c ≡ sameClass (order G) u (rep c)
   unfolding classOf
   member-same u c hu hc =
-      let iff = classNumber-same (G .n) (order G) (order-preorder G) u (rep c) hu (rep-lt c hc) in
+      let iff = classNumber-same (G .n) (order G) (order-preorder G) u (rep c) hu (rep-lt G c hc) in
       So-ext (λ t. iff .0 (eqb-true _ _ t ∙ sym (class-rep c hc))) (λ t. eq-eqb _ _ (iff .1 t ∙ class-rep c hc))
 
   reaches-same : (u d : ℕ) → d < classesIn G → reaches G u d ≡ anyNext G u (λ w. sameClass (order G) w (rep d))

@@ -15,9 +15,9 @@ ghost use Prim.Native.Nat.{_≤_};
 ghost use Rattle.theory.specs.Reduction.{quotient, reduced};
 ghost use Rattle.table.specs.Verdict.{judge};
 ghost use Rattle.table.specs.WellFormed.{WellSized};
-ghost use Rattle.reduction.specs.Calls.{ClassesCall, TableCall};
+ghost use Rattle.reduction.specs.Calls.{memoryRows, ClassesCall, TableCall};
 ghost use Rattle.reduction.specs.Rows.{gameBy};
-ghost use Rattle.reduction.specs.Answers.{classificationAnswer, tabulationAnswer, memoryAnswer, memoryRows};
+ghost use Rattle.reduction.specs.Answers.{classificationAnswer, tabulationAnswer, memoryAnswer};
 
 pub struct ClassCount {
     pub classes: usize,

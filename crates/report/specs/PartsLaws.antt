@@ -4,26 +4,25 @@ use mathlib.Core.List.{List, [], _∷_}
 use Prim.Native.Nat.{ℕ, _*_, _≤_}
 use native.Mathlib.Omega.{arith}
 use native.Mathlib.Nat.{mul-le-mul}
-use lib.ListN.{length}
-use borrow.Author.Tests.{le-ltb}
-use Rattle.theory.specs.Game.{Game, edgeCount}
 use Rattle.theory.specs.Order.{orderPasses}
 use Rattle.theory.specs.Reduction.{reduced}
-use Rattle.table.specs.Table.{vertexCount, tableEdges, tableLength, gameOf}
-use Rattle.table.specs.Verdict.{Answer, accepted, refused, Clean}
-use Rattle.table.specs.VerdictLaws.{judge-clean, after-accepted, after-refused, not-both, clean-append}
-use Rattle.table.specs.Reading.{gameRows, readAnswer, readingAnswer}
-use Rattle.table.specs.ReadingLaws.{reading-accepted, well-clean}
+use Rattle.table.specs.Table.{vertexCount, gameOf}
+use Rattle.table.specs.Verdict.{Answer, accepted, refused}
+use Rattle.table.specs.VerdictLaws.{after-accepted, after-refused, not-both}
+use Rattle.table.specs.Reading.{readAnswer, readingAnswer}
+use Rattle.table.specs.ReadingLaws.{reading-accepted}
 use Rattle.table.specs.WellFormed.{WellFormed}
 use Rattle.table.specs.declared.Sizes.{Sizes}
 use Rattle.table.specs.declared.Refusal.{Refusal}
 use Rattle.table.specs.declared.Reading.{Reading}
-use Rattle.order.specs.OrderCall.{memoryRow, orderingAnswer, OrderWritten}
+use Rattle.order.specs.OrderCall.{orderingAnswer, OrderWritten}
+use Rattle.order.specs.OrderRules.{OrderFits}
 use Rattle.order.specs.OrderRulesLaws.{order-accepts}
 use Rattle.order.specs.declared.Ordering.{Ordering}
-use Rattle.reduction.specs.Calls.{classRows, tableRows, classTotal, TableCall}
+use Rattle.reduction.specs.Calls.{TableCall}
+use Rattle.reduction.specs.CallRules.{TableFits}
+use Rattle.reduction.specs.CallRulesLaws.{table-accepts}
 use Rattle.reduction.specs.Answers.{tabulationAnswer}
-use Rattle.reduction.specs.ListsLaws.{lists-length}
 use Rattle.reduction.specs.declared.TableCounts.{TableCounts}
 use Rattle.reduction.specs.declared.Tabulation.{Tabulation}
 use Rattle.report.specs.declared.Report.{Report}
@@ -57,30 +56,20 @@ counts-given (Tabulation.Accepted c) k n m e = record { classes = cc; vertices =
 counts-given (Tabulation.Refused f) k n m e = absurd (not-both e)
 
 module _ (g marks spare classes output : List ℕ) (enough : Enough marks spare classes output) (w : WellFormed g) where
+  order-fits : OrderFits g marks spare
+  order-fits = record { game = w; marksFit = omega (arith, pairs-fit g w, enough .marksFit); spareFit = omega (arith, pairs-fit g w, enough .spareFit) }
+
   -- the order call accepts
   order-passes : (marks′ spare′ : List ℕ) (o : Ordering) → OrderWritten g marks marks′ spare spare′ (orderingAnswer o)
       → passesOf o ≡ orderPasses (gameOf g)
-  order-passes marks′ spare′ o d =
-      passes-given o _
-      (d .verdict
-      ∙ order-accepts g marks spare
-      (record { game = w; marksFit = omega (arith, pairs-fit g w, enough .marksFit); spareFit = omega (arith, pairs-fit g w, enough .spareFit) }))
+  order-passes marks′ spare′ o d = passes-given o _ (d .verdict ∙ order-accepts g marks spare order-fits)
 
   -- and so does a call that writes a game of classes
-  table-accepts : (K : Game → Game) (marks′ spare′ classes′ output′ : List ℕ) (a : Answer)
-      (d : TableCall K g marks spare classes output a marks′ spare′ classes′ output′)
-      → a ≡ accepted (classTotal g ∷ K (gameOf g) .n ∷ edgeCount (K (gameOf g)) ∷ [])
-  unfolding tableRows classRows
-  table-accepts K marks′ spare′ classes′ output′ a d =
-      let pairs = pairs-fit g w in
-      let memory : Clean (memoryRow 21 (vertexCount g * vertexCount g) marks ∷ memoryRow 22 (vertexCount g * vertexCount g) spare ∷ memoryRow 23 (vertexCount g) classes ∷ []) = (
-        le-ltb (length marks) _ (omega (arith, enough .marksFit)),
-        (le-ltb (length spare) _ (omega (arith, enough .spareFit)), (le-ltb (length classes) _ (omega (arith, w .vertices, enough .classesFit)), tt)),
-      ) in
-      let table : Clean (memoryRow 24 (tableLength (vertexCount g) (tableEdges g)) output ∷ []) =
-      (le-ltb (length output) _ (omega (arith, w .vertices, w .edges, enough .outputFit)), tt) in
-      rw (← lists-length (K (gameOf g)) (d .edges) (d .listed))
-      (d .verdict ∙ judge-clean _ _ (clean-append (classRows g marks spare classes) _ (clean-append (gameRows g) _ (well-clean g w) memory) table))
+  table-fits : TableFits g marks spare classes output
+  table-fits = record {
+    classesFit = record { orderFits = order-fits; wordsFit = omega (arith, w .vertices, enough .classesFit) };
+    outputFit = omega (arith, w .vertices, w .edges, enough .outputFit);
+  }
 
 -- the reader refuses
 pub reported-refused : (g classes : List ℕ) (v : Reading) (f : Refusal) → v ≡ Reading.Refused f → readingAnswer v ≡ readAnswer g
@@ -108,7 +97,7 @@ module _ (g marks marks′ marks″ spare spare′ spare″ classes classes′ o
   reported-accepted c h e passes p counts q =
       let a : readAnswer g ≡ readingAnswer (Reading.Accepted c) = sym e ∙ ap readingAnswer h in
       let w = reading-accepted g c (sym a) .well in
-      let b = table-accepts g marks′ spare′ classes output again w reduced marks″ spare″ classes′ output′ (tabulationAnswer t) made in
+      let b = table-accepts made (table-fits g marks′ spare′ classes output again w) in
       let k = counts-given t _ _ _ b in
       record {
         verdict = e;

@@ -12,7 +12,6 @@ pub mod Kind
 pub mod KindLaws
 pub mod Parts
 pub mod PartsLaws
-pub mod SearchLaws
 pub mod Acceptance
 pub mod Grouping
 pub mod GroupingLaws

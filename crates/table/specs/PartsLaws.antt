@@ -1,40 +1,30 @@
 -- Laws of the reader's flags and of edge numbers.
 use mathlib.Core.Path.{_≡_, refl, sym, ap, _∙_}
-use mathlib.Core.Bool.{Bool, true, false, cond, not, So}
+use mathlib.Core.Bool.{cond}
 use mathlib.Core.List.{List}
-use Prim.Native.Nat.{ℕ, _+_, _*_, _/_, _%_, _≤_, _<_}
+use Prim.Native.Nat.{ℕ, _+_, _*_, _≤_, _<_}
 use native.Mathlib.Nat.{mul-le-mul}
-use native.Mathlib.Numerals.{add-one}
 use native.Mathlib.Decide.{ℕ-discrete}
 use native.Mathlib.Omega.{arith}
-use lib.Arith.{digits-lt, digits-div, digits-mod}
+use lib.Arith.{digits-lt}
 use lib.Dec.{eqb, leb}
 use lib.ListN.{length, getD, set, replicate, length-set, length-replicate, getD-replicate}
 use lib.Seq.{getD-set-same, getD-set-other}
-use borrow.Author.Tests.{eq-eqb, ne-eqb, eqb-true, leb-false}
-use Rattle.theory.specs.Bools.{_or_, bit}
-use Rattle.theory.specs.BoolsLaws.{So-ext, and-in, and-out}
+use borrow.Author.Tests.{eq-eqb, ne-eqb, leb-false}
+use Rattle.theory.specs.Bools.{bit}
+use Rattle.theory.specs.BoolsLaws.{bit-cond, bit-not, bit-is-some}
 use Rattle.theory.specs.Range.{anyBelow, first, tabulate}
-use Rattle.theory.specs.RangeLaws.{any-in, first-before}
+use Rattle.theory.specs.RangeLaws.{any-in, any-ext, any-same, first-before, first-ext}
+use Rattle.theory.specs.CountLaws.{digits-same}
 use Rattle.theory.specs.ListLaws.{tabulate-by, getD-tabulate}
 use Rattle.table.specs.Table.{vertexCount, tableEdges, sourceAt, targetAt, tableLength, isEdge}
 use Rattle.table.specs.Reading.{repeatsEarlier, lacksEdge, firstEnd, firstLacking}
 use Rattle.table.specs.Parts.{atLeast, Sized, EndsInside, edgeNumber, Filled, Flagged}
-use Rattle.table.specs.SearchLaws.{any-ext, first-ext}
 
 -- ---- flags
 
 pub filled : (n x : ℕ) → Filled x (replicate n x)
 filled n x = record { at = λ i h. getD-replicate n i x 0 (rw (length-replicate n x) at h) }
-
--- one number more, which is none that is looked for
-any-other : (j : ℕ) (p : ℕ → Bool) → p j ≡ false → anyBelow (j + 1) p ≡ anyBelow j p
-unfolding anyBelow _or_
-any-other j p e = rw (add-one j, e) (go (anyBelow j p))
-  where
-    go : (b : Bool) → (b or false) ≡ b
-    go true = refl
-    go false = refl
 
 module _ (x y : ℕ) (index : ℕ → ℕ) where
   pub flagged-none : (flags : List ℕ) → Filled x flags → Flagged x y index 0 flags
@@ -47,25 +37,13 @@ module _ (x y : ℕ) (index : ℕ → ℕ) where
     where
       go : (i : ℕ) → i < length flags → Dec (index j ≡ i) → getD (set flags (index j) y) i 0 ≡ cond (anyBelow (j + 1) (λ k. eqb (index k) i)) y x
       go i m (yes e) = rw (any-in (j + 1) (λ k. eqb (index k) i) j (omega arith) (eq-eqb (index j) i e), ← e) (getD-set-same flags (index j) y 0 l)
-      go i m (no d) = rw (any-other j (λ k. eqb (index k) i) (ne-eqb (index j) i d)) (getD-set-other flags (index j) i y 0 (λ e. d (sym e)) ∙ h .at i m)
-
--- what a flag tells
-pub bit-set : (b : Bool) → (bit b ≡ 0 → ⊥) → So b
-unfolding bit
-bit-set true h = refl
-bit-set false h = absurd (h refl)
-
-pub bit-clear : (b : Bool) → bit b ≡ 0 → b ≡ false
-unfolding bit
-bit-clear true h = absurd (omega arith)
-bit-clear false h = refl
-
-bit-cond : (b : Bool) → cond b 1 0 ≡ bit b
-unfolding bit
-bit-cond true = refl
-bit-cond false = refl
+      go i m (no d) = rw (any-same j (λ k. eqb (index k) i) (ne-eqb (index j) i d)) (getD-set-other flags (index j) i y 0 (λ e. d (sym e)) ∙ h .at i m)
 
 -- ---- edge ends and edge numbers
+
+-- a pair of vertices as one number
+pub pair-lt : (n v x : ℕ) → n ≤ 256 → v < n → x < n → v * n + x < 65536
+pair-lt n v x h hv hx = omega (arith, digits-lt hv hx, mul-le-mul h h)
 
 module _ (g : List ℕ) (n m : ℕ) (s : Sized g n m) where
   pub source-word : (j : ℕ) → getD g (2 + 2 * n + j) 0 ≡ sourceAt g j
@@ -82,26 +60,15 @@ module _ (g : List ℕ) (n m : ℕ) (s : Sized g n m) (h : EndsInside g) where
   pub edge-number-lt : (j : ℕ) → j < m → edgeNumber g j < 65536
   unfolding edgeNumber
   edge-number-lt j l =
-      let few : vertexCount g ≤ 256 = omega arith in
-      omega (arith, digits-lt (h .sources j (omega arith)) (h .targets j (omega arith)), mul-le-mul few few)
-
-  -- equal numbers, equal edges
-  edge-number-same : (i j : ℕ) → i < m → j < m → eqb (edgeNumber g i) (edgeNumber g j) ≡ isEdge g (sourceAt g j) (targetAt g j) i
-  unfolding edgeNumber isEdge
-  edge-number-same i j hi hj = So-ext
-      (λ t.
-      let e = eqb-true (edgeNumber g i) (edgeNumber g j) t in
-      and-in
-      (eq-eqb (sourceAt g i) (sourceAt g j) (sym (digits-div (sourceAt g i) (h .targets i (omega arith))) ∙ ap (λ (k : ℕ). k / vertexCount g) e ∙ digits-div (sourceAt g j) (h .targets j (omega arith))))
-      (eq-eqb (targetAt g i) (targetAt g j) (sym (digits-mod (sourceAt g i) (h .targets i (omega arith))) ∙ ap (λ (k : ℕ). k % vertexCount g) e ∙ digits-mod (sourceAt g j) (h .targets j (omega arith)))))
-      (λ t. let e = and-out t in eq-eqb (edgeNumber g i) (edgeNumber g j) (cc (eqb-true (sourceAt g i) (sourceAt g j) (e .0), eqb-true (targetAt g i) (targetAt g j) (e .1))))
+      pair-lt (vertexCount g) (sourceAt g j) (targetAt g j) (omega arith) (h .sources j (omega arith)) (h .targets j (omega arith))
 
   -- the flag of edge j, after the edges before it, tells whether it repeats one of them
   pub seen-flag : (j : ℕ) (flags : List ℕ) → j < m → edgeNumber g j < length flags → Flagged 0 1 (edgeNumber g) j flags
       → getD flags (edgeNumber g j) 0 ≡ bit (repeatsEarlier g j)
-  unfolding repeatsEarlier
+  unfolding repeatsEarlier edgeNumber isEdge
   seen-flag j flags l b f =
-      f .at (edgeNumber g j) b ∙ bit-cond _ ∙ ap bit (any-ext j _ _ (λ i k. edge-number-same i j (omega arith) l))
+      f .at (edgeNumber g j) b ∙ bit-cond _
+      ∙ ap bit (any-ext j _ _ (λ i k. digits-same (vertexCount g) (sourceAt g i) (targetAt g i) (sourceAt g j) (targetAt g j) (h .targets i (omega arith)) (h .targets j (omega arith))))
 
 -- ---- what the reader knows after its rows 4 and 6
 
@@ -116,19 +83,11 @@ ends-inside g l = record { sources = λ j h. below (2 + 2 * vertexCount g + j) (
 -- ---- vertices without an edge out
 
 pub lacking-flags : (g flags : List ℕ) → Flagged 1 0 (sourceAt g) (tableEdges g) flags → flags ≡ tabulate (length flags) (λ v. bit (lacksEdge g v))
-unfolding lacksEdge bit
-lacking-flags g flags h = tabulate-by (length flags) (λ v. bit (lacksEdge g v)) 0 flags refl (λ v l. h .at v l ∙ go (anyBelow (tableEdges g) (λ j. eqb (sourceAt g j) v)))
-  where
-    go : (b : Bool) → cond b 0 1 ≡ bit (not b)
-    go true = refl
-    go false = refl
+unfolding lacksEdge
+lacking-flags g flags h = tabulate-by (length flags) (λ v. bit (lacksEdge g v)) 0 flags refl (λ v l. h .at v l ∙ bit-not (anyBelow (tableEdges g) (λ j. eqb (sourceAt g j) v)))
 
 pub lacking-first : (g : List ℕ) (k : ℕ) → vertexCount g ≤ k → first (atLeast (tabulate k (λ v. bit (lacksEdge g v))) 1) 0 (vertexCount g) ≡ firstLacking g
-unfolding firstLacking bit
+unfolding firstLacking
 lacking-first g k l =
     first-ext _ (lacksEdge g) 0 (vertexCount g)
-    (λ i a h. rw (getD-tabulate k (λ v. bit (lacksEdge g v)) 0 i (omega arith)) (go (lacksEdge g i)))
-  where
-    go : (b : Bool) → leb 1 (bit b) ≡ b
-    go true = refl
-    go false = refl
+    (λ i a h. rw (getD-tabulate k (λ v. bit (lacksEdge g v)) 0 i (omega arith)) (bit-is-some (lacksEdge g i)))

@@ -9,8 +9,7 @@ use lib.Dec.{ltb}
 use borrow.Author.Tests.{ltb-true, lt-ltb}
 use Rattle.theory.specs.BoolsLaws.{clash, So-not}
 use Rattle.theory.specs.Range.{first}
-use Rattle.theory.specs.RangeLaws.{first-ge, first-before, first-passes, first-least}
-use Rattle.table.specs.SearchLaws.{first-is}
+use Rattle.theory.specs.RangeLaws.{first-ge, first-before, first-passes, first-least, first-is}
 use Rattle.table.specs.Verdict.{Row, refused, judge, Clean}
 use Rattle.table.specs.VerdictLaws.{refused-inj, not-both, judge-hit, judge-next}
 use Rattle.table.specs.Rules.{Rule, Some, First, placed, firstSuch, FirstRule, here, later, NoRule, no-rule, fails, Renders, Rendered, none, next}

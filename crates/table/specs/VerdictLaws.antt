@@ -1,11 +1,14 @@
 -- Laws of verdicts, for the rows of any call.
-use mathlib.Core.Path.{_≡_, refl, sym, _∙_}
+use mathlib.Core.Path.{_≡_, refl, sym, ap, _∙_}
 use mathlib.Core.Bool.{Bool, true, false, cond, So}
-use mathlib.Core.List.{List, [], _∷_, _++_}
-use Prim.Native.Nat.{ℕ, _+_, _-_, _≤_, _<_}
+use mathlib.Core.List.{List, [], _∷_, _++_, append-assoc}
+use Prim.Native.Nat.{ℕ, suc, _+_, _-_, _≤_, _<_}
+use native.Mathlib.Numerals.{add-one}
 use native.Mathlib.Omega.{arith}
-use lib.ListN.{length, drop, getD, length-append, length-drop, List·getD-append}
-use lib.Seq.{getD-append-add, getD-drop}
+use lib.ListN.{length, drop, getD, set, length-append, length-drop, List·getD-append}
+use lib.Seq.{getD-append-add, getD-drop, drop-cons, set-append-seam, drop-at}
+use Rattle.theory.specs.Range.{tabulate}
+use Rattle.theory.specs.ListLaws.{length-tabulate, tabulate-snoc}
 use Rattle.table.specs.Verdict.{Row, Answer, accepted, refused, judge, Clean, written, after}
 
 -- ---- answers
@@ -89,6 +92,33 @@ unfolding written
 getD-written-beyond new old i d h =
     let e : i ≡ length new + (i - length new) = omega arith in
     rw e (getD-append-add new (drop (length new) old) (i - length new) d ∙ getD-drop (length new) old (i - length new) d)
+
+-- one word more
+pub written-snoc : (new old : List ℕ) (x : ℕ) → length new < length old → set (written new old) (length new) x ≡ written (new ++ (x ∷ [])) old
+unfolding written
+written-snoc new old x h =
+    let e : length (new ++ (x ∷ [])) ≡ suc (length new) = length-append new (x ∷ []) ∙ add-one (length new) in
+    rw (e, drop-cons old (length new) 0 h, set-append-seam new (getD old (length new) 0) (drop (suc (length new)) old) x, append-assoc)
+
+-- the words f 0, f 1, .. one by one
+pub written-start : (f : ℕ → ℕ) (old : List ℕ) → old ≡ written (tabulate 0 f) old
+unfolding written tabulate
+written-start f old = refl
+
+pub written-more : (f : ℕ → ℕ) (i : ℕ) (old : List ℕ) → i < length old → set (written (tabulate i f) old) i (f i) ≡ written (tabulate (i + 1) f) old
+written-more f i old h =
+    let l = length-tabulate i f in
+    let s = written-snoc (tabulate i f) old (f i) (omega arith) in
+    rw (add-one i, tabulate-snoc i f) (rw l at s)
+
+-- written again: only what lies beyond counts
+pub written-over : (N : ℕ) (new old old′ : List ℕ) → length new ≡ N → drop N old ≡ drop N old′ → written new old ≡ written new old′
+unfolding written
+written-over N new old old′ e d = rw (e, d)
+
+pub drop-written : (N : ℕ) (new old : List ℕ) → length new ≡ N → drop N (written new old) ≡ drop N old
+unfolding written
+drop-written N new old e = drop-at new (drop (length new) old) N e ∙ ap (λ (k : ℕ). drop k old) e
 
 pub after-accepted : {a : Answer} {counts : List ℕ} (new old : List ℕ) → a ≡ accepted counts → after a new old ≡ written new old
 unfolding after

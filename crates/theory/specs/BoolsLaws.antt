@@ -1,9 +1,11 @@
 -- Laws of the connectives: how a test is shown (`-in`) and used (`-out`).
 use mathlib.Core.Path.{_≡_, refl, sym, _∙_}
 use mathlib.Core.Logic.{_⊎_, inl, inr}
-use mathlib.Core.Bool.{Bool, true, false, not, So, true≢false, false≢true}
+use mathlib.Core.Bool.{Bool, true, false, not, So, cond, true≢false, false≢true}
 use Prim.Native.Nat.{_≤_, _<_, zero-le}
 use native.Mathlib.Nat.{le-refl}
+use native.Mathlib.Omega.{arith}
+use lib.Dec.{eqb, leb}
 use Rattle.theory.specs.Bools.{_&_, _or_, imp, bit}
 
 pub decide : (b : Bool) → So b ⊎ (b ≡ false)
@@ -34,6 +36,10 @@ pub not-out : {b : Bool} → So (not b) → b ≡ false
 not-out {b = true} e = absurd (false≢true e)
 not-out {b = false} e = refl
 
+pub not-not : (b : Bool) → not (not b) ≡ b
+not-not true = refl
+not-not false = refl
+
 pub and-in : {a b : Bool} → So a → So b → So (a & b)
 unfolding _&_
 and-in {a = true} {b} p q = q
@@ -48,6 +54,11 @@ pub and-fails : (a b : Bool) → b ≡ false → a & b ≡ false
 unfolding _&_
 and-fails true b e = e
 and-fails false b e = refl
+
+pub and-true : (b : Bool) → b & true ≡ b
+unfolding _&_
+and-true true = refl
+and-true false = refl
 
 pub imp-in : {a b : Bool} → (So a → So b) → So (imp a b)
 unfolding imp
@@ -78,6 +89,64 @@ pub or-out : {a b : Bool} → So (a or b) → So a ⊎ So b
 unfolding _or_
 or-out {a = true} {b} p = inl refl
 or-out {a = false} {b} p = inr p
+
+pub or-false : (b : Bool) → (b or false) ≡ b
+unfolding _or_
+or-false true = refl
+or-false false = refl
+
+-- ---- the bit of a test
+
+pub bit-in : {b : Bool} → So b → bit b ≡ 1
+unfolding bit
+bit-in e = rw e
+
+pub bit-out : (b : Bool) → bit b ≡ 1 → So b
+unfolding bit
+bit-out true e = refl
+bit-out false e = absurd (omega arith)
+
+pub bit-set : (b : Bool) → (bit b ≡ 0 → ⊥) → So b
+unfolding bit
+bit-set true h = refl
+bit-set false h = absurd (h refl)
+
+pub bit-clear : (b : Bool) → bit b ≡ 0 → b ≡ false
+unfolding bit
+bit-clear true h = absurd (omega arith)
+bit-clear false h = refl
+
+pub bit-le : (b : Bool) → bit b ≤ 1
+unfolding bit
+bit-le true = omega arith
+bit-le false = omega arith
+
+-- as a choice of flags
+pub bit-cond : (b : Bool) → cond b 1 0 ≡ bit b
+unfolding bit
+bit-cond true = refl
+bit-cond false = refl
+
+pub bit-not : (b : Bool) → cond b 0 1 ≡ bit (not b)
+unfolding bit
+bit-not true = refl
+bit-not false = refl
+
+-- read back
+pub bit-is-one : (b : Bool) → eqb (bit b) 1 ≡ b
+unfolding bit
+bit-is-one true = refl
+bit-is-one false = refl
+
+pub bit-is-zero : (b : Bool) → eqb (bit b) 0 ≡ not b
+unfolding bit
+bit-is-zero true = refl
+bit-is-zero false = refl
+
+pub bit-is-some : (b : Bool) → leb 1 (bit b) ≡ b
+unfolding bit
+bit-is-some true = refl
+bit-is-some false = refl
 
 pub bit-mono : (a b : Bool) → (So a → So b) → bit a ≤ bit b
 unfolding bit

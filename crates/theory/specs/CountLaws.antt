@@ -5,15 +5,33 @@ use mathlib.Core.Bool.{Bool, true, false, not, So, cond}
 use Prim.Native.Nat.{ℕ, zero, suc, _+_, _*_, _/_, _%_, _≤_, _<_, zero-le}
 use native.Mathlib.Nat.{not-suc-le-zero, le-refl, lt-irrefl, mod-lt, div-lt-iff-lt-mul, div-add-mod', mul-zero}
 use native.Mathlib.Decide.{decLt}
+use native.Mathlib.Numerals.{add-one}
 use native.Mathlib.Omega.{arith}
+use lib.Arith.{digits-div, digits-mod}
 use lib.Dec.{eqb, ltb}
 use borrow.Author.Tests.{eqb-true, eq-eqb, ne-eqb, ltb-true, ltb-false, lt-ltb, le-ltb}
 use Rattle.theory.specs.Bools.{_&_, bit}
-use Rattle.theory.specs.BoolsLaws.{decide, clash, and-in, and-out, and-fails, bit-mono, bit-less}
+use Rattle.theory.specs.BoolsLaws.{decide, clash, So-ext, and-in, and-out, and-fails, bit-mono, bit-less}
 use Rattle.theory.specs.Range.{anyBelow, count, nth}
 use Rattle.theory.specs.RangeLaws.{below-suc, any-in, any-out}
 
 -- ---- counts
+
+-- one number more
+pub count-step : (n : ℕ) (p : ℕ → Bool) → count (n + 1) p ≡ count n p + bit (p n)
+unfolding count
+count-step n p = rw (add-one n)
+
+-- it goes by the values of the test
+pub count-ext : (n : ℕ) (p q : ℕ → Bool) → ((i : ℕ) → i < n → p i ≡ q i) → count n p ≡ count n q
+unfolding count
+count-ext zero p q f = refl
+count-ext (suc n) p q f = omega (arith, count-ext n p q (λ i h. f i (omega arith)), ap bit (f n (omega arith)))
+
+pub count-none : (n : ℕ) (p : ℕ → Bool) → ((i : ℕ) → i < n → p i ≡ false) → count n p ≡ 0
+unfolding count bit
+count-none zero p f = refl
+count-none (suc n) p f = rw (f n (omega arith)) (omega (arith, count-none n p (λ i h. f i (omega arith))))
 
 pub count-all : (n : ℕ) → count n (λ i. true) ≡ n
 unfolding count bit
@@ -166,3 +184,15 @@ col-lt n m i h = mod-lt i (positive n m i h)
 
 pub pair-ext : (n i j : ℕ) → i / n ≡ j / n → i % n ≡ j % n → i ≡ j
 pair-ext n i j e f = sym (div-add-mod' i n) ∙ rw (e, f) (div-add-mod' j n)
+
+-- a number is one row and one column
+pub digits-one : {n s t v x : ℕ} → t < n → x < n → s * n + t ≡ v * n + x → (s ≡ v) × (t ≡ x)
+digits-one {n} {s} {t} {v} {x} ht hx e = (
+  sym (digits-div s ht) ∙ ap (λ (k : ℕ). k / n) e ∙ digits-div v hx,
+  sym (digits-mod s ht) ∙ ap (λ (k : ℕ). k % n) e ∙ digits-mod v hx,
+)
+
+pub digits-same : (n s t v x : ℕ) → t < n → x < n → eqb (s * n + t) (v * n + x) ≡ eqb s v & eqb t x
+digits-same n s t v x ht hx = So-ext
+    (λ b. let e = digits-one ht hx (eqb-true (s * n + t) (v * n + x) b) in and-in (eq-eqb s v (e .0)) (eq-eqb t x (e .1)))
+    (λ b. let c = and-out b in eq-eqb (s * n + t) (v * n + x) (cc (eqb-true s v (c .0), eqb-true t x (c .1))))

@@ -9,8 +9,8 @@ use Rattle.theory.specs.Simulation.{Moves, Passes}
 use Rattle.theory.specs.Order.{order, Holds}
 use Rattle.theory.specs.OrderLaws.{order-trans, order-simulation}
 use Rattle.theory.specs.Reduction.{sameClass, classNumber, representative, classGame, quotient, classOf}
-use Rattle.theory.specs.ClassLaws.{sameClass-le, sameClass-ge, sameClass-sym, sameClass-refl, sameClass-trans, classNumber-lt, representative-lt, representative-same, representatives-apart}
-use Rattle.theory.specs.QuotientLaws.{order-preorder, quotientEdge-out}
+use Rattle.theory.specs.ClassLaws.{sameClass-le, sameClass-ge, sameClass-sym, sameClass-refl, sameClass-trans, classNumber-lt, representative-same, representatives-apart}
+use Rattle.theory.specs.QuotientLaws.{order-preorder, rep-lt, quotientEdge-out}
 use Rattle.theory.specs.ReductionLaws.{quotient-total, classOf-quotient}
 
 module _ (g : Game) (v w : ℕ) (hv : v < g .n) (hw : w < g .n) (together : So (sameClass (order g) v w))
@@ -31,14 +31,14 @@ module _ (g : Game) (v w : ℕ) (hv : v < g .n) (hw : w < g .n) (together : So (
       let c = rep (classNumber (g .n) (order g) v) in
       quotientEdge-out g c (rep d) (s .along) u hu
       (sameClass-trans (g .n) (order g) (order-preorder g) u v c hu hv
-      (representative-lt (g .n) (order g) (order-preorder g) (classNumber (g .n) (order g) v) (classNumber-lt (g .n) (order g) (order-preorder g) v hv))
+      (rep-lt g (classNumber (g .n) (order g) v) (classNumber-lt (g .n) (order g) (order-preorder g) v hv))
       t (sameClass-sym (order g) c v (representative-same (g .n) (order g) (order-preorder g) v hv)))
 
   ordered : (d e : ℕ) → Succ (quotient g) (classOf g v) d → Succ (quotient g) (classOf g v) e → So (order g (rep d) (rep e))
   unfolding quotient classGame
   ordered d e s t =
-      let hd = representative-lt (g .n) (order g) (order-preorder g) d (s .inside) in
-      let he = representative-lt (g .n) (order g) (order-preorder g) e (t .inside) in
+      let hd = rep-lt g d (s .inside) in
+      let he = rep-lt g e (t .inside) in
       let (v′, sv, p) = reach v d hv (sameClass-refl (g .n) (order g) (order-preorder g) v hv) s in
       let (w′, sw, q) = reach w e hw (sameClass-sym (order g) v w together) t in
       order-trans g (rep d) v′ (rep e) hd (sv .inside) he (sameClass-ge (order g) v′ (rep d) p)

@@ -1,6 +1,6 @@
 -- Passes over any test: marks only fall, so the passes settle; what is left is the largest set inside the start set on which the test
 -- holds. Each pass before the last loses a mark, which bounds their count.
-use mathlib.Core.Path.{_≡_, refl, sym, ap, _∙_, subst₂}
+use mathlib.Core.Path.{_≡_, refl, sym, _∙_, subst₂}
 use mathlib.Core.Bool.{Bool, true, false, So}
 use Prim.Native.Nat.{ℕ, zero, suc, _+_, _*_, _/_, _%_, _≤_, _<_}
 use native.Mathlib.Omega.{arith}
@@ -10,7 +10,7 @@ use Rattle.theory.specs.Bools.{_&_}
 use Rattle.theory.specs.BoolsLaws.{and-in, and-out, and-fails, imp-out, imp-fails}
 use Rattle.theory.specs.Range.{count}
 use Rattle.theory.specs.RangeLaws.{all-out, all-fails, first-before, first-passes}
-use Rattle.theory.specs.CountLaws.{count-all, count-le, count-mono, count-less, count-inject, row-lt, col-lt}
+use Rattle.theory.specs.CountLaws.{count-all, count-le, count-mono, count-less, count-inject, row-lt, col-lt, digits-one}
 use Rattle.theory.specs.ListLaws.{length-tabulate, getD-tabulate}
 use Rattle.theory.specs.Passes.{marked, Test, nextPass, pass, settled, rounds, passCount, finalMarks, Rel, relOf, pairStart, pairTest, largest}
 
@@ -139,5 +139,5 @@ passes-le n test start diagonal =
     rw (count-all n) at
     (count-inject n N (λ v. true) (marked (finalMarks N ok init)) (λ v i. v * n + v ≡ i)
     (λ v h t. (v * n + v, digits-lt h h, diagonal v h, refl))
-    (λ v v′ i h h′ k e e′. sym (digits-div v h) ∙ ap (λ (z : ℕ). z / n) (e ∙ sym e′) ∙ digits-div v′ h′)) in
+    (λ v v′ i h h′ k e e′. digits-one h h′ (e ∙ sym e′) .0)) in
     omega (arith, rounds-marks N ok init, count-le N init)

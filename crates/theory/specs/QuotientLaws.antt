@@ -16,14 +16,17 @@ use Rattle.theory.specs.Simulation.{Moves, Below}
 use Rattle.theory.specs.SimulationLaws.{below-dual, below-refl, below-trans, below-moves}
 use Rattle.theory.specs.Order.{order, Preorder}
 use Rattle.theory.specs.OrderLaws.{anyNext-in, anyNext-out, order-in, order-out, order-refl, order-trans}
-use Rattle.theory.specs.Reduction.{sameClass, lowest, isLowest, worse, quotientEdge, dropped, reducedEdge}
+use Rattle.theory.specs.Reduction.{sameClass, lowest, isLowest, classCount, representative, worse, quotientEdge, dropped, reducedEdge}
 use Rattle.theory.specs.ClassEdges.{QuotientEdge, Better, EdgeAbove}
 use Rattle.theory.specs.MaximalLaws.{top}
-use Rattle.theory.specs.ClassLaws.{sameClass-sym, sameClass-refl, sameClass-trans, lowest-lt, lowest-same, isLowest-lowest, isLowest-one}
+use Rattle.theory.specs.ClassLaws.{sameClass-sym, sameClass-refl, sameClass-trans, lowest-lt, lowest-same, isLowest-lowest, isLowest-one, representative-lt}
 
 module _ (g : Game) where
   pub order-preorder : Preorder (g .n) (order g)
   order-preorder = record { reflexive = order-refl g; transitive = order-trans g }
+
+  pub rep-lt : (c : ℕ) → c < classCount (g .n) (order g) → representative (g .n) (order g) c < g .n
+  rep-lt = representative-lt (g .n) (order g) order-preorder
 
   -- ---- the order for either player
 

@@ -1,5 +1,5 @@
 -- Laws of bounded "each", "some" and "the first".
-use mathlib.Core.Path.{_≡_, refl, sym, subst}
+use mathlib.Core.Path.{_≡_, refl, sym, subst, ap₂, _∙_}
 use mathlib.Core.Logic.{_⊎_, inl, inr}
 use mathlib.Core.Bool.{Bool, true, false, So, cond, false≢true}
 use Prim.Native.Nat.{ℕ, zero, suc, _+_, _-_, _≤_, _<_}
@@ -7,9 +7,10 @@ use native.Mathlib.Nat.{le-of-suc-le-suc, not-suc-le-zero}
 use native.Mathlib.Decide.{decLt}
 use native.Mathlib.Numerals.{add-one}
 use native.Mathlib.Omega.{arith}
-use borrow.Author.Tests.{leb-true, le-leb}
+use lib.Dec.{ltb}
+use borrow.Author.Tests.{leb-true, le-leb, ltb-false, le-ltb}
 use Rattle.theory.specs.Bools.{_&_, _or_}
-use Rattle.theory.specs.BoolsLaws.{decide, clash, So-ext, So-not, and-in, and-out, or-left, or-right, or-out}
+use Rattle.theory.specs.BoolsLaws.{decide, clash, So-ext, So-not, and-in, and-out, or-left, or-right, or-out, or-false}
 use Rattle.theory.specs.Range.{allBelow, anyBelow, anyFrom, firstOf, first}
 
 -- ---- below a bound
@@ -54,6 +55,11 @@ all-fails (suc n) p e = go (decide (allBelow n p)) (all-fails n p)
     go (inl a) ih = (n, omega arith, subst (λ (b : Bool). b & p n ≡ false) a e)
     go (inr a) ih = let x = ih a in (x .0, omega arith, x .2)
 
+-- one number more
+pub all-more : (n : ℕ) (p : ℕ → Bool) → allBelow (n + 1) p ≡ allBelow n p & p n
+unfolding allBelow
+all-more n p = rw (add-one n)
+
 -- ---- some
 
 pub any-in : (n : ℕ) (p : ℕ → Bool) (i : ℕ) → i < n → So (p i) → So (anyBelow n p)
@@ -70,6 +76,21 @@ any-out {n = suc n} {p} a =
 
 pub any-fails : (n : ℕ) (p : ℕ → Bool) → anyBelow n p ≡ false → (i : ℕ) → i < n → p i ≡ false
 any-fails n p e i h = elim (decide (p i)) [ inl t ↦ clash (any-in n p i h t) e | inr f ↦ f ]
+
+-- it goes by the values of the test
+pub any-ext : (n : ℕ) (p q : ℕ → Bool) → ((i : ℕ) → i < n → p i ≡ q i) → anyBelow n p ≡ anyBelow n q
+unfolding anyBelow
+any-ext zero p q h = refl
+any-ext (suc n) p q h = ap₂ _or_ (any-ext n p q (λ i l. h i (omega arith))) (h n (omega arith))
+
+-- one number more
+pub any-more : (n : ℕ) (p : ℕ → Bool) → anyBelow (n + 1) p ≡ (anyBelow n p or p n)
+unfolding anyBelow
+any-more n p = rw (add-one n)
+
+-- and one that doesn't pass
+pub any-same : (n : ℕ) (p : ℕ → Bool) → p n ≡ false → anyBelow (n + 1) p ≡ anyBelow n p
+any-same n p e = any-more n p ∙ rw e (or-false (anyBelow n p))
 
 -- ---- some, from a number on
 
@@ -183,3 +204,34 @@ module _ (p : ℕ → Bool) where
 
   pub first-least : (a e i : ℕ) → a ≤ i → So (p i) → first p a e ≤ i
   first-least a e i h t = elim (decLt i (first p a e)) [ yes l ↦ clash t (first-before a e i h l) | no m ↦ omega arith ]
+
+  -- what passes, with nothing before it that does, is the first
+  pub first-is : (a e r : ℕ) → a ≤ r → r < e → So (p r) → ((j : ℕ) → a ≤ j → j < r → p j ≡ false) → first p a e ≡ r
+  first-is a e r l m t h =
+      let least = first-least a e r l t in
+      elim (decLt (first p a e) r) [
+        | yes x ↦ clash (first-passes a e (omega arith) (omega arith)) (h (first p a e) (first-ge a e) x)
+        | no y ↦ omega arith
+      ]
+
+  -- where nothing passes, the search comes to the end
+  pub first-none : (a e : ℕ) → a ≤ e → ((i : ℕ) → a ≤ i → i < e → p i ≡ false) → e ≤ first p a e
+  first-none a e h f = elim (decLt (first p a e) e) [ yes l ↦ clash (first-passes a e h l) (f (first p a e) (first-ge a e) l) | no m ↦ omega arith ]
+
+  -- a search from 0 on that finds nothing
+  pub none-found : (e : ℕ) → ltb (first p 0 e) e ≡ false → (i : ℕ) → i < e → p i ≡ false
+  none-found e f i h = first-before 0 e i (omega arith) (omega (arith, ltb-false (first p 0 e) e f))
+
+  pub found-none : (e : ℕ) → ((i : ℕ) → i < e → p i ≡ false) → ltb (first p 0 e) e ≡ false
+  found-none e f = le-ltb (first p 0 e) e (first-none 0 e (omega arith) (λ i l. f i))
+
+-- it goes by the values of the test
+
+firstOf-ext : (p q : ℕ → Bool) (f k : ℕ) → ((i : ℕ) → k ≤ i → i < k + f → p i ≡ q i) → firstOf p f k ≡ firstOf q f k
+unfolding firstOf
+firstOf-ext p q zero k h = refl
+firstOf-ext p q (suc f) k h = rw (h k (omega arith) (omega arith), firstOf-ext p q f (suc k) (λ i l m. h i (omega arith) (omega arith)))
+
+pub first-ext : (p q : ℕ → Bool) (a e : ℕ) → ((i : ℕ) → a ≤ i → i < e → p i ≡ q i) → first p a e ≡ first q a e
+unfolding first
+first-ext p q a e h = firstOf-ext p q (e - a) a (λ i l m. h i l (omega arith))

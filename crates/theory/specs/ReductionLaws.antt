@@ -13,8 +13,8 @@ use Rattle.theory.specs.Order.{order, Holds}
 use Rattle.theory.specs.OrderLaws.{order-in, order-trans, order-simulation}
 use Rattle.theory.specs.Reduction.{sameClass, classCount, classNumber, representative, quotientEdge, reducedEdge, worse, classGame, quotient, reduced, classOf}
 use Rattle.theory.specs.ClassEdges.{Enough}
-use Rattle.theory.specs.ClassLaws.{sameClass-le, sameClass-ge, sameClass-refl, classNumber-lt, representative-lt, representative-of, representative-same}
-use Rattle.theory.specs.QuotientLaws.{order-preorder, worse-out, worse-trans, quotientEdge-out, quotient-above, reduced-above, reducedEdge-quotient}
+use Rattle.theory.specs.ClassLaws.{sameClass-le, sameClass-ge, sameClass-refl, classNumber-lt, representative-of, representative-same}
+use Rattle.theory.specs.QuotientLaws.{order-preorder, rep-lt, worse-out, worse-trans, quotientEdge-out, quotient-above, reduced-above, reducedEdge-quotient}
 
 -- ---- any game of classes with enough quotient edges
 
@@ -28,15 +28,12 @@ module _ (g : Game) (E : Rel) (enough : Enough g E) where
   abbrev rep : ℕ → ℕ
   rep = representative (g .n) (order g)
 
-  rep-lt : (c : ℕ) → c < k → rep c < g .n
-  rep-lt = representative-lt (g .n) (order g) (order-preorder g)
-
   -- an edge of classes, seen from the representative: a successor in the class
   down : (c d : ℕ) → c < k → Succ K c d → (y : ℕ) × Succ g (rep c) y × So (sameClass (order g) y (rep d))
   unfolding classGame
   down c d hc s =
-      quotientEdge-out g (rep c) (rep d) (enough .is-quotient (rep c) (rep d) (s .along)) (rep c) (rep-lt c hc)
-      (sameClass-refl (g .n) (order g) (order-preorder g) (rep c) (rep-lt c hc))
+      quotientEdge-out g (rep c) (rep d) (enough .is-quotient (rep c) (rep d) (s .along)) (rep c) (rep-lt g c hc)
+      (sameClass-refl (g .n) (order g) (order-preorder g) (rep c) (rep-lt g c hc))
 
   -- a successor of the representative's, seen from the class: an edge above it, for the owner
   record Up (c x : ℕ) : Type 0 where
@@ -47,7 +44,7 @@ module _ (g : Game) (E : Rel) (enough : Enough g E) where
   up : (c x : ℕ) → c < k → Succ g (rep c) x → Up c x
   unfolding classGame
   up c x hc s =
-      let e = enough .above (rep c) x (rep-lt c hc) s in
+      let e = enough .above (rep c) x (rep-lt g c hc) s in
       let d = classNumber (g .n) (order g) (e .to) in
       let back = representative-of (g .n) (order g) (order-preorder g) (e .to) (e .inside) (e .is-lowest) in record {
         to = d;
@@ -57,18 +54,18 @@ module _ (g : Game) (E : Rel) (enough : Enough g E) where
 
   pub class-total : Total g → Total K
   unfolding classGame
-  class-total total c h = let t = total (rep c) (rep-lt c h) in let u = up c (t .0) h (t .1) in (u .to, u .edge)
+  class-total total c h = let t = total (rep c) (rep-lt g c h) in let u = up c (t .0) h (t .1) in (u .to, u .edge)
 
   -- Even's edge above x is above it; Odd's is below
   above-even : (c x : ℕ) → c < k → x < g .n → own g even (rep c) ≡ true → (u : Up c x) → So (order g x (rep (u .to)))
   unfolding classGame
   above-even c x hc hx o u =
-      order-in g hx (rep-lt (u .to) (u .edge .inside)) (rw (same-out even (g .owner (rep c)) o) (worse-out g (g .owner (rep c)) (u .above)))
+      order-in g hx (rep-lt g (u .to) (u .edge .inside)) (rw (same-out even (g .owner (rep c)) o) (worse-out g (g .owner (rep c)) (u .above)))
 
   below-odd : (c x : ℕ) → c < k → x < g .n → own g even (rep c) ≡ false → (u : Up c x) → So (order g (rep (u .to)) x)
   unfolding classGame
   below-odd c x hc hx o u =
-      order-in g (rep-lt (u .to) (u .edge .inside)) hx
+      order-in g (rep-lt g (u .to) (u .edge .inside)) hx
       (below-turn even (g .owner (rep c)) (same-fails even (g .owner (rep c)) o) (worse-out g (g .owner (rep c)) (u .above)))
 
   -- v is below the representative of c
@@ -77,10 +74,10 @@ module _ (g : Game) (E : Rel) (enough : Enough g E) where
   class-into v c hv hc t = record { equal = p .equal; moves = go (own g even v) (own g even (rep c)) refl (p .moves) }
     where
       p : Passes even g g (Holds (order g)) v (rep c)
-      p = order-simulation g v (rep c) hv (rep-lt c hc) t
+      p = order-simulation g v (rep c) hv (rep-lt g c hc) t
 
       more : (x y d : ℕ) → x < g .n → y < g .n → d < k → So (order g x y) → So (order g y (rep d)) → So (order g x (rep d))
-      more x y d hx hy hd = order-trans g x y (rep d) hx hy (rep-lt d hd)
+      more x y d hx hy hd = order-trans g x y (rep d) hx hy (rep-lt g d hd)
 
       go : (ov oc : Bool) → own g even (rep c) ≡ oc → Moves ov oc (Succ g v) (Succ g (rep c)) (Holds (order g))
           → Moves ov oc (Succ g v) (Succ K c) (λ v c. So (order g v (rep c)))
@@ -105,10 +102,10 @@ module _ (g : Game) (E : Rel) (enough : Enough g E) where
   class-from c w hc hw t = record { equal = p .equal; moves = go (own g even (rep c)) (own g even w) refl (p .moves) }
     where
       p : Passes even g g (Holds (order g)) (rep c) w
-      p = order-simulation g (rep c) w (rep-lt c hc) hw t
+      p = order-simulation g (rep c) w (rep-lt g c hc) hw t
 
       more : (d x y : ℕ) → d < k → x < g .n → y < g .n → So (order g (rep d) x) → So (order g x y) → So (order g (rep d) y)
-      more d x y hd hx hy = order-trans g (rep d) x y (rep-lt d hd) hx hy
+      more d x y hd hx hy = order-trans g (rep d) x y (rep-lt g d hd) hx hy
 
       go : (oc ow : Bool) → own g even (rep c) ≡ oc → Moves oc ow (Succ g (rep c)) (Succ g w) (Holds (order g))
           → Moves oc ow (Succ K c) (Succ g w) (λ c w. So (order g (rep c) w))

@@ -4,13 +4,13 @@ use mathlib.Core.Path.{_≡_, sym, ap, ap₂, _∙_, subst}
 use mathlib.Core.Logic.{_⊎_, inl, inr}
 use mathlib.Core.Bool.{Bool, false, not, So}
 use mathlib.Core.List.{List, [], _∷_, map}
-use Prim.Native.Nat.{ℕ, zero, suc, _+_, _*_, _/_, _%_, _-_, _<_, min}
+use Prim.Native.Nat.{ℕ, zero, suc, _+_, _*_, _-_, _<_, min}
 use native.Mathlib.Nat.{zero-add, suc-add}
 use native.Mathlib.Omega.{arith}
-use lib.Arith.{digits-lt, digits-div, digits-mod}
+use lib.Arith.{digits-lt}
 use lib.ListN.{length, getD}
 use Rattle.theory.specs.BoolsLaws.{decide, clash, not-out}
-use Rattle.theory.specs.CountLaws.{pigeonhole}
+use Rattle.theory.specs.CountLaws.{pigeonhole, digits-one}
 use Rattle.theory.specs.Game.{Player, other, Game, own, Succ}
 use Rattle.theory.specs.GameLaws.{same-other, parity-other}
 use Rattle.theory.specs.Plan.{linked, Walk, seen, Winning, Won}
@@ -110,9 +110,8 @@ module _ (a : Player) (G : Game) (len₁ : ℕ) (at₁ : ℕ → ℕ) (link₁ :
         let z = after d begin in
         let k : ℕ = d - suc b in
         let e : after (suc k) x ≡ z = sym (after-add b (suc k) begin) ∙ ap (λ (m : ℕ). after m begin) (omega arith) in
-        never-closed k x
-        (ap (λ (y : Joint). y .i) e ∙ sym (sym (digits-div (x .i) (x .j-lt)) ∙ ap (λ (m : ℕ). m / len₂) q ∙ digits-div (z .i) (z .j-lt)))
-        (ap (λ (y : Joint). y .j) e ∙ sym (sym (digits-mod (x .i) (x .j-lt)) ∙ ap (λ (m : ℕ). m % len₂) q ∙ digits-mod (z .i) (z .j-lt)))
+        let p = digits-one (x .j-lt) (z .j-lt) q in
+        never-closed k x (ap (λ (y : Joint). y .i) e ∙ sym (p .0)) (ap (λ (y : Joint). y .j) e ∙ sym (p .1))
 
     pub contradiction : ⊥
     unfolding code

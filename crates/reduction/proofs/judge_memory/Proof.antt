@@ -4,7 +4,6 @@ use mathlib.Core.Path.{sym, _∙_}
 use native.Mathlib.Omega.{arith}
 use native.Mathlib.Nat.{mul-le-mul}
 use borrow.Author.Tests.{lt-ltb, le-ltb}
-use Rattle.reduction.specs.Answers.{memoryRows}
 use borrow.Author.Needs.{needs}
 use Rattle.reduction.proofs.judge_memory.Statement.{statement}
 use Rattle.reduction.proofs.judge_memory.Tie as tie
@@ -16,27 +15,23 @@ short-requires : tie.Need-short-requires
 short-requires c κs = search needs
 
 returns : tie.Need-returns
-unfolding memoryRows
 returns c = rw (c .short .ensures) (sym (judge-hit _ _ _ (lt-ltb _ _ (c .before .if1 .taken))))
 
 short-requires-2 : tie.Need-short-requires-2
 short-requires-2 c κs = search needs
 
 returns-2 : tie.Need-returns-2
-unfolding memoryRows
 returns-2 c = rw (c .short2 .ensures) (sym (judge-next _ _ _ (le-ltb _ _ (c .before .before .if1 .left)) ∙ judge-hit _ _ _ (lt-ltb _ _ (c .before .if2 .taken))))
 
 short-requires-3 : tie.Need-short-requires-3
 short-requires-3 c κs = search needs
 
 returns-3 : tie.Need-returns-3
-unfolding memoryRows
 returns-3 c =
     rw (c .short3 .ensures)
     (sym (judge-next _ _ _ (le-ltb _ _ (c .before .before .before .if1 .left)) ∙ judge-next _ _ _ (le-ltb _ _ (c .before .before .if2 .left)) ∙ judge-hit _ _ _ (lt-ltb _ _ (c .before .if3 .taken))))
 
 returns-4 : tie.Need-returns-4
-unfolding memoryRows
 returns-4 c = sym (judge-clean _ _ (le-ltb _ _ (c .before .before .if1 .left), (le-ltb _ _ (c .before .if2 .left), (le-ltb _ _ (c .if3 .left), tt))))
 
 pub judge-memory-spec : {M : Type 1} → statement M

@@ -5,7 +5,8 @@ use native.Mathlib.Omega.{arith}
 use lib.ListN.{length}
 use Rattle.table.specs.Verdict.{judge}
 use Rattle.table.specs.Table.{vertexCount}
-use Rattle.reduction.specs.Answers.{memoryRows, memoryAnswer}
+use Rattle.reduction.specs.Calls.{memoryRows}
+use Rattle.reduction.specs.Answers.{memoryAnswer}
 use Rattle.reduction.specs.NumberingLaws.{ordered-written}
 use Rattle.reduction.specs.CallRules.{ClassesFit, TableFits}
 use Rattle.reduction.specs.CallsLaws.{memory-fits, table-short, table-output-short, table-written}

@@ -7,7 +7,8 @@ use Rattle.table.specs.WellFormed.{WellSized}
 use Rattle.table.specs.ReadingLaws.{reading-accepted}
 use Rattle.table.specs.Verdict.{judge}
 use Rattle.table.specs.Table.{vertexCount}
-use Rattle.reduction.specs.Answers.{memoryRows, memoryAnswer}
+use Rattle.reduction.specs.Calls.{memoryRows}
+use Rattle.reduction.specs.Answers.{memoryAnswer}
 use Rattle.reduction.specs.NumberingLaws.{ordered-written}
 use Rattle.reduction.specs.CallRules.{ClassesFit}
 use Rattle.reduction.specs.CallsLaws.{memory-fits, classes-handed, classes-short, classes-done}

@@ -3,7 +3,7 @@ use borrow.Author.Needs.{needs}
 use native.Mathlib.Omega.{arith}
 use Prim.Native.Nat.{_<_, _+_, _*_}
 use Rattle.plan.specs.Edges.{straysBy}
-use Rattle.plan.specs.EdgesLaws.{pair-lt}
+use Rattle.table.specs.PartsLaws.{pair-lt}
 use Rattle.plan.proofs.links.strays.Statement.{statement}
 use Rattle.plan.proofs.links.strays.Tie as tie
 

@@ -8,9 +8,9 @@ use Rattle.theory.specs.Range.{tabulate}
 use Rattle.theory.specs.Reduction.{classOf}
 use Rattle.table.specs.Table.{vertexCount, gameOf}
 use Rattle.table.specs.Verdict.{written}
+use Rattle.table.specs.VerdictLaws.{written-start, written-more}
 use Rattle.reduction.specs.Numbering.{Numbered}
 use Rattle.reduction.specs.Calls.{classWords}
-use Rattle.reduction.specs.PlacingLaws.{written-start, written-more}
 use borrow.Author.Needs.{needs}
 use Rattle.reduction.proofs.classes.number_classes.Statement.{statement}
 use Rattle.reduction.proofs.classes.number_classes.Tie as tie

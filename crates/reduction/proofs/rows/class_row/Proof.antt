@@ -3,7 +3,7 @@ use Rattle.reduction.specs.Rows.{keeps, picked, gameBy}
 use mathlib.Core.List.{List}
 use Rattle.table.specs.Verdict.{written}
 use Rattle.reduction.specs.LittleBrothersLaws.{row-all, row-few, row-inside, row-best}
-use Rattle.order.specs.CountingLaws.{zeros}
+use Rattle.theory.specs.ListLaws.{zeros}
 use lib.ListN.{length, getD}
 use Prim.Native.Nat.{ℕ, _≤_, _<_}
 use mathlib.Core.Path.{_≡_, ap, _∙_}

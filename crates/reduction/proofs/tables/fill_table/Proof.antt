@@ -2,7 +2,7 @@
 use mathlib.Core.Path.{_≡_}
 use Prim.Native.Nat.{_≤_}
 use native.Mathlib.Omega.{arith}
-use Rattle.order.specs.CountingLaws.{zeros}
+use Rattle.theory.specs.ListLaws.{zeros}
 use Rattle.table.specs.Table.{vertexCount, tableEdges, gameOf}
 use Rattle.theory.specs.Order.{order}
 use Rattle.theory.specs.QuotientLaws.{order-preorder}

@@ -5,7 +5,7 @@ use native.Mathlib.Omega.{arith}
 use lib.ListN.{length, length-set}
 use Rattle.theory.specs.Range.{tabulate}
 use Rattle.table.specs.Verdict.{written}
-use Rattle.reduction.specs.PlacingLaws.{written-start, written-more}
+use Rattle.table.specs.VerdictLaws.{written-start, written-more}
 use Rattle.theory.specs.ListLaws.{length-tabulate}
 use Rattle.report.specs.Words.{wordAt, wordsIn, wordsOf}
 use Rattle.report.specs.WordsLaws.{words-end}

@@ -5,11 +5,12 @@ use native.Mathlib.Omega.{arith}
 use lib.ListN.{length, getD, length-set}
 use borrow.Author.Needs.{needs}
 use Rattle.theory.specs.Bools.{bit}
+use Rattle.theory.specs.BoolsLaws.{bit-set, bit-clear}
 use Rattle.theory.specs.Range.{first}
 use Rattle.theory.specs.RangeLaws.{first-step, first-hit, first-end}
 use Rattle.table.specs.Reading.{repeatsEarlier, firstRepeat}
 use Rattle.table.specs.Parts.{edgeNumber, Flagged}
-use Rattle.table.specs.PartsLaws.{flagged-none, flagged-more, bit-set, bit-clear, edge-number-lt, seen-flag}
+use Rattle.table.specs.PartsLaws.{flagged-none, flagged-more, edge-number-lt, seen-flag}
 use Rattle.table.proofs.reader.first_seen.Statement.{statement}
 use Rattle.table.proofs.reader.first_seen.Tie as tie
 
