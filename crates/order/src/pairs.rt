@@ -14,12 +14,6 @@ ghost use Rattle.order.specs.Bytes.{relation};
 ghost use Rattle.order.specs.Ready.{PairReady};
 ghost use Rattle.order.specs.Search.{hasMark, searchEnds, Reaches};
 
-// A pair of vertices.
-pub struct Pair {
-    pub v: usize,
-    pub w: usize,
-}
-
 // Whether a target y of the run has the wanted mark; y's mark is byte base + y * stride.
 fn finds(marks: &[u8], targets: &[u16], ys: Run, base: usize, stride: usize, wanted: bool) -> bool
     requires { ⌜ ys .end ≤ length (now targets) ⌝ }

@@ -1,6 +1,6 @@
+// A part of this crate's calls; no host calls it.
 // The parts of the relation acceptor.
 use crate::index::build;
-use crate::pairs::Pair;
 use crate::pairs::pair_passes;
 use crate::pairs::same_priority;
 ghost use mathlib.Core.Path.{_≡_};
@@ -12,6 +12,12 @@ ghost use Rattle.order.specs.Index.{Index};
 ghost use Rattle.order.specs.Clearing.{pairCount};
 ghost use Rattle.order.specs.Ready.{PairReady};
 ghost use Rattle.order.specs.RelationCall.{fails, firstHigh, firstFailing};
+
+// A pair of vertices.
+pub struct Pair {
+    pub v: usize,
+    pub w: usize,
+}
 
 // The first of `size` bytes above 1, or `size`.
 pub fn first_high(marks: &[u8], size: usize) -> usize

@@ -6,31 +6,24 @@ use Rattle.table.specs.Table.{gameOf}
 use Rattle.order.proofs.pairs.same_priority.Statement.{statement}
 use Rattle.order.proofs.pairs.same_priority.Tie as tie
 
--- src/pairs.rt:110:18
 add-p : tie.Need-add-p
 add-p c = search needs
 
--- src/pairs.rt:110:13
 mul-p : tie.Need-mul-p
 mul-p c = search needs
 
--- src/pairs.rt:110:13
 shared-slice-read-p : tie.Need-shared-slice-read-p
 shared-slice-read-p c = search needs
 
--- src/pairs.rt:111:18
 add-q : tie.Need-add-q
 add-q c = search needs
 
--- src/pairs.rt:111:13
 mul-q : tie.Need-mul-q
 mul-q c = search needs
 
--- src/pairs.rt:111:13
 shared-slice-read-q : tie.Need-shared-slice-read-q
 shared-slice-read-q c = search needs
 
--- src/pairs.rt:105:1
 returns : tie.Need-returns
 unfolding equalPriority gameOf
 returns c = refl
