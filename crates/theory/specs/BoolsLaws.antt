@@ -1,4 +1,4 @@
--- Laws of the connectives: how a test is shown (`-in`) and used (`-out`).
+-- Laws of the connectives and of bits: how a test is shown (`-in`) and used (`-out`).
 use mathlib.Core.Path.{_≡_, refl, sym, _∙_}
 use mathlib.Core.Logic.{_⊎_, inl, inr}
 use mathlib.Core.Bool.{Bool, true, false, not, So, cond, true≢false, false≢true}
