@@ -1,6 +1,6 @@
 -- Laws of the reader: its computed rows render document 01's, so it refuses k at p exactly as that table says, and accepts exactly
 -- the well-formed tables.
-use mathlib.Core.Path.{_≡_, sym}
+use mathlib.Core.Path.{_≡_, refl, sym}
 use mathlib.Core.Logic.{_⊎_, inl, inr, _↔_, _≢_, ⊎-elim}
 use mathlib.Core.Bool.{not, So}
 use mathlib.Core.List.{List, [], _∷_, _++_}
@@ -18,7 +18,7 @@ use Rattle.table.specs.Table.{vertexCount, tableEdges, ownerAt, sourceAt
 use Rattle.table.specs.Verdict.{Row, accepted, refused, judge, Clean}
 use Rattle.table.specs.Rules.{Some, FirstRule, NoRule, no-rule, fails, Rendered, none, next}
 use Rattle.table.specs.VerdictLaws.{judge-accepted, judge-clean, judge-past, judge-stays}
-use Rattle.table.specs.RulesLaws.{renders-placed, renders-first, judge-refused, judge-refuses, clean-none, none-clean}
+use Rattle.table.specs.RulesLaws.{renders-placed, renders-first, refused-by, clean-none, none-clean}
 use Rattle.table.specs.Reading.{repeatsEarlier, lacksEdge, firstOwner, firstEnd, firstRepeat, firstLacking, gameRows, readAnswer, readingAnswer}
 use Rattle.table.specs.ReadingRules.{Repeats, Lacks, gameRules}
 use Rattle.table.specs.WellFormed.{WellFormed, WellSized}
@@ -70,7 +70,7 @@ rows-render g =
 
 pub read-refused : (g : List ℕ) (k p : ℕ) → (readAnswer g ≡ refused k p) ↔ FirstRule (gameRules g) k p
 unfolding readAnswer
-read-refused g k p = (judge-refused (rows-render g) _ k p, λ f. judge-refuses (rows-render g) f _)
+read-refused g = refused-by _ (rows-render g) refl
 
 -- ---- it accepts exactly the well-formed tables, with n and m
 
