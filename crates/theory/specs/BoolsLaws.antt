@@ -36,10 +36,6 @@ pub not-out : {b : Bool} → So (not b) → b ≡ false
 not-out {b = true} e = absurd (false≢true e)
 not-out {b = false} e = refl
 
-pub not-not : (b : Bool) → not (not b) ≡ b
-not-not true = refl
-not-not false = refl
-
 pub and-in : {a b : Bool} → So a → So b → So (a & b)
 unfolding _&_
 and-in {a = true} {b} p q = q
