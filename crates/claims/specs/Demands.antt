@@ -21,10 +21,10 @@ use Rattle.theory.specs.SizeLaws.{quotient-size, reduced-size, quotient-edges, 
 use Rattle.theory.specs.Demands as games
 use Rattle.theory.specs.AgreementLaws.{agree-winner, agree-sym}
 use Rattle.table.specs.Table.{vertexCount, tableEdges, tableLength, gameOf}
-use Rattle.table.specs.Verdict.{Answer, accepted, Clean, written}
-use Rattle.table.specs.VerdictLaws.{judge-accepted, clean-split, after-accepted, getD-written}
-use Rattle.table.specs.Reading.{gameRows, readAnswer}
-use Rattle.table.specs.ReadingLaws.{read-accepts, clean-well}
+use Rattle.table.specs.Verdict.{Answer, accepted, written}
+use Rattle.table.specs.VerdictLaws.{judge-accepted, after-accepted, getD-written}
+use Rattle.table.specs.Reading.{readAnswer}
+use Rattle.table.specs.ReadingLaws.{read-accepts}
 use Rattle.table.specs.WellFormed.{WellFormed}
 use Rattle.table.specs.TableLaws.{edges-listed, game-total}
 use Rattle.order.specs.OrderRulesLaws.{after-byte}
@@ -34,7 +34,8 @@ use Rattle.order.specs.RelationRulesLaws.{passed-below}
 use Rattle.reduction.specs.ClassTable.{tableWords}
 use Rattle.reduction.specs.ClassTableLaws.{length-tableWords, tableWords-well, tableWords-agree}
 use Rattle.reduction.specs.ListsLaws.{lists-length}
-use Rattle.reduction.specs.Calls.{classRows, tableRows, classWords, TableCall}
+use Rattle.reduction.specs.Calls.{tableRows, classWords, TableCall}
+use Rattle.reduction.specs.CallRulesLaws.{table-accepted}
 use Rattle.claims.specs.Written.{LeavesOrder, writtenTable, Faithful}
 
 -- ---- the written order: what the marks hold after a call that, by its rules, leaves the order there
@@ -80,18 +81,16 @@ module _ (K : Game → Game) (faithful : Faithful K) (game marks spare classes o
   G = gameOf game
 
   record Counts : Type 0 where
-    clean : Clean (tableRows game marks spare classes output)
     vertices : K G .n ≡ n
     edges : length (call .edges) ≡ e
 
   counts : Counts
   counts =
       let a = judge-accepted (tableRows game marks spare classes output) _ _ (sym (call .verdict) ∙ accepts) in
-      record { clean = a .0; vertices = cc (a .1); edges = cc (a .1) }
+      record { vertices = cc (a .1); edges = cc (a .1) }
 
   well : WellFormed game
-  unfolding tableRows classRows
-  well = clean-well game (clean-split (gameRows game) _ (clean-split (classRows game marks spare classes) _ (counts .clean) .0) .0)
+  well = table-accepted call _ accepts .0 .classesFit .orderFits .game
 
   table-is : writtenTable n e output′ ≡ tableWords (K G) (call .edges)
   unfolding written

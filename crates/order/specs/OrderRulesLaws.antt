@@ -1,6 +1,6 @@
 -- Laws of the order call: it refuses k at p exactly as document 01's table says, accepts exactly otherwise, and what an accepted call
 -- wrote is the order of the table's game.
-use mathlib.Core.Path.{_≡_, sym, ap, subst, _∙_}
+use mathlib.Core.Path.{_≡_, refl, sym, ap, subst, _∙_}
 use mathlib.Core.Logic.{_↔_}
 use mathlib.Core.List.{List, [], _∷_}
 use Prim.Native.Nat.{ℕ, suc, _+_, _*_, _≤_, _<_}
@@ -20,28 +20,26 @@ use Rattle.table.specs.Verdict.{Answer, accepted, refused, after}
 use Rattle.table.specs.VerdictLaws.{judge-clean, judge-accepted, getD-written, getD-written-beyond, after-accepted, after-refused, length-after, clean-append, clean-split}
 use Rattle.table.specs.Reading.{gameRows}
 use Rattle.table.specs.ReadingLaws.{rows-render, well-clean, clean-well}
-use Rattle.table.specs.Rules.{FirstRule, Rendered, none, next}
-use Rattle.table.specs.RulesLaws.{renders-placed, judge-refused, judge-refuses, rendered-append}
+use Rattle.table.specs.Rules.{FirstRule, Renders, Rendered, none, next}
+use Rattle.table.specs.RulesLaws.{renders-placed, refused-by, rendered-append}
 use Rattle.order.specs.Bytes.{bytes}
 use Rattle.order.specs.BytesLaws.{length-bytes, getD-bytes}
 use Rattle.order.specs.IndexLaws.{game-n}
-use Rattle.order.specs.OrderCall.{orderRows, orderAnswer, OrderWritten}
-use Rattle.order.specs.OrderRules.{orderRules, OrderFits}
+use Rattle.order.specs.OrderCall.{memoryRow, orderRows, orderAnswer, OrderWritten}
+use Rattle.order.specs.OrderRules.{memoryRule, orderRules, OrderFits}
 
 -- ---- refused exactly by the table
 
+pub memory-renders : (number needed : ℕ) (memory : List ℕ) → Renders (memoryRow number needed memory) (memoryRule number needed memory)
+memory-renders number needed memory = renders-placed number needed _ _ (ltb-true (length memory) needed, lt-ltb (length memory) needed)
+
 order-rows-render : (g marks spare : List ℕ) → Rendered (orderRows g marks spare) (orderRules g marks spare)
 unfolding orderRows
-order-rows-render g marks spare =
-    let size = vertexCount g * vertexCount g in
-    rendered-append (rows-render g)
-    (next (renders-placed 21 size _ _ (ltb-true (length marks) size, lt-ltb (length marks) size))
-    (next (renders-placed 22 size _ _ (ltb-true (length spare) size, lt-ltb (length spare) size))
-    none))
+order-rows-render g marks spare = rendered-append (rows-render g) (next (memory-renders 21 _ marks) (next (memory-renders 22 _ spare) none))
 
 pub order-refused : (g marks spare : List ℕ) (k p : ℕ) → (orderAnswer g marks spare ≡ refused k p) ↔ FirstRule (orderRules g marks spare) k p
 unfolding orderAnswer
-order-refused g marks spare k p = (judge-refused (order-rows-render g marks spare) _ k p, λ f. judge-refuses (order-rows-render g marks spare) f _)
+order-refused g marks spare = refused-by _ (order-rows-render g marks spare) refl
 
 -- ---- accepted exactly otherwise, with the pass count
 

@@ -1,12 +1,12 @@
 -- The pair test by searches over an index: each of document 01's four rows is one search for a successor that decides it.
 use mathlib.Core.Path.{_≡_, refl, ap, _∙_, fun-ext}
-use mathlib.Core.Bool.{Bool, true, false, not, Bool·beq}
+use mathlib.Core.Bool.{Bool, true, false, not, Bool·beq, Bool·not-not}
 use mathlib.Core.List.{List}
 use Prim.Native.Nat.{ℕ, _+_, _*_, _≤_, _<_}
 use native.Mathlib.Nat.{mul-one, add-comm, lt-of-lt-of-le}
 use lib.Arith.{digits-lt}
 use lib.ListN.{length, getD}
-use Rattle.theory.specs.BoolsLaws.{So-ext, So-not, clash, not-in, not-out, not-not, imp-fails}
+use Rattle.theory.specs.BoolsLaws.{So-ext, So-not, clash, not-in, not-out, imp-fails}
 use Rattle.theory.specs.RangeLaws.{all-fails}
 use Rattle.theory.specs.Passes.{relOf}
 use Rattle.theory.specs.Game.{even, same, Game, Succ}
@@ -56,7 +56,7 @@ module _ (G : Game) (v : ℕ) where
       (λ t. let r = allNext-fails p (not-out t) in anyNext-in G v q (r .0) (r .1) (e (r .0) ∙ not-in (r .2)))
 
   all-not : (p q : ℕ → Bool) → ((x : ℕ) → q x ≡ not (p x)) → not (anyNext G v q) ≡ allNext G v p
-  all-not p q e = ap not (any-not p q e) ∙ not-not (allNext G v p)
+  all-not p q e = ap not (any-not p q e) ∙ Bool·not-not (allNext G v p)
 
 -- ---- searches over an index
 

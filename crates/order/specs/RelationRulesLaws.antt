@@ -1,6 +1,6 @@
 -- Laws of the relation acceptor: it refuses k at p exactly as document 01's table says, passes exactly the direct simulations, and all
 -- that it passes lies in the written order.
-use mathlib.Core.Path.{_≡_, sym, subst, subst₂}
+use mathlib.Core.Path.{_≡_, refl, sym, subst, subst₂}
 use mathlib.Core.Logic.{_↔_, inl, inr}
 use mathlib.Core.Bool.{Bool, false, So}
 use mathlib.Core.List.{List, []}
@@ -27,12 +27,12 @@ use Rattle.table.specs.VerdictLaws.{judge-clean, judge-accepted, clean-append, 
 use Rattle.table.specs.Reading.{gameRows}
 use Rattle.table.specs.ReadingLaws.{rows-render, well-clean, clean-well}
 use Rattle.table.specs.Rules.{FirstRule, Rendered, none, next}
-use Rattle.table.specs.RulesLaws.{renders-placed, renders-first, judge-refused, judge-refuses, rendered-append}
+use Rattle.table.specs.RulesLaws.{renders-first, refused-by, rendered-append}
 use Rattle.table.specs.WellFormed.{WellFormed}
 use Rattle.order.specs.Bytes.{isMark, relation}
 use Rattle.order.specs.IndexLaws.{game-n}
 use Rattle.order.specs.OrderCall.{OrderWritten}
-use Rattle.order.specs.OrderRulesLaws.{order-accepted, length-marks, written-marks, marked-below, below-marked}
+use Rattle.order.specs.OrderRulesLaws.{memory-renders, order-accepted, length-marks, written-marks, marked-below, below-marked}
 use Rattle.order.specs.RelationCall.{fails, firstHigh, firstFailing, relationRows, relationAnswer}
 use Rattle.order.specs.RelationRules.{Marked, Fails, relationRules, RelationPasses}
 
@@ -78,7 +78,7 @@ unfolding relationRows firstHigh firstFailing
 relation-rows-render g marks =
     let n = vertexCount g in
     rendered-append (rows-render g)
-    (next (renders-placed 21 (n * n) _ _ (ltb-true (length marks) (n * n), lt-ltb (length marks) (n * n)))
+    (next (memory-renders 21 _ marks)
     (next
     (renders-first 9 (λ i. ltb 1 (getD marks i 0)) (λ i. 1 < getD marks i 0) 0 (n * n) (λ i. i) (omega arith)
     (λ i. (ltb-true 1 (getD marks i 0), lt-ltb 1 (getD marks i 0))))
@@ -89,7 +89,7 @@ relation-rows-render g marks =
 
 pub relation-refused : (g marks : List ℕ) (k p : ℕ) → (relationAnswer g marks ≡ refused k p) ↔ FirstRule (relationRules g marks) k p
 unfolding relationAnswer
-relation-refused g marks k p = (judge-refused (relation-rows-render g marks) _ k p, λ f. judge-refuses (relation-rows-render g marks) f _)
+relation-refused g marks = refused-by _ (relation-rows-render g marks) refl
 
 -- ---- accepted exactly if the marked pairs form a direct simulation
 

@@ -1,20 +1,17 @@
 -- Laws of the matrix of edges.
 use mathlib.Core.Path.{_≡_, ap, _∙_}
-use mathlib.Core.Bool.{Bool, cond}
 use mathlib.Core.List.{List}
-use Prim.Native.Nat.{ℕ, _+_, _*_, _≤_, _<_}
+use Prim.Native.Nat.{ℕ, _≤_, _<_}
 use native.Mathlib.Omega.{arith}
 use lib.Dec.{eqb}
 use lib.ListN.{length}
-use Rattle.theory.specs.Bools.{_&_}
-use Rattle.theory.specs.BoolsLaws.{bit-cond, bit-is-zero}
-use Rattle.theory.specs.Range.{anyBelow, first}
-use Rattle.theory.specs.RangeLaws.{any-ext, first-ext}
-use Rattle.theory.specs.CountLaws.{digits-same}
-use Rattle.table.specs.Table.{vertexCount, tableEdges, sourceAt, targetAt, isEdge, gameOf}
+use Rattle.theory.specs.BoolsLaws.{bit-is-zero}
+use Rattle.theory.specs.Range.{first}
+use Rattle.theory.specs.RangeLaws.{first-ext}
+use Rattle.table.specs.Table.{vertexCount, tableEdges, sourceAt, targetAt, gameOf}
 use Rattle.table.specs.WellFormed.{WellFormed}
 use Rattle.table.specs.Parts.{edgeNumber, Flagged}
-use Rattle.table.specs.PartsLaws.{pair-lt}
+use Rattle.table.specs.PartsLaws.{pair-lt, pair-flag}
 use Rattle.plan.specs.PlanTable.{linkCount, vertexAt, linkSource, linkTarget}
 use Rattle.plan.specs.Acceptance.{strays, firstStray}
 use Rattle.plan.specs.PlanFormed.{PlanFormed}
@@ -26,12 +23,9 @@ module _ (g : List ℕ) (well : WellFormed g) where
   edge-lt j h = pair-lt (vertexCount g) (sourceAt g j) (targetAt g j) (well .vertices) (well .sources j h) (well .targets j h)
 
   pub matrix : (edges : List ℕ) → 65536 ≤ length edges → Flagged 0 1 (edgeNumber g) (tableEdges g) edges → Matrix g edges
-  unfolding edgeNumber gameOf isEdge
+  unfolding gameOf
   matrix edges l f = record {
-    at = λ v x hv hx.
-        f .at (v * vertexCount g + x) (omega (arith, pair-lt (vertexCount g) v x (well .vertices) hv hx))
-        ∙ ap (λ (b : Bool). cond b 1 0) (any-ext (tableEdges g) _ _ (λ j h. digits-same (vertexCount g) (sourceAt g j) (targetAt g j) v x (well .targets j h) hx))
-        ∙ bit-cond (anyBelow (tableEdges g) (λ j. eqb (sourceAt g j) v & eqb (targetAt g j) x));
+    at = λ v x hv hx. pair-flag g edges (tableEdges g) (well .targets) f v x hx (omega (arith, pair-lt (vertexCount g) v x (well .vertices) hv hx));
   }
 
   pub strays-same : (w edges : List ℕ) → PlanFormed (vertexCount g) w → Matrix g edges → (k : ℕ) → k < linkCount w → straysBy edges (vertexCount g) w k ≡ strays g w k

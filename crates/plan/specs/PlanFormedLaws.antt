@@ -4,6 +4,7 @@ use mathlib.Core.Bool.{Bool, true, false}
 use mathlib.Core.List.{List}
 use Prim.Native.Nat.{ℕ, _+_, _-_, _≤_, _<_}
 use native.Mathlib.Decide.{decLt}
+use native.Mathlib.Nat.{add-sub-of-le}
 use native.Mathlib.Omega.{arith}
 use lib.Dec.{leb}
 use lib.ListN.{length, getD}
@@ -75,19 +76,16 @@ module _ (n : ℕ) (w : List ℕ) where
   unfolding firstBeyond
   good-words f = first-none (beyond n w) 2 (planLength (positionCount w) (linkCount w)) (omega arith) within
     where
-      at : (a k : ℕ) → a ≤ k → a + (k - a) ≡ k
-      at a k l = omega arith
-
       within : (k : ℕ) → 2 ≤ k → k < planLength (positionCount w) (linkCount w) → beyond n w k ≡ false
       within k a b = elim (decLt k (2 + positionCount w)) [
-        | yes l ↦ rw (← at 2 k a) (beyond-vertex (k - 2) (omega arith) ∙ lt-leb n _ (f .vertices (k - 2) (omega arith)))
+        | yes l ↦ rw (← add-sub-of-le a) (beyond-vertex (k - 2) (omega arith) ∙ lt-leb n _ (f .vertices (k - 2) (omega arith)))
         | no m ↦ elim (decLt k (2 + positionCount w + linkCount w)) [
           | yes l ↦ (
               let s = 2 + positionCount w in
-              beyond-end k (omega arith) ∙ lt-leb (positionCount w) (getD w k 0) (rw (at s k (omega arith)) at (f .sources (k - s) (omega arith))))
+              beyond-end k (omega arith) ∙ lt-leb (positionCount w) (getD w k 0) (rw (add-sub-of-le {n = k} {m = s} (omega arith)) at (f .sources (k - s) (omega arith))))
           | no u ↦ (
               let t = 2 + positionCount w + linkCount w in
-              beyond-end k (omega arith) ∙ lt-leb (positionCount w) (getD w k 0) (rw (at t k (omega arith)) at (f .targets (k - t) (omega arith))))
+              beyond-end k (omega arith) ∙ lt-leb (positionCount w) (getD w k 0) (rw (add-sub-of-le {n = k} {m = t} (omega arith)) at (f .targets (k - t) (omega arith))))
         ]
       ]
 

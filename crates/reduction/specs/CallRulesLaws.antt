@@ -5,30 +5,19 @@ use mathlib.Core.Logic.{_↔_}
 use mathlib.Core.List.{List}
 use Prim.Native.Nat.{ℕ}
 use lib.ListN.{length}
-use borrow.Author.Tests.{ltb-true, ltb-false, lt-ltb, le-ltb}
+use borrow.Author.Tests.{ltb-false, le-ltb}
 use Rattle.theory.specs.Game.{Game}
 use Rattle.table.specs.Table.{gameOf}
-use Rattle.table.specs.Verdict.{Row, Answer, accepted, refused, judge, Clean}
+use Rattle.table.specs.Verdict.{Answer, accepted, refused, judge, Clean}
 use Rattle.table.specs.VerdictLaws.{judge-clean, judge-accepted, after-refused, clean-append, clean-split}
 use Rattle.table.specs.Reading.{gameRows}
 use Rattle.table.specs.ReadingLaws.{rows-render, well-clean, clean-well}
-use Rattle.table.specs.Rules.{Rule, FirstRule, Renders, Rendered, none, next}
-use Rattle.table.specs.RulesLaws.{renders-placed, judge-refused, judge-refuses, rendered-append}
-use Rattle.order.specs.OrderCall.{memoryRow}
-use Rattle.order.specs.OrderRules.{memoryRule}
+use Rattle.table.specs.Rules.{FirstRule, Rendered, none, next}
+use Rattle.table.specs.RulesLaws.{refused-by, rendered-append}
+use Rattle.order.specs.OrderRulesLaws.{memory-renders}
 use Rattle.reduction.specs.ListsLaws.{lists-length}
 use Rattle.reduction.specs.Calls.{classRows, tableRows, ClassesCall, TableCall}
 use Rattle.reduction.specs.CallRules.{classRules, tableRules, ClassesFit, TableFits, classCounts, tableCounts}
-
--- ---- a verdict by rows that render rules
-
-memory-renders : (number needed : ℕ) (memory : List ℕ) → Renders (memoryRow number needed memory) (memoryRule number needed memory)
-memory-renders number needed memory = renders-placed number needed _ _ (ltb-true (length memory) needed, lt-ltb (length memory) needed)
-
-refused-by : {rows : List Row} {rules : List Rule} {answer : Answer} (counts : List ℕ) → Rendered rows rules → answer ≡ judge rows counts
-    → (k p : ℕ) → (answer ≡ refused k p) ↔ FirstRule rules k p
-refused-by counts render verdict k p =
-    (λ e. judge-refused render counts k p (sym verdict ∙ e), λ f. verdict ∙ judge-refuses render f counts)
 
 -- ---- the rows render the rules, and are clean exactly if the game is well formed and the memory fits
 
@@ -45,7 +34,7 @@ module _ (game marks spare classes : List ℕ) where
       clean-append (gameRows game) _ (well-clean game (f .orderFits .game))
       (le-ltb (length marks) _ (f .orderFits .marksFit), (le-ltb (length spare) _ (f .orderFits .spareFit), (le-ltb (length classes) _ (f .wordsFit), tt)))
 
-  clean-classes : Clean (classRows game marks spare classes) → ClassesFit game marks spare classes
+  pub clean-classes : Clean (classRows game marks spare classes) → ClassesFit game marks spare classes
   unfolding classRows
   clean-classes c =
       let (well, (m, (s, (w, _)))) = clean-split (gameRows game) _ c in record {

@@ -3,11 +3,11 @@ use mathlib.Core.Path.{_≡_, refl, sym, _∙_}
 use mathlib.Core.List.{List, [], _∷_, append-nil}
 use Prim.Native.Nat.{ℕ, _<_}
 use lib.ListN.{length}
-use borrow.Author.Tests.{ltb-false, lt-ltb}
+use borrow.Author.Tests.{lt-ltb}
 use Rattle.theory.specs.Game.{Game}
 use Rattle.table.specs.Table.{vertexCount, tableEdges, tableLength, gameOf}
 use Rattle.table.specs.Verdict.{Row, accepted, refused, judge, written, after}
-use Rattle.table.specs.VerdictLaws.{judge-hit, judge-clean, judge-accepted, judge-past, judge-stays}
+use Rattle.table.specs.VerdictLaws.{judge-hit, judge-clean, judge-accepted, judge-past, judge-stays, clean-append}
 use Rattle.table.specs.Reading.{gameRows, readAnswer, readingAnswer}
 use Rattle.table.specs.ReadingLaws.{reading-stays, well-clean}
 use Rattle.table.specs.WellFormed.{WellFormed}
@@ -18,7 +18,7 @@ use Rattle.order.specs.OrderCall.{memoryRow}
 use Rattle.reduction.specs.ClassTableLaws.{pairsOf-lists}
 use Rattle.reduction.specs.Calls.{memoryRows, classRows, tableRows, classTotal, classWords, ClassesCall, TableCall}
 use Rattle.reduction.specs.CallRules.{ClassesFit, TableFits}
-use Rattle.reduction.specs.CallRulesLaws.{classes-clean, table-clean}
+use Rattle.reduction.specs.CallRulesLaws.{classes-clean, clean-classes, table-clean}
 use Rattle.reduction.specs.Answers.{memoryAnswer, ascending, TableDone}
 use Rattle.reduction.specs.declared.TableCounts.{TableCounts}
 use Rattle.reduction.specs.declared.Memory.the-variants.{Enough, Short}
@@ -29,11 +29,9 @@ module _ (game marks spare classes : List ℕ) where
   memory = memoryRows (vertexCount game) (length marks) (length spare) (length classes)
 
   pub memory-fits : WellFormed game → memoryAnswer Enough ≡ judge memory [] → ClassesFit game marks spare classes
+  unfolding classRows
   memory-fits well e =
-      let c = judge-accepted memory [] [] (sym e) .0 in record {
-        orderFits = record { game = well; marksFit = ltb-false _ _ (c .0); spareFit = ltb-false _ _ (c .1 .0) };
-        wordsFit = ltb-false _ _ (c .1 .1 .0);
-      }
+      clean-classes game marks spare classes (clean-append (gameRows game) memory (well-clean game well) (judge-accepted memory [] [] (sym e) .0))
 
   -- ---- what the rows so far say, whatever counts an acceptance has
 

@@ -45,6 +45,14 @@ module _ (x y : ℕ) (index : ℕ → ℕ) where
 pub pair-lt : (n v x : ℕ) → n ≤ 256 → v < n → x < n → v * n + x < 65536
 pair-lt n v x h hv hx = omega (arith, digits-lt hv hx, mul-le-mul h h)
 
+-- after the edges below j, the flag of the pair (v, x) tells whether one of them is its edge
+pub pair-flag : (g flags : List ℕ) (j : ℕ) → ((i : ℕ) → i < j → targetAt g i < vertexCount g) → Flagged 0 1 (edgeNumber g) j flags
+    → (v x : ℕ) → x < vertexCount g → v * vertexCount g + x < length flags → getD flags (v * vertexCount g + x) 0 ≡ bit (anyBelow j (isEdge g v x))
+unfolding edgeNumber isEdge
+pair-flag g flags j targets f v x h b =
+    f .at (v * vertexCount g + x) b ∙ bit-cond _
+    ∙ ap bit (any-ext j _ _ (λ i k. digits-same (vertexCount g) (sourceAt g i) (targetAt g i) v x (targets i k) h))
+
 module _ (g : List ℕ) (n m : ℕ) (s : Sized g n m) where
   pub source-word : (j : ℕ) → getD g (2 + 2 * n + j) 0 ≡ sourceAt g j
   source-word j = rw (s .vertices)
@@ -65,10 +73,8 @@ module _ (g : List ℕ) (n m : ℕ) (s : Sized g n m) (h : EndsInside g) where
   -- the flag of edge j, after the edges before it, tells whether it repeats one of them
   pub seen-flag : (j : ℕ) (flags : List ℕ) → j < m → edgeNumber g j < length flags → Flagged 0 1 (edgeNumber g) j flags
       → getD flags (edgeNumber g j) 0 ≡ bit (repeatsEarlier g j)
-  unfolding repeatsEarlier edgeNumber isEdge
-  seen-flag j flags l b f =
-      f .at (edgeNumber g j) b ∙ bit-cond _
-      ∙ ap bit (any-ext j _ _ (λ i k. digits-same (vertexCount g) (sourceAt g i) (targetAt g i) (sourceAt g j) (targetAt g j) (h .targets i (omega arith)) (h .targets j (omega arith))))
+  unfolding repeatsEarlier edgeNumber
+  seen-flag j flags l b f = pair-flag g flags j (λ i k. h .targets i (omega arith)) f (sourceAt g j) (targetAt g j) (h .targets j (omega arith)) b
 
 -- ---- what the reader knows after its rows 4 and 6
 

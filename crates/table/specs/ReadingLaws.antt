@@ -1,11 +1,12 @@
 -- Laws of the reader: its computed rows render document 01's, so it refuses k at p exactly as that table says, and accepts exactly
 -- the well-formed tables.
-use mathlib.Core.Path.{_≡_, sym}
+use mathlib.Core.Path.{_≡_, refl, sym}
 use mathlib.Core.Logic.{_⊎_, inl, inr, _↔_, _≢_, ⊎-elim}
 use mathlib.Core.Bool.{not, So}
 use mathlib.Core.List.{List, [], _∷_, _++_}
 use Prim.Native.Nat.{ℕ, _+_, _-_, _*_, _≤_, _<_}
 use native.Mathlib.Decide.{decLt, decLe, ℕ-discrete}
+use native.Mathlib.Nat.{add-sub-of-le}
 use native.Mathlib.Omega.{arith}
 use lib.Dec.{eqb, ltb, leb}
 use lib.ListN.{length, getD}
@@ -18,7 +19,7 @@ use Rattle.table.specs.Table.{vertexCount, tableEdges, ownerAt, sourceAt
 use Rattle.table.specs.Verdict.{Row, accepted, refused, judge, Clean}
 use Rattle.table.specs.Rules.{Some, FirstRule, NoRule, no-rule, fails, Rendered, none, next}
 use Rattle.table.specs.VerdictLaws.{judge-accepted, judge-clean, judge-past, judge-stays}
-use Rattle.table.specs.RulesLaws.{renders-placed, renders-first, judge-refused, judge-refuses, clean-none, none-clean}
+use Rattle.table.specs.RulesLaws.{renders-placed, renders-first, refused-by, clean-none, none-clean}
 use Rattle.table.specs.Reading.{repeatsEarlier, lacksEdge, firstOwner, firstEnd, firstRepeat, firstLacking, gameRows, readAnswer, readingAnswer}
 use Rattle.table.specs.ReadingRules.{Repeats, Lacks, gameRules}
 use Rattle.table.specs.WellFormed.{WellFormed, WellSized}
@@ -70,7 +71,7 @@ rows-render g =
 
 pub read-refused : (g : List ℕ) (k p : ℕ) → (readAnswer g ≡ refused k p) ↔ FirstRule (gameRules g) k p
 unfolding readAnswer
-read-refused g k p = (judge-refused (rows-render g) _ k p, λ f. judge-refuses (rows-render g) f _)
+read-refused g = refused-by _ (rows-render g) refl
 
 -- ---- it accepts exactly the well-formed tables, with n and m
 
@@ -109,13 +110,10 @@ well-none g w =
     count (inl e) = omega (arith, w .some)
     count (inr l) = omega (arith, w .vertices)
 
-    at : (a k : ℕ) → a ≤ k → a + (k - a) ≡ k
-    at a k l = omega arith
-
     owner : Some (λ k. 1 < getD g k 0) (2 + vertexCount g) (2 + 2 * vertexCount g) → ⊥
     owner h =
         let k = h .0 in
-        let x = rw (at (2 + vertexCount g) k (h .1)) at (w .owners (k - (2 + vertexCount g)) (omega arith)) in
+        let x = rw (add-sub-of-le (h .1)) at (w .owners (k - (2 + vertexCount g)) (omega arith)) in
         omega arith
 
     inside : Some (λ k. vertexCount g ≤ getD g k 0) (2 + 2 * vertexCount g) (tableLength (vertexCount g) (tableEdges g)) → ⊥
@@ -124,8 +122,8 @@ well-none g w =
         let s = 2 + 2 * vertexCount g in
         let t = 2 + 2 * vertexCount g + tableEdges g in
         elim (decLt k t) [
-          | yes l ↦ (let x = rw (at s k (h .1)) at (w .sources (k - s) (omega arith)) in omega arith)
-          | no l ↦ (let x = rw (at t k (omega arith)) at (w .targets (k - t) (omega arith)) in omega arith)
+          | yes l ↦ (let x = rw (add-sub-of-le (h .1)) at (w .sources (k - s) (omega arith)) in omega arith)
+          | no l ↦ (let x = rw (add-sub-of-le {n = k} {m = t} (omega arith)) at (w .targets (k - t) (omega arith)) in omega arith)
         ]
 
 pub well-clean : (g : List ℕ) → WellFormed g → Clean (gameRows g)

@@ -10,7 +10,7 @@ use borrow.Author.Tests.{ltb-true, lt-ltb}
 use Rattle.theory.specs.BoolsLaws.{clash, So-not}
 use Rattle.theory.specs.Range.{first}
 use Rattle.theory.specs.RangeLaws.{first-ge, first-before, first-passes, first-least, first-is}
-use Rattle.table.specs.Verdict.{Row, refused, judge, Clean}
+use Rattle.table.specs.Verdict.{Row, Answer, refused, judge, Clean}
 use Rattle.table.specs.VerdictLaws.{refused-inj, not-both, judge-hit, judge-next}
 use Rattle.table.specs.Rules.{Rule, Some, First, placed, firstSuch, FirstRule, here, later, NoRule, no-rule, fails, Renders, Rendered, none, next}
 
@@ -66,6 +66,12 @@ judge-refuses (next {r = r} {rs = rs} x xs) (here {k = k} {p = p} h e a) counts 
     judge-hit r rs counts f ∙ cc (x .number ∙ e, x .place f p .1 a)
 judge-refuses (next {r = r} {rs = rs} x xs) (later m f) counts =
     judge-next r rs counts (So-not (λ h. m (x .holds .0 h))) ∙ judge-refuses xs f counts
+
+-- an answer by rows that render rules
+pub refused-by : {rows : List Row} {rules : List Rule} {answer : Answer} (counts : List ℕ) → Rendered rows rules → answer ≡ judge rows counts
+    → (k p : ℕ) → (answer ≡ refused k p) ↔ FirstRule rules k p
+refused-by counts render verdict k p =
+    (λ e. judge-refused render counts k p (sym verdict ∙ e), λ f. verdict ∙ judge-refuses render f counts)
 
 -- rows after rows render rules after rules
 pub rendered-append : {rs ss : List Row} {qs ts : List Rule} → Rendered rs qs → Rendered ss ts → Rendered (rs ++ ss) (qs ++ ts)

@@ -1,4 +1,4 @@
--- Laws of the connectives: how a test is shown (`-in`) and used (`-out`).
+-- Laws of the connectives and of bits: how a test is shown (`-in`) and used (`-out`).
 use mathlib.Core.Path.{_≡_, refl, sym, _∙_}
 use mathlib.Core.Logic.{_⊎_, inl, inr}
 use mathlib.Core.Bool.{Bool, true, false, not, So, cond, true≢false, false≢true}
@@ -35,10 +35,6 @@ not-in {b = false} e = refl
 pub not-out : {b : Bool} → So (not b) → b ≡ false
 not-out {b = true} e = absurd (false≢true e)
 not-out {b = false} e = refl
-
-pub not-not : (b : Bool) → not (not b) ≡ b
-not-not true = refl
-not-not false = refl
 
 pub and-in : {a b : Bool} → So a → So b → So (a & b)
 unfolding _&_

@@ -1,9 +1,8 @@
 -- Laws of the two players.
 use mathlib.Core.Path.{_≡_, refl, sym}
-use mathlib.Core.Bool.{false, not, So, true≢false, false≢true}
+use mathlib.Core.Bool.{false, not, So, true≢false, false≢true, Bool·not-not}
 use Prim.Native.Nat.{ℕ, _%_}
 use lib.Dec.{eqb}
-use Rattle.theory.specs.BoolsLaws.{not-not}
 use Rattle.theory.specs.Game.{Player, even, odd, other, same, parity}
 
 pub same-refl : (a : Player) → So (same a a)
@@ -37,4 +36,4 @@ same-other odd odd = refl
 pub parity-other : (a : Player) (q : ℕ) → parity (other a) q ≡ not (parity a q)
 unfolding parity other
 parity-other even q = refl
-parity-other odd q = sym (not-not (eqb (q % 2) 0))
+parity-other odd q = sym (Bool·not-not (eqb (q % 2) 0))

@@ -179,12 +179,9 @@ module _ (p : ℕ → Bool) where
       go false {r} e ih = record {
         from = omega (arith, ih .from);
         within = omega (arith, ih .within);
-        before = λ j a b. elim (decLt k j) [ yes l ↦ ih .before j l b | no m ↦ rw (at-most′ j k a m) e ];
+        before = λ j a b. elim (decLt k j) [ yes l ↦ ih .before j l b | no m ↦ rw (← at-most k j a m) e ];
         passes = λ h. ih .passes (omega arith);
       }
-        where
-          at-most′ : (j k : ℕ) → k ≤ j → ¬ (k < j) → j ≡ k
-          at-most′ j k a m = omega arith
 
   pub first-ge : (a e : ℕ) → a ≤ first p a e
   unfolding first
