@@ -10,7 +10,7 @@ use lib.Seq.{length-take-le, take-at, drop-at, drop-drop}
 use Rattle.theory.specs.Range.{tabulate}
 use Rattle.theory.specs.ListLaws.{length-tabulate, tabulate-snoc}
 use Rattle.table.specs.Verdict.{written}
-use Rattle.table.specs.VerdictLaws.{length-written, written-snoc}
+use Rattle.table.specs.VerdictLaws.{written-snoc}
 use Rattle.reduction.specs.Placing.{placed}
 
 -- from word 0 on
@@ -31,12 +31,8 @@ placed-head : (at : ℕ) (new old : List ℕ) → at ≤ length old → placed a
 unfolding written
 placed-head at new old h = rw (length-head at new old h) (head-first at new old)
 
-pub length-placed : (at : ℕ) (new old : List ℕ) → at + length new ≤ length old → length (placed at new old) ≡ length old
-length-placed at new old h =
-    rw (placed-head at new old (omega arith)) (length-written (take at old ++ new) old (omega (arith, length-head at new old (omega arith))))
-
 -- one word more
-pub placed-snoc : (at : ℕ) (new old : List ℕ) (x : ℕ) → at + length new < length old
+placed-snoc : (at : ℕ) (new old : List ℕ) (x : ℕ) → at + length new < length old
     → set (placed at new old) (at + length new) x ≡ placed at (new ++ (x ∷ [])) old
 placed-snoc at new old x h =
     let l = length-head at new old (omega arith) in
