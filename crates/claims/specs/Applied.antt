@@ -10,6 +10,7 @@ use Rattle.theory.specs.Plan.{Plan, Wins, Won}
 use Rattle.theory.specs.PlanTestLaws.{surely-wins}
 use Rattle.theory.specs.Reduction.{reduced}
 use Rattle.theory.specs.Compute.{compute}
+use Rattle.theory.specs.Examples.{classPlan}
 use Rattle.table.specs.Table.{gameOf, playerOf, isEdge}
 use Rattle.table.specs.Verdict.{Answer, accepted, judge, written, after}
 use Rattle.table.specs.Reading.{repeatsEarlier, lacksEdge, firstOwner, firstEnd, firstRepeat, firstLacking, gameRows}
@@ -66,11 +67,8 @@ callD = record {
 
 -- ---- from class 0 of the written table to vertex 5
 
-abbrev pub classPlan : Plan
-classPlan = record { vertices = 0 ∷ 2 ∷ 4 ∷ []; links = (0, 1) ∷ (1, 2) ∷ (2, 2) ∷ [] }
-
 classPlan-wins : Wins even (gameOf (5 ∷ 6 ∷ 2 ∷ 0 ∷ 0 ∷ 1 ∷ 4 ∷ 0 ∷ 0 ∷ 0 ∷ 0 ∷ 0 ∷ 0 ∷ 1 ∷ 2 ∷ 2 ∷ 3 ∷ 4 ∷ 2 ∷ 3 ∷ 3 ∷ 4 ∷ 3 ∷ 4 ∷ [])) classPlan 0
-unfolding compute gameOf playerOf isEdge
+unfolding compute gameOf playerOf isEdge classPlan
 classPlan-wins = surely-wins even _ classPlan 0 refl
 
 pub won-5 : Won even (gameOf gameD) 5
@@ -84,7 +82,7 @@ abbrev pub leftD : LeavesOrder gameD answerD (replicate 36 9) marksD
 leftD = callD .marks-after
 
 plan-0 : Wins even (gameOf gameD) classPlan 0
-unfolding compute gameOf playerOf isEdge
+unfolding compute gameOf playerOf isEdge classPlan
 plan-0 = surely-wins even _ classPlan 0 refl
 
 pub up-5 : Won even (gameOf gameD) 5

@@ -9,8 +9,8 @@ use native.Mathlib.Omega.{arith}
 use lib.Dec.{eqb}
 use lib.ListN.{length, getD, take, drop}
 use borrow.Author.Tests.{ltb-true, ltb-false, lt-ltb, le-ltb, leb-true, le-leb, eqb-true, eqb-false, eq-eqb, ne-eqb}
-use Rattle.theory.specs.BoolsLaws.{clash, So-not, not-in, not-out, or-left, or-right, or-out, imp-in, imp-out, imp-fails}
-use Rattle.theory.specs.RangeLaws.{all-in, all-out, all-fails}
+use Rattle.theory.specs.BoolsLaws.{clash, So-not, not-in, not-out, or-left, or-right, or-out, imp-out, imp-fails}
+use Rattle.theory.specs.RangeLaws.{all-out, all-fails}
 use Rattle.theory.specs.Game.{own, Succ}
 use Rattle.theory.specs.Plan.{linked}
 use Rattle.theory.specs.Returns.{WrongWalk}
@@ -89,10 +89,6 @@ answer-in w i x a = anyLink-in w i (a .position) _ (a .linked) (eq-eqb (vertexAt
 pub answers-out : (g w : List ℕ) (i : ℕ) → So (answers g w i) → (x : ℕ) → Succ (gameOf g) (vertexAt w i) x → Answered w i x
 unfolding answers gameOf
 answers-out g w i t x s = answer-out w i x (imp-out (all-out {n = vertexCount g} t .at x (s .inside)) (s .along))
-
-answers-in : (g w : List ℕ) (i : ℕ) → ((x : ℕ) → Succ (gameOf g) (vertexAt w i) x → Answered w i x) → So (answers g w i)
-unfolding answers gameOf
-answers-in g w i f = all-in (vertexCount g) _ (λ x h. imp-in (λ e. answer-in w i x (f x (record { inside = h; along = e }))))
 
 answers-fail : (g w : List ℕ) (i : ℕ) → answers g w i ≡ false → (x : ℕ) × Succ (gameOf g) (vertexAt w i) x × ¬ Answered w i x
 unfolding answers gameOf

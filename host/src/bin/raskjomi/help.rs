@@ -33,6 +33,10 @@ const GAMES: &str = "A game comes from a file, or from standard input, whose nam
                      binary. The words are: number of vertices, number of edges, priorities, owners \
                      (0 Even, 1 Odd), sources of the edges, targets of the edges.";
 
+/// The output of the commands that write a game.
+const TABLES: &str = "Text and words are game tables, which every command reads. Dot: a picture \
+                      of it, with the members of each class.";
+
 /// The commands, in the sequence of the help.
 pub const COMMANDS: [Command; 9] = [
     Command {
@@ -75,9 +79,7 @@ pub const COMMANDS: [Command; 9] = [
         name: "quotient",
         usage: "quotient [GAME] [--as text|words|dot]",
         summary: "the quotient game, a vertex for each class",
-        details:
-            "Text and words are game tables, which every command reads. Dot: a picture of it, \
-                  with the members of each class.",
+        details: TABLES,
         example: "./raskjomi quotient games/d.txt",
         files: 0..=1,
         options: AS,
@@ -87,9 +89,7 @@ pub const COMMANDS: [Command; 9] = [
         name: "reduce",
         usage: "reduce [GAME] [--as text|words|dot]",
         summary: "the reduced game: the quotient without edges that its players have no use for",
-        details:
-            "Text and words are game tables, which every command reads. Dot: a picture of it, \
-                  with the members of each class.",
+        details: TABLES,
         example: "./raskjomi reduce games/lift-doors.txt",
         files: 0..=1,
         options: AS,
