@@ -93,7 +93,7 @@ fn of_acceptance(acceptance: Acceptance) -> RaskjomiAnswer
     ensures { λ r. ⌜ r ≡ acceptFields (acceptanceAnswer acceptance) ⌝ }
 {
     match acceptance {
-        Acceptance::Accepted => accepted(0, 0, 0, 0),
+        Acceptance::Accepted(_) => accepted(0, 0, 0, 0),
         Acceptance::Refused(refusal) => refused(refusal),
     }
 }

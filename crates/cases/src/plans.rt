@@ -6,7 +6,7 @@ use table::Acceptance;
 fn accepts(name: &[u8], game: &[u16], player: u32, words: &[u16]) {
     print::text(name);
     match plan::accept_plan(game, player, words) {
-        Acceptance::Accepted => {
+        Acceptance::Accepted(_) => {
             print::accepted();
             print::end_line();
         }

@@ -5,6 +5,7 @@ mod pairs;
 mod relation;
 
 use table::Acceptance;
+use table::NoCounts;
 use table::Reading;
 use table::Refusal;
 use table::acceptor::refused;
@@ -87,5 +88,5 @@ pub fn accept_relation(game: &[u16], marks: &[u8]) -> Acceptance
     if place < size {
         return refused(10, place);
     }
-    Acceptance::Accepted
+    Acceptance::Accepted(NoCounts {})
 }

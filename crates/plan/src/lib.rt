@@ -4,6 +4,7 @@ mod links;
 mod returns;
 
 use table::Acceptance;
+use table::NoCounts;
 use table::Reading;
 use table::acceptor::refused;
 use table::refusal_of;
@@ -108,5 +109,5 @@ fn judge_indexed(
     if returning < p {
         return refused(16, returning);
     }
-    Acceptance::Accepted
+    Acceptance::Accepted(NoCounts {})
 }

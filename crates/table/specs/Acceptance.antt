@@ -5,5 +5,5 @@ use Rattle.table.specs.declared.Acceptance.{Acceptance}
 use Rattle.table.specs.declared.Acceptance.the-variants.{Accepted, Refused}
 
 abbrev pub acceptanceAnswer : Acceptance → Answer
-acceptanceAnswer Accepted = accepted []
+acceptanceAnswer (Accepted c) = accepted []
 acceptanceAnswer (Refused f) = refused (f .number) (f .place)

@@ -24,8 +24,10 @@ pub enum Reading {
 }
 
 // An acceptor's verdict has no counts.
+pub struct NoCounts {}
+
 pub enum Acceptance {
-    Accepted,
+    Accepted(NoCounts),
     Refused(Refusal),
 }
 
