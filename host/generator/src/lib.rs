@@ -12,7 +12,7 @@ mod solver;
 mod table;
 
 pub use damage::{damaged, damaged_often};
-pub use families::{chain, complete, copies, random, two_rings};
+pub use families::{chain, complete, copies, forced_ring, random, two_rings};
 pub use lcg::Lcg;
 pub use plans::{largest_plan, strategy_plan, unfolded, Plan};
 pub use relations::relation;

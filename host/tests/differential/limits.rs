@@ -102,9 +102,8 @@ fn two_rings_agree() {
 #[test]
 fn place_beyond_32_bits() {
     let length = (1usize << 32) + 5;
-    if Vec::<u16>::new().try_reserve_exact(length).is_err() {
-        return;
-    }
+    let room = Vec::<u16>::new().try_reserve_exact(length);
+    assert!(room.is_ok(), "the test needs 8 GiB of address space");
     let mut words = vec![0u16; length];
     (words[0], words[1]) = (1, 1);
     let refusal = raskjomi::read(&words).unwrap_err();

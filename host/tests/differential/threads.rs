@@ -1,4 +1,4 @@
-//! All calls at once on threads with the default stack.
+//! All calls at once on threads, and all calls with the least stack.
 
 use crate::limits::largest_cases;
 use oracle::Oracle;
@@ -6,14 +6,15 @@ use std::sync::{Arc, Barrier};
 use std::thread;
 
 /// The stack that Rust gives a thread.
-const STACK: usize = 2 * 1024 * 1024;
-const THREADS: usize = 8;
+const DEFAULT: usize = 2 * 1024 * 1024;
+/// The stack that docs/TRUST.md asks of a host's thread.
+const LEAST: usize = 256 * 1024;
 
-#[test]
-fn eight_threads_with_default_stacks_agree() {
+/// Threads with this stack make all calls, each from another one on.
+fn agree_on(threads: usize, stack: usize) {
     let cases = largest_cases().into_iter();
     let cases = cases.map(|case| (case.expected(&Oracle::exact()), case)).collect::<Vec<_>>();
-    let (cases, start) = (Arc::new(cases), Arc::new(Barrier::new(THREADS)));
+    let (cases, start) = (Arc::new(cases), Arc::new(Barrier::new(threads)));
     let spawn = |first: usize| {
         let (cases, start) = (cases.clone(), start.clone());
         let work = move || {
@@ -24,10 +25,20 @@ fn eight_threads_with_default_stacks_agree() {
                 assert_eq!(raskjomi::exports::kind(i as u32), Oracle::exact().kind(i as u32));
             }
         };
-        thread::Builder::new().stack_size(STACK).spawn(work).expect("a thread starts")
+        thread::Builder::new().stack_size(stack).spawn(work).expect("a thread starts")
     };
-    let threads: Vec<_> = (0..THREADS).map(|i| spawn(i * 5)).collect();
+    let threads: Vec<_> = (0..threads).map(|i| spawn(i * 5)).collect();
     for thread in threads {
         thread.join().expect("all calls agree");
     }
+}
+
+#[test]
+fn eight_threads_with_default_stacks_agree() {
+    agree_on(8, DEFAULT);
+}
+
+#[test]
+fn a_thread_with_the_least_stack_agrees() {
+    agree_on(1, LEAST);
 }

@@ -1,0 +1,99 @@
+//! The least stack of a thread that makes each call at the largest sizes. A call that has too little ends
+//! its process, so the program runs itself once for each size that it tries.
+#![forbid(unsafe_code)]
+
+use generator::{forced_ring, largest_plan, random, Lcg};
+use raskjomi::exports;
+use std::os::unix::process::ExitStatusExt;
+use std::process::{Command, ExitStatus, Stdio};
+use std::thread;
+
+const CALLS: [&str; 9] = [
+    "no call",
+    "kind",
+    "read",
+    "order",
+    "accept_relation",
+    "accept_plan",
+    "classes",
+    "quotient",
+    "reduce",
+];
+/// The sizes tried, in KiB: a page, the least that Rust gives a thread, and what it gives by default.
+const PAGE: usize = 4;
+const LEAST: usize = 16;
+const DEFAULT: usize = 2048;
+
+/// A call on a game of 256 vertices and 4,096 edges; its answer's number.
+fn call(name: &str) -> impl FnOnce() -> u32 + Send + 'static {
+    let name = name.to_string();
+    let game = random(&mut Lcg::new(1), 256, 4096, 2).words();
+    let (mut marks, mut spare) = (vec![0; 65536], vec![0; 65536]);
+    let (mut classes, mut output) = (vec![0; 256], vec![0; game.len()]);
+    let (plan_game, plan) = plan();
+    move || match name.as_str() {
+        "no call" => 0,
+        "kind" => exports::kind(0),
+        "read" => exports::read(&game).number,
+        "order" => exports::order(&game, &mut marks, &mut spare).number,
+        "accept_relation" => exports::accept_relation(&game, &marks).number,
+        "accept_plan" => exports::accept_plan(&plan_game, raskjomi::EVEN, &plan).number,
+        "classes" => exports::classes(&game, &mut marks, &mut spare, &mut classes).number,
+        "quotient" => {
+            exports::quotient(&game, &mut marks, &mut spare, &mut classes, &mut output).number
+        }
+        _ => exports::reduce(&game, &mut marks, &mut spare, &mut classes, &mut output).number,
+    }
+}
+
+/// Even's plan of 4,096 positions and 16,384 links, and a game of 4,096 edges in which it wins: where
+/// all vertices are Even's, edges that no link follows are harmless.
+fn plan() -> (Vec<u16>, Vec<u16>) {
+    let (ring, plan) = largest_plan(&mut Lcg::new(1));
+    let mut game = forced_ring(256, 16);
+    game.priorities = ring.priorities;
+    (game.words(), plan.words())
+}
+
+/// Makes the call on a thread with this stack, in KiB, and panics where it refuses.
+fn make(name: &str, size: usize) {
+    let thread = thread::Builder::new().stack_size(size * 1024).spawn(call(name));
+    let number = thread.expect("a thread starts").join().expect("the call returns");
+    assert_eq!(number, 0, "{name} refuses");
+}
+
+/// How a process of this program ends that makes the call with this stack.
+fn tried(name: &str, size: usize) -> ExitStatus {
+    let program = std::env::current_exe().expect("the program has a path");
+    let mut run = Command::new(program);
+    run.args([name, &size.to_string()]).stderr(Stdio::null());
+    run.status().expect("the program starts")
+}
+
+/// The least size that suffices, and the signal that ends a process with a page less.
+fn least(name: &str) -> (usize, Option<i32>) {
+    assert!(tried(name, DEFAULT).success(), "{name} fails with {DEFAULT} KiB");
+    let (mut short, mut enough) = (LEAST - PAGE, DEFAULT);
+    while enough - short > PAGE {
+        let middle = (short + enough) / 2 / PAGE * PAGE;
+        if tried(name, middle).success() {
+            enough = middle;
+        } else {
+            short = middle;
+        }
+    }
+    (enough, tried(name, short).signal())
+}
+
+fn main() {
+    let arguments: Vec<String> = std::env::args().skip(1).collect();
+    if let [name, size] = &arguments[..] {
+        return make(name, size.parse().expect("a size in KiB"));
+    }
+    println!("{:16} {:>6}  a page less", "call", "KiB");
+    for name in CALLS {
+        let (size, signal) = least(name);
+        let end = signal.map_or("returns too".into(), |signal| format!("signal {signal}"));
+        println!("{name:16} {size:>6}  {end}");
+    }
+}
