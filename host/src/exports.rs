@@ -1,5 +1,6 @@
 //! The archive's exports as they are: their declarations, and a safe function over each with
-//! slices for pointer and length. This is the one module with `unsafe` code.
+//! slices for pointer and length. This is the one module with `unsafe` code. docs/CONTRACT.md says
+//! what each export answers and leaves in the lent memory.
 //!
 //! Nothing but a test compares the declarations with the exports' source.
 #![allow(unsafe_code)]

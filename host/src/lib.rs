@@ -1,10 +1,14 @@
 //! Safe calls of a proved reducer of parity games.
 //!
+//! A game has at most 256 vertices and 4,096 edges. The lowest priority seen for ever decides a play,
+//! and even favours Even; where a tool lets the highest decide, its winners differ.
+//!
 //! A parity game is lent as a table of 16-bit words: the numbers n of vertices and m of edges, then
-//! n priorities, n owners (0 [`EVEN`], 1 [`ODD`]), m sources and m targets. The lowest priority seen
-//! for ever decides a play, and even favours Even. The library judges such tables, writes their
-//! direct simulation order, classes, quotient and reduced game, and judges foreign relations and
-//! winning plans. Every call works in memory that the caller lends, of any length and content.
+//! n priorities, n owners (0 [`EVEN`], 1 [`ODD`]), m sources and m targets. The library judges such
+//! tables, writes their direct simulation order, classes, quotient and reduced game, and judges
+//! foreign relations and winning plans. Every call works in memory that the caller lends, of any
+//! length and content. docs/CONTRACT.md in the repository has the definitions, each call's checks in
+//! order, every refusal, and what each buffer holds afterwards.
 //!
 //! ```
 //! // Three vertices with priorities 0, 1, 0 and owners Even, Even, Odd, and an edge from each to 1.

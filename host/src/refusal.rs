@@ -1,4 +1,4 @@
-//! Refusals in words.
+//! Refusals in words. Conditions and places are those of docs/CONTRACT.md, "Refusals".
 
 use crate::exports;
 use std::fmt;

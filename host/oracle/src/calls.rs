@@ -1,4 +1,4 @@
-//! The calls as a host makes them: on words and lent memory, with document 01's numbers.
+//! The calls as a host makes them: on words and lent memory, with the contract's numbers.
 
 use crate::game::Game;
 use crate::reduction::Classes;

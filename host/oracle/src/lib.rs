@@ -1,8 +1,8 @@
-//! A second implementation of every call, for tests: written from document 01, "Parity games and
-//! their direct simulation order", by its definitions, slow and plain, and sharing no code with the
-//! library that it is compared with.
+//! A second implementation of every call, for tests: written from document 01, which
+//! docs/CONTRACT.md renders, by its definitions, slow and plain, and sharing no code with the library
+//! that it is compared with.
 //!
-//! Each [`Trap`] is a misreading of document 01. An [`Oracle`] that falls for one gives the answers
+//! Each [`Trap`] is a misreading of the contract. An [`Oracle`] that falls for one gives the answers
 //! of that misreading, so a test can show that it would be noticed.
 #![forbid(unsafe_code)]
 
@@ -27,7 +27,7 @@ pub struct Oracle {
 }
 
 impl Oracle {
-    /// The answers of document 01.
+    /// The answers of the contract.
     pub fn exact() -> Oracle {
         Oracle { trap: None }
     }

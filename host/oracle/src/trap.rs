@@ -1,4 +1,4 @@
-//! Misreadings of document 01, each a switch.
+//! Misreadings of the contract (docs/CONTRACT.md), each a switch.
 
 /// One misreading. The first five are the traps that document 01 lists.
 #[derive(Clone, Copy, Debug, PartialEq, Eq)]

@@ -1,4 +1,4 @@
-//! Facts that document 01 states or implies, tried on seeded games: they tie the oracle's algorithms
+//! Facts that the contract states or implies, tried on seeded games: they tie the oracle's algorithms
 //! to the definitions.
 
 use generator::{any_game, copies, damaged, random, solve, strategy_plan, Lcg, Plan, Table};

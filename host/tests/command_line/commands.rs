@@ -154,6 +154,18 @@ fn explain_each_number() {
 }
 
 #[test]
+fn help_begins_with_what_a_newcomer_needs() {
+    let overview = run(&["--help"]).text();
+    let (first, rest) = overview.split_once("\nusage: ").expect("a usage");
+    for fact in ["256 vertices and 4,096 edges", "lowest priority seen for ever decides"] {
+        assert!(first.replace('\n', " ").contains(fact), "{first}");
+        assert!(run(&["reduce", "--help"]).text().replace('\n', " ").contains(fact), "{fact}");
+    }
+    assert!(rest.contains("docs/CONTRACT.md"), "{rest}");
+    assert!(root().join("docs/CONTRACT.md").is_file());
+}
+
+#[test]
 fn help_of_each_command_has_an_example_that_runs() {
     let overview = run(&["--help"]).text();
     assert_eq!(run(&["help"]).text(), overview);

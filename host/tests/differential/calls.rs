@@ -28,7 +28,7 @@ impl Call {
         Call::Reduce,
     ];
 
-    /// The refusals that document 01 gives the call.
+    /// The refusals that docs/CONTRACT.md gives the call.
     pub fn refusals(self) -> Vec<u32> {
         let own = match self {
             Call::Read => 0..=0,

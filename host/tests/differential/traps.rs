@@ -1,4 +1,4 @@
-//! Each misreading of document 01 is noticed, and after how many games.
+//! Each misreading of the contract is noticed, and after how many games.
 
 use crate::common::say;
 use crate::samples::cases;

@@ -25,6 +25,11 @@ pub struct Command {
 
 const AS: &[Opt] = &[Opt { name: "--as", value: Some("text, words or dot") }];
 
+/// What a newcomer has to know of every game.
+const LIMITS: &str =
+    "A game has at most 256 vertices and 4,096 edges. The lowest priority seen for ever decides, and \
+     even favours Even; where a tool says the highest, its winners differ.";
+
 /// How games are given, for every command that takes one.
 const GAMES: &str = "A game comes from a file, or from standard input, whose name is -; where the \
                      usage has [GAME], naming none means standard input, too. It is decimal text, \
@@ -32,6 +37,11 @@ const GAMES: &str = "A game comes from a file, or from standard input, whose nam
                      words, low byte first: an input with a control character other than a blank is \
                      binary. The words are: number of vertices, number of edges, priorities, owners \
                      (0 Even, 1 Odd), sources of the edges, targets of the edges.";
+
+/// Where to read on, and why a run can take long.
+const MORE: &str =
+    "docs/CONTRACT.md has the definitions, the formats and every refusal. ./raskjomi proves and \
+     builds what has changed; all of it takes 2 to 3 minutes on two idle cores.";
 
 /// The output of the commands that write a game.
 const TABLES: &str = "Text and words are game tables, which every command reads. Dot: a picture \
@@ -145,22 +155,24 @@ pub const COMMANDS: [Command; 9] = [
 /// The help of the whole program.
 pub fn overview() -> String {
     let mut text = String::from("raskjomi reduces parity games and judges plans on them\n\n");
-    text += "usage: raskjomi COMMAND ..., with COMMAND one of\n";
+    text += &wrapped(LIMITS);
+    text += "\nusage: raskjomi COMMAND ..., with COMMAND one of\n";
     for command in &COMMANDS {
         text += &format!("  {:15} {}\n", command.name, command.summary);
     }
     text += "\n`raskjomi COMMAND --help` tells more, with an example.\n";
     text + "Exit status: 0 accepted, 1 refused, 2 bad usage, an unreadable file or a bad word.\n\n"
         + &wrapped(GAMES)
+        + "\n"
+        + &wrapped(MORE)
 }
 
 /// The help of one command.
 pub fn of(command: &Command) -> String {
     let mut text = format!("usage: raskjomi {}\n\n{}\n", command.usage, command.summary);
-    for part in [command.details, if command.usage.contains("GAME") { GAMES } else { "" }] {
-        if !part.is_empty() {
-            text += &format!("\n{}", wrapped(part));
-        }
+    let of_games: &[&str] = if command.usage.contains("GAME") { &[LIMITS, GAMES] } else { &[] };
+    for part in [&[command.details], of_games].concat() {
+        text += &format!("\n{}", wrapped(part));
     }
     text + &format!("\nexample: {}\n", command.example)
 }
