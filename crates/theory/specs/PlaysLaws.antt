@@ -5,16 +5,16 @@ use mathlib.Core.Logic.{inl, inr}
 use mathlib.Core.Bool.{Bool, false, not, So, cond}
 use mathlib.Core.List.{List, [], _∷_}
 use Prim.Native.Nat.{ℕ, zero, suc, _+_, _-_, _≤_, _<_, min}
-use native.Mathlib.Nat.{not-suc-le-zero, le-antisymm}
+use native.Mathlib.Nat.{not-suc-le-zero}
 use native.Mathlib.Decide.{decLt}
 use native.Mathlib.Omega.{arith}
 use Rattle.theory.specs.BoolsLaws.{decide, clash, not-out}
 use Rattle.theory.specs.RangeLaws.{below-suc}
 use Rattle.theory.specs.Game.{Player, other, parity, Game, own, Succ}
 use Rattle.theory.specs.GameLaws.{same-other, parity-other}
-use Rattle.theory.specs.Plan.{Walk, seen, Winning}
-use Rattle.theory.specs.Returns.{In}
-use Rattle.theory.specs.WalkLaws.{seen-le, seen-ge}
+use Rattle.theory.specs.Plan.{Walk, Winning}
+use Rattle.theory.specs.Returns.{In, Return}
+use Rattle.theory.specs.ReturnsLaws.{closed-out}
 use Rattle.theory.specs.Plays.{Play, InfinitelyOften, LowestForEver, WonPlay}
 use Rattle.theory.specs.Plays.{Strategy, history, Consistent, WinningStrategy, AlongPlan}
 
@@ -52,12 +52,10 @@ module _ (link : ℕ → ℕ → Bool) (p : ℕ → ℕ) where
   segment-walk linked t (suc d) =
       (linked t, subst (λ (u : ℕ). Walk link (p (suc t)) (segment (suc t) d) (p (suc u))) (omega arith) (segment-walk linked (suc t) d))
 
-  -- what is seen on it is seen from time t on
-  segment-in : (t d k : ℕ) → In k (p t ∷ segment t d) → (u : ℕ) × (t ≤ u) × (k ≡ p u)
+  segment-in : (t d k : ℕ) → In k (segment t d) → (u : ℕ) × (t < u) × (k ≡ p u)
   unfolding segment
-  segment-in t zero k (inl e) = (t, omega arith, e)
-  segment-in t zero k (inr m) = absurd m
-  segment-in t (suc d) k (inl e) = (t, omega arith, e)
+  segment-in t zero k m = absurd m
+  segment-in t (suc d) k (inl e) = (suc t, omega arith, e)
   segment-in t (suc d) k (inr m) = let r = segment-in (suc t) d k m in (r .0, omega arith, r .2)
 
 -- ---- a play along a winning plan is won
@@ -70,39 +68,33 @@ module _ (a : Player) (G : Game) (len : ℕ) (at : ℕ → ℕ) (link : ℕ → 
   c : ℕ → ℕ
   c t = G .priority (π t)
 
-  -- between two times at one position the walk is closed, and q is its lowest priority where nothing lower is seen and it begins with q
-  twice : (t u : ℕ) → t < u → p t ≡ p u → c t ≡ q → ((r : ℕ) → t ≤ r → q ≤ c r) → So (parity a q)
-  unfolding p c
-  twice t u l e b never =
-      subst (λ (z : ℕ). So (parity a z)) (sym lowest) (win .closed (p t) ks (rw end at (segment-walk link p (run .linked) t d)))
+  see : ℕ → ℕ
+  see k = G .priority (at k)
+
+  over : (t : ℕ) → see (p t) ≡ c t
+  unfolding p c see
+  over t = ap (G .priority) (run .over t)
+
+  -- a position of priority q and of the wrong parity returns, if it is visited twice and nothing lower is seen from the first time on
+  returns : parity a q ≡ false → (t u : ℕ) → t < u → p t ≡ p u → c t ≡ q → ((r : ℕ) → t ≤ r → q ≤ c r) → Return a see link (p t)
+  unfolding p
+  returns wrong t u l e b never = record {
+    between = segment link p t d;
+    walk = rw end at (segment-walk link p (run .linked) t d);
+    above = λ k m. let r = segment-in link p t d k m in rw (r .2, over t, b, over (r .0)) (never (r .0) (omega (arith, r .1)));
+    wrong = rw (over t, b) wrong;
+  }
     where
       d : ℕ
       d = u - suc t
 
-      ks : List ℕ
-      ks = segment link p t d
-
       end : p (suc (t + d)) ≡ p t
       end = ap p (omega arith) ∙ sym e
 
-      see : ℕ → ℕ
-      see k = G .priority (at k)
-
-      over : (r : ℕ) → see (p r) ≡ c r
-      over r = ap (G .priority) (run .over r)
-
-      above : (k : ℕ) → In k (p t ∷ ks) → q ≤ see k
-      above k m = let r = segment-in link p t d k m in rw (r .2) (subst (λ (z : ℕ). q ≤ z) (sym (over (r .0))) (never (r .0) (r .1)))
-
-      lowest : q ≡ seen min see (p t) ks
-      lowest =
-          le-antisymm (seen-ge see q (p t) ks above)
-          (subst (λ (z : ℕ). seen min see (p t) ks ≤ z) (over t ∙ b) (seen-le see (p t) ks (p t) (inl refl)))
-
-  -- With the wrong parity no position could be visited twice at priority q, after the last time that anything lower is seen. There are
+  -- With the wrong parity no position of priority q could be visited twice after the last time that anything lower is seen. There are
   -- finitely many positions, so q would be seen for a last time.
   lowest-parity : LowestForEver (λ t. G .priority (π t)) q → So (parity a q)
-  unfolding p c
+  unfolding p c see
   lowest-parity low = elim (decide (parity a q)) [
     | inl t ↦ t
     | inr f ↦ absurd (finally-all q (λ r t. c t ≡ r → ⊥) lower (λ x. last f (x .0) (never (x .0) (x .1))))
@@ -114,10 +106,13 @@ module _ (a : Player) (G : Game) (len : ℕ) (at : ℕ → ℕ) (link : ℕ → 
       never : (s : ℕ) → ((t : ℕ) → s ≤ t → (r : ℕ) → r < q → c t ≡ r → ⊥) → (t : ℕ) → s ≤ t → q ≤ c t
       never s absent t h = elim (decLt (c t) q) [ yes l ↦ absurd (absent t h (c t) l refl) | no m ↦ omega arith ]
 
+      none : (i : ℕ) → Return a see link i → ⊥
+      none = closed-out a see link (win .closed)
+
       last : parity a q ≡ false → (s : ℕ) → ((t : ℕ) → s ≤ t → q ≤ c t) → ⊥
       last f s above =
           finally-all len (λ i t. p t ≡ i → c t ≡ q → ⊥)
-          (λ i l k. k (s, λ t h e b. k (suc t, λ u m e′ b′. clash (twice t u m (e ∙ sym e′) b (λ r n. above r (omega arith))) f)))
+          (λ i l k. k (s, λ t h e b. k (suc t, λ u m e′ b′. none (p t) (returns f t u m (e ∙ sym e′) b (λ r n. above r (omega arith))))))
           (λ x. low .often (x .0) (λ t h b. x .1 t h (p t) (win .source (p t) (p (suc t)) (run .linked t)) refl b))
 
 -- whichever of the links it follows
