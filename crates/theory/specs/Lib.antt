@@ -19,6 +19,7 @@ pub mod WalkLaws
 pub mod ReturnsLaws
 pub mod Plays
 pub mod PlaysLaws
+pub mod StrategyLaws
 pub mod WinnerLaws
 pub mod Transfer
 pub mod TransferLaws

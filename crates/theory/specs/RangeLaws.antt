@@ -202,6 +202,10 @@ module _ (p : ℕ → Bool) where
   pub first-least : (a e i : ℕ) → a ≤ i → So (p i) → first p a e ≤ i
   first-least a e i h t = elim (decLt i (first p a e)) [ yes l ↦ clash t (first-before a e i h l) | no m ↦ omega arith ]
 
+  -- where one passes, one is found
+  pub first-found : (e i : ℕ) → i < e → So (p i) → (first p 0 e < e) × So (p (first p 0 e))
+  first-found e i l t = let h : first p 0 e < e = omega (arith, first-least 0 e i (omega arith) t) in (h, first-passes 0 e (omega arith) h)
+
   -- what passes, with nothing before it that does, is the first
   pub first-is : (a e r : ℕ) → a ≤ r → r < e → So (p r) → ((j : ℕ) → a ≤ j → j < r → p j ≡ false) → first p a e ≡ r
   first-is a e r l m t h =
