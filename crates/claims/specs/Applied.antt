@@ -19,7 +19,7 @@ use Rattle.reduction.specs.ClassTable.{ownerWord, tableWords}
 use Rattle.reduction.specs.ClassTableLaws.{pairsOf-lists}
 use Rattle.reduction.specs.Calls.{classRows, tableRows, classTotal, classWords, TableCall}
 use Rattle.claims.specs.Written.{LeavesOrder}
-use Rattle.claims.specs.Demands.{even-up, odd-down, reduced-faithful, table-winner}
+use Rattle.claims.specs.Demands.{table-leaves-marks, even-up, odd-down, reduced-faithful, table-winner}
 
 -- D: C with vertex 5, priority 2, Even's, edge to 2
 abbrev pub gameD : List ℕ
@@ -73,20 +73,16 @@ classPlan-wins = surely-wins even _ classPlan 0 refl
 
 pub won-5 : Won even (gameOf gameD) 5
 won-5 =
-    table-winner reduced reduced-faithful gameD (replicate 36 9) (replicate 36 9) (replicate 6 9) (replicate 30 9) answerD marksD marksD classesD outputD
-    callD 5 5 6 refl even 5 (omega arith) .1 (classPlan, classPlan-wins)
+    table-winner reduced-faithful callD 5 5 6 refl even 5 (omega arith) .1 (classPlan, classPlan-wins)
 
 -- ---- from vertex 0 up to vertex 5, along byte 5 of the marks
-
-abbrev pub leftD : LeavesOrder gameD answerD (replicate 36 9) marksD
-leftD = callD .marks-after
 
 plan-0 : Wins even (gameOf gameD) classPlan 0
 unfolding compute gameOf playerOf isEdge classPlan
 plan-0 = surely-wins even _ classPlan 0 refl
 
 pub up-5 : Won even (gameOf gameD) 5
-up-5 = even-up gameD (replicate 36 9) marksD (5 ∷ 5 ∷ 6 ∷ []) answerD leftD refl 0 5 (omega arith) (omega arith) refl (classPlan, plan-0)
+up-5 = even-up (table-leaves-marks callD) (5 ∷ 5 ∷ 6 ∷ []) refl 0 5 (omega arith) (omega arith) refl (classPlan, plan-0)
 
 -- ---- a game of Odd's: 0 has the edge of 1 and one more, so 0 is below 1; from vertex 1 down to vertex 0, along byte 1
 
@@ -100,7 +96,7 @@ marksO = 1 ∷ 1 ∷ 0 ∷ 0 ∷ 0 ∷ 1 ∷ 0 ∷ 0 ∷ 0 ∷ 0 ∷ 1 ∷ 0 ∷
 -- what the order call leaves of it, computed
 pub leftO : LeavesOrder gameO (accepted (2 ∷ [])) (replicate 16 9) marksO
 unfolding compute gameOf playerOf isEdge written after bytes
-leftO = refl
+leftO = record { buffer = refl }
 
 abbrev pub oddPlan : Plan
 oddPlan = record { vertices = 1 ∷ 2 ∷ []; links = (0, 1) ∷ (1, 1) ∷ [] }
@@ -110,4 +106,4 @@ unfolding compute gameOf playerOf isEdge
 plan-1 = surely-wins odd _ oddPlan 1 refl
 
 pub down-0 : Won odd (gameOf gameO) 0
-down-0 = odd-down gameO (replicate 16 9) marksO (2 ∷ []) (accepted (2 ∷ [])) leftO refl 0 1 (omega arith) (omega arith) refl (oddPlan, plan-1)
+down-0 = odd-down leftO (2 ∷ []) refl 0 1 (omega arith) (omega arith) refl (oddPlan, plan-1)

@@ -1,23 +1,22 @@
--- Document 01, "Games to hold it against": the proved cases, in one table, established together by one computation of the
--- definitions that the promises cite.
-use mathlib.Core.Path.{_≡_, refl}
-use mathlib.Core.List.{List, [], _∷_, map}
+-- Document 01, "Games to hold it against": the proved cases, in one table, and what the library promises of their calls.
+use mathlib.Core.Path.{_≡_}
+use mathlib.Core.Logic.{_↔_}
+use mathlib.Core.List.{List, [], _∷_}
 use Prim.Native.Nat.{ℕ, _*_}
 use lib.ListN.{length, replicate}
-use Rattle.theory.specs.Range.{pairsOf}
 use Rattle.theory.specs.Game.{Game}
 use Rattle.theory.specs.Order.{orderMarks}
 use Rattle.theory.specs.Reduction.{quotient, reduced}
-use Rattle.theory.specs.Compute.{compute}
-use Rattle.table.specs.Table.{vertexCount, tableEdges, tableLength, gameOf, playerOf, isEdge}
-use Rattle.table.specs.Verdict.{Answer, accepted, refused, judge, written, after}
-use Rattle.table.specs.Reading.{repeatsEarlier, lacksEdge, firstOwner, firstEnd, firstRepeat, firstLacking, gameRows, readAnswer}
-use Rattle.order.specs.Bytes.{bytes, isMark, relation}
-use Rattle.order.specs.OrderCall.{orderRows, orderAnswer}
-use Rattle.order.specs.RelationCall.{fails, firstHigh, firstFailing, relationRows, relationAnswer}
-use Rattle.reduction.specs.ClassTable.{ownerWord, tableWords}
-use Rattle.reduction.specs.Calls.{classRows, tableRows, classTotal, classWords}
-use Rattle.plan.specs.Acceptance.{badSize, beyond, firstBeyond, strays, firstStray, anyLink, answers, lacksLink, firstLackingLink, reaches, returns, positionPriority, hasLink, returnsWrong, firstReturn, planRows, planAnswer}
+use Rattle.table.specs.Table.{vertexCount, tableEdges, tableLength, gameOf}
+use Rattle.table.specs.Verdict.{Answer, accepted, refused, judge, after}
+use Rattle.table.specs.Reading.{readAnswer}
+use Rattle.order.specs.Bytes.{bytes}
+use Rattle.order.specs.OrderCall.{orderAnswer, OrderWritten}
+use Rattle.order.specs.RelationCall.{relationAnswer}
+use Rattle.plan.specs.Acceptance.{planAnswer}
+use Rattle.reduction.specs.ClassTable.{tableWords}
+use Rattle.reduction.specs.Calls.{classRows, tableRows, classTotal, classWords, ClassesCall, TableCall}
+use Rattle.reduction.specs.Answers.{ascending}
 
 -- a call of the host, with its input; what it writes into is as long as needed, and old words are 7
 pub data Call : Type 0 where
@@ -25,50 +24,76 @@ pub data Call : Type 0 where
   writeOrder : List ℕ → Call
   acceptRelation : List ℕ → List ℕ → Call
   writeClasses : List ℕ → Call
-  writeQuotient : List ℕ → Call
-  writeReduced : List ℕ → Call
+  writeTable : (Game → Game) → List ℕ → Call
   acceptPlan : List ℕ → ℕ → List ℕ → Call
+
+-- the calls that write the table of a game of classes
+abbrev writeQuotient : List ℕ → Call
+writeQuotient = writeTable quotient
+
+abbrev writeReduced : List ℕ → Call
+writeReduced = writeTable reduced
 
 -- the answer, and each lent list that the call may write into, as it is afterwards
 pub record Outcome : Type 0 where
   pub answer : Answer
   pub words : List (List ℕ)
 
-abbrev sevens : ℕ → List ℕ
-sevens k = replicate k 7
+abbrev pub answered : Answer → List (List ℕ) → Outcome
+answered a ws = record { answer = a; words = ws }
 
-abbrev pairs : List ℕ → List ℕ
-pairs game = sevens (vertexCount game * vertexCount game)
+-- ---- what is lent: marks or spare, class words, output
 
-abbrev answers-only : Answer → Outcome
-answers-only a = record { answer = a; words = [] }
+abbrev pub lentPairs : List ℕ → List ℕ
+lentPairs game = replicate (vertexCount game * vertexCount game) 7
+
+abbrev pub lentClasses : List ℕ → List ℕ
+lentClasses game = replicate (vertexCount game) 7
+
+abbrev pub lentOutput : List ℕ → List ℕ
+lentOutput game = replicate (tableLength (vertexCount game) (tableEdges game)) 7
+
+-- ---- what the calls promise, by the records of their contracts
+
+-- as to a table, with its edges ascending: document 01 leaves their order free, and so does the promise
+pub data Promised : Call → Outcome → Type 0 where
+  reads : {game : List ℕ} {a : Answer} → a ≡ readAnswer game → Promised (read game) (answered a [])
+  orders : {game marks spare : List ℕ} {a : Answer} → OrderWritten game (lentPairs game) marks (lentPairs game) spare a
+      → Promised (writeOrder game) (answered a (marks ∷ spare ∷ []))
+  judges-relation : {game relation : List ℕ} {a : Answer} → a ≡ relationAnswer game relation
+      → Promised (acceptRelation game relation) (answered a [])
+  classifies : {game marks spare classes : List ℕ} {a : Answer}
+      → ClassesCall game (lentPairs game) (lentPairs game) (lentClasses game) a marks spare classes
+      → Promised (writeClasses game) (answered a (marks ∷ spare ∷ classes ∷ []))
+  tabulates : {K : Game → Game} {game marks spare classes output : List ℕ} {a : Answer}
+      → (call : TableCall K game (lentPairs game) (lentPairs game) (lentClasses game) (lentOutput game) a marks spare classes output)
+      → call .edges ≡ ascending (K (gameOf game)) → Promised (writeTable K game) (answered a (marks ∷ spare ∷ classes ∷ output ∷ []))
+  judges-plan : {game plan : List ℕ} {player : ℕ} {a : Answer} → a ≡ planAnswer game player plan
+      → Promised (acceptPlan game player plan) (answered a [])
+
+-- ---- the same, computed
 
 -- marks or spare after a call
 abbrev ordered : Answer → List ℕ → List ℕ
-ordered a game = after a (bytes (orderMarks (gameOf game))) (pairs game)
-
--- marks, spare, class words and the table of a game K of classes, its edges ascending
-abbrev tabulated : (Game → Game) → List ℕ → Outcome
-tabulated K game =
-    let classes = sevens (vertexCount game) in
-    let output = sevens (tableLength (vertexCount game) (tableEdges game)) in
-    let es = pairsOf (K (gameOf game) .n) (K (gameOf game) .edge) in
-    let a = judge (tableRows game (pairs game) (pairs game) classes output) (classTotal game ∷ K (gameOf game) .n ∷ length es ∷ []) in
-    record { answer = a; words = ordered a game ∷ ordered a game ∷ after a (classWords game) classes ∷ after a (tableWords (K (gameOf game)) es) output ∷ [] }
+ordered a game = after a (bytes (orderMarks (gameOf game))) (lentPairs game)
 
 abbrev pub outcome : Call → Outcome
-outcome (read game) = answers-only (readAnswer game)
+outcome (read game) = answered (readAnswer game) []
 outcome (writeOrder game) =
-    let a = orderAnswer game (pairs game) (pairs game) in
-    record { answer = a; words = ordered a game ∷ ordered a game ∷ [] }
-outcome (acceptRelation game marks) = answers-only (relationAnswer game marks)
+    let a = orderAnswer game (lentPairs game) (lentPairs game) in
+    answered a (ordered a game ∷ ordered a game ∷ [])
+outcome (acceptRelation game relation) = answered (relationAnswer game relation) []
 outcome (writeClasses game) =
-    let classes = sevens (vertexCount game) in
-    let a = judge (classRows game (pairs game) (pairs game) classes) (classTotal game ∷ []) in
-    record { answer = a; words = ordered a game ∷ ordered a game ∷ after a (classWords game) classes ∷ [] }
-outcome (writeQuotient game) = tabulated quotient game
-outcome (writeReduced game) = tabulated reduced game
-outcome (acceptPlan game player plan) = answers-only (planAnswer game player plan)
+    let a = judge (classRows game (lentPairs game) (lentPairs game) (lentClasses game)) (classTotal game ∷ []) in
+    answered a (ordered a game ∷ ordered a game ∷ after a (classWords game) (lentClasses game) ∷ [])
+outcome (writeTable K game) =
+    let es = ascending (K (gameOf game)) in
+    let counts = classTotal game ∷ K (gameOf game) .n ∷ length es ∷ [] in
+    let a = judge (tableRows game (lentPairs game) (lentPairs game) (lentClasses game) (lentOutput game)) counts in
+    answered a
+    (ordered a game ∷ ordered a game ∷ after a (classWords game) (lentClasses game)
+    ∷ after a (tableWords (K (gameOf game)) es) (lentOutput game) ∷ [])
+outcome (acceptPlan game player plan) = answered (planAnswer game player plan) []
 
 pub record Case : Type 0 where
   pub call : Call
@@ -76,11 +101,11 @@ pub record Case : Type 0 where
 
 -- a call that writes nothing
 abbrev judged : Call → Answer → Case
-judged c a = record { call = c; expected = answers-only a }
+judged c a = record { call = c; expected = answered a [] }
 
 -- a call that writes
 abbrev wrote : Call → Answer → List (List ℕ) → Case
-wrote c a ws = record { call = c; expected = record { answer = a; words = ws } }
+wrote c a ws = record { call = c; expected = answered a ws }
 
 -- ---- the games
 
@@ -157,10 +182,11 @@ cases =
     ∷ judged (acceptPlan p1 0 (1 ∷ 1 ∷ 0 ∷ 0 ∷ 0 ∷ [])) (refused 16 0)
     ∷ []
 
-pub cases-hold : map (λ (c : Case). outcome (c .call)) cases ≡ map (λ (c : Case). c .expected) cases
-unfolding compute
-    gameOf playerOf isEdge judge written after
-    readAnswer gameRows firstOwner firstEnd firstRepeat firstLacking repeatsEarlier lacksEdge
-    bytes isMark relation orderRows orderAnswer fails firstHigh firstFailing relationRows relationAnswer ownerWord tableWords classRows tableRows classTotal classWords
-    badSize beyond firstBeyond strays firstStray anyLink answers lacksLink firstLackingLink reaches returns positionPriority hasLink returnsWrong firstReturn planRows planAnswer
-cases-hold = refl
+-- ---- what the table claims: in each case the outcomes that the library promises are one, the expected
+
+abbrev pub Holds : Case → Type 0
+Holds c = (o : Outcome) → Promised (c .call) o ↔ (o ≡ c .expected)
+
+abbrev pub AllHold : List Case → Type 0
+AllHold [] = Unit
+AllHold (c ∷ cs) = Holds c × AllHold cs

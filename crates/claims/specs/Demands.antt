@@ -1,5 +1,5 @@
--- Demand 3 about what the promises name: tables that the reader accepts, marks that an accepted call leaves, relations that the acceptor
--- passes, class words and written tables. Hypotheses are only: a call accepted, a byte is 1, a vertex is below n, a plan wins.
+-- Demand 3 about what the promises name: tables that the reader accepts, the order and the classes that an accepted call leaves, relations
+-- that the acceptor passes, and written tables. Hypotheses are only: a call accepted, a byte is 1, a vertex is below n, a plan wins.
 use mathlib.Core.Path.{_≡_, sym, _∙_}
 use mathlib.Core.Logic.{_↔_}
 use mathlib.Core.Bool.{So}
@@ -27,6 +27,7 @@ use Rattle.table.specs.Reading.{readAnswer}
 use Rattle.table.specs.ReadingLaws.{read-accepts}
 use Rattle.table.specs.WellFormed.{WellFormed}
 use Rattle.table.specs.TableLaws.{edges-listed, game-total}
+use Rattle.order.specs.OrderCall.{OrderWritten}
 use Rattle.order.specs.OrderRulesLaws.{after-byte}
 use Rattle.order.specs.RelationCall.{relationAnswer}
 use Rattle.order.specs.RelationRules.{Marked}
@@ -34,18 +35,51 @@ use Rattle.order.specs.RelationRulesLaws.{passed-below}
 use Rattle.reduction.specs.ClassTable.{tableWords}
 use Rattle.reduction.specs.ClassTableLaws.{length-tableWords, tableWords-well, tableWords-agree}
 use Rattle.reduction.specs.ListsLaws.{lists-length}
-use Rattle.reduction.specs.Calls.{tableRows, classWords, TableCall}
+use Rattle.reduction.specs.Calls.{tableRows, classWords, ClassesCall, TableCall}
 use Rattle.reduction.specs.CallRulesLaws.{table-accepted}
-use Rattle.claims.specs.Written.{LeavesOrder, writtenTable, Faithful}
+use Rattle.claims.specs.Written.{LeavesOrder, LeavesClasses, writtenTable, Faithful}
 
--- ---- the written order: what the marks hold after a call that, by its rules, leaves the order there
+-- ---- which calls leave the order and the classes: a line for each call and buffer
 
-module _ (game old new counts : List ℕ) (answer : Answer) (left : LeavesOrder game answer old new) (accepts : answer ≡ accepted counts) where
+module _ {game marks marks′ spare spare′ : List ℕ} {answer : Answer} (call : OrderWritten game marks marks′ spare spare′ answer) where
+  pub order-leaves-marks : LeavesOrder game answer marks marks′
+  order-leaves-marks = record { buffer = rw (call .verdict) (call .marks) }
+
+  pub order-leaves-spare : LeavesOrder game answer spare spare′
+  order-leaves-spare = record { buffer = rw (call .verdict) (call .spare) }
+
+module _ {game marks spare classes : List ℕ} {answer : Answer} {marks′ spare′ classes′ : List ℕ}
+    (call : ClassesCall game marks spare classes answer marks′ spare′ classes′) where
+  pub classes-leaves-marks : LeavesOrder game answer marks marks′
+  classes-leaves-marks = record { buffer = call .marks-after }
+
+  pub classes-leaves-spare : LeavesOrder game answer spare spare′
+  classes-leaves-spare = record { buffer = call .spare-after }
+
+  pub classes-leaves-classes : LeavesClasses game answer classes classes′
+  classes-leaves-classes = record { words = call .classes-after }
+
+-- the quotient and the reduced game alike
+module _ {K : Game → Game} {game marks spare classes output : List ℕ} {answer : Answer} {marks′ spare′ classes′ output′ : List ℕ}
+    (call : TableCall K game marks spare classes output answer marks′ spare′ classes′ output′) where
+  pub table-leaves-marks : LeavesOrder game answer marks marks′
+  table-leaves-marks = record { buffer = call .marks-after }
+
+  pub table-leaves-spare : LeavesOrder game answer spare spare′
+  table-leaves-spare = record { buffer = call .spare-after }
+
+  pub table-leaves-classes : LeavesClasses game answer classes classes′
+  table-leaves-classes = record { words = call .classes-after }
+
+-- ---- the written order: what a buffer holds after a call that, by its rules, leaves the order there
+
+module _ {game : List ℕ} {answer : Answer} {old new : List ℕ} (left : LeavesOrder game answer old new)
+    (counts : List ℕ) (accepts : answer ≡ accepted counts) where
   -- byte v × n + w is 1 exactly if v is below w
   pub written-mark : (v w : ℕ) → v < vertexCount game → w < vertexCount game
       → (getD new (v * vertexCount game + w) 0 ≡ 1) ↔ So (order (gameOf game) v w)
   written-mark v w hv hw =
-      let e : getD new (v * vertexCount game + w) 0 ≡ bit (order (gameOf game) v w) = rw left (after-byte game old answer counts accepts v w hv hw) in
+      let e : getD new (v * vertexCount game + w) 0 ≡ bit (order (gameOf game) v w) = rw (left .buffer) (after-byte game old answer counts accepts v w hv hw) in
       (λ b. bit-out _ (sym e ∙ b), λ t. e ∙ bit-in t)
 
   -- "The written order contains every relation that the acceptor passes."
@@ -66,6 +100,17 @@ module _ (game old new counts : List ℕ) (answer : Answer) (left : LeavesOrder 
   unfolding gameOf
   odd-down v w hv hw b = games.odd-down (gameOf game) v w hv hw (written-mark v w hv hw .0 b)
 
+-- ---- the written classes: the class word of a vertex is its class
+
+pub class-word : {game : List ℕ} {answer : Answer} {old new : List ℕ} → LeavesClasses game answer old new
+    → (counts : List ℕ) → answer ≡ accepted counts
+    → (v : ℕ) → v < vertexCount game → getD new v 0 ≡ classOf (gameOf game) v
+unfolding classWords
+class-word {game} {answer} {old} left counts accepts v h =
+    rw (left .words, after-accepted (classWords game) old accepts)
+    (getD-written (classWords game) old v 0 (omega (arith, length-tabulate (vertexCount game) (classOf (gameOf game))))
+    ∙ getD-tabulate (vertexCount game) (classOf (gameOf game)) 0 v h)
+
 -- ---- written tables: of the quotient and of the reduced game alike
 
 pub quotient-faithful : Faithful quotient
@@ -74,7 +119,8 @@ quotient-faithful = record { total = quotient-total; size = quotient-size; edges
 pub reduced-faithful : Faithful reduced
 reduced-faithful = record { total = reduced-total; size = reduced-size; edges = reduced-edges; class = classOf-reduced; winner = games.reduced-winner }
 
-module _ (K : Game → Game) (faithful : Faithful K) (game marks spare classes output : List ℕ) (answer : Answer) (marks′ spare′ classes′ output′ : List ℕ)
+module _ {K : Game → Game} (faithful : Faithful K)
+    {game marks spare classes output : List ℕ} {answer : Answer} {marks′ spare′ classes′ output′ : List ℕ}
     (call : TableCall K game marks spare classes output answer marks′ spare′ classes′ output′)
     (k n e : ℕ) (accepts : answer ≡ accepted (k ∷ n ∷ e ∷ [])) where
   abbrev G : Game
@@ -124,13 +170,6 @@ module _ (K : Game → Game) (faithful : Faithful K) (game marks spare classes o
   unfolding tableWords
   table-read = read-accepts (writtenTable n e output′) table-well ∙ rw (table-is, counts .vertices, counts .edges)
 
-  class-word : (v : ℕ) → v < vertexCount game → getD classes′ v 0 ≡ classOf G v
-  unfolding classWords
-  class-word v h =
-      rw (call .classes-after, after-accepted (classWords game) classes accepts)
-      (getD-written (classWords game) classes v 0 (omega (arith, length-tabulate (vertexCount game) (classOf G)))
-      ∙ getD-tabulate (vertexCount game) (classOf G) 0 v h)
-
   -- "Each player has a winning plan from a vertex exactly when that player has one from its class in the reduced game."
   pub table-winner : (a : Player) (v : ℕ) → v < vertexCount game → Won a (gameOf game) v ↔ Won a (gameOf (writtenTable n e output′)) (getD classes′ v 0)
   table-winner a v h =
@@ -138,4 +177,4 @@ module _ (K : Game → Game) (faithful : Faithful K) (game marks spare classes o
       let back =
       agree-winner a (K G) (gameOf (tableWords (K G) (call .edges))) (agree-sym (tableWords-agree (K G) (call .edges) (call .listed))) (classOf G v)
       (faithful .class G v (vertex v h)) in
-      rw (table-is, class-word v h) (λ w. back .0 (there .0 w), λ w. there .1 (back .1 w))
+      rw (table-is, class-word (table-leaves-classes call) _ accepts v h) (λ w. back .0 (there .0 w), λ w. there .1 (back .1 w))

@@ -1,4 +1,5 @@
 pub mod Cases
+pub mod CasesLaws
 pub mod Written
 pub mod Demands
 pub mod Sentences

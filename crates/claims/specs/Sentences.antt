@@ -1,12 +1,12 @@
--- The sentences of demand 3, about slices after a call, as the promises of this crate's functions state them.
+-- The sentences of demand 3, about slices after each call that leaves the order, as the promises of this crate's functions state them.
 use mathlib.Core.Path.{_≡_}
 use mathlib.Core.Logic.{_↔_}
 use mathlib.Core.List.{List, [], _∷_}
 use Prim.Native.Nat.{ℕ, _<_}
 use lib.ListN.{getD}
-use Rattle.theory.specs.Game.{Player, even, odd}
+use Rattle.theory.specs.Game.{Player, even, odd, Game}
 use Rattle.theory.specs.Plan.{Won}
-use Rattle.theory.specs.Reduction.{reduced}
+use Rattle.theory.specs.Reduction.{classOf}
 use Rattle.table.specs.Table.{vertexCount, gameOf}
 use Rattle.table.specs.Verdict.{Answer, accepted}
 use Rattle.table.specs.Reading.{readAnswer}
@@ -14,26 +14,65 @@ use Rattle.table.specs.Acceptance.{acceptanceAnswer}
 use Rattle.order.specs.OrderCall.{orderingAnswer, OrderWritten}
 use Rattle.order.specs.RelationCall.{relationAnswer}
 use Rattle.order.specs.RelationRules.{Marked}
-use Rattle.reduction.specs.Calls.{TableCall}
+use Rattle.reduction.specs.Calls.{ClassesCall, TableCall}
 use Rattle.claims.specs.Written.{writtenTable}
 use Rattle.claims.specs.declared.Containment.{Containment}
 
--- "The written order contains every relation that the acceptor passes."
-pub record Contains (game relation oldMarks newMarks oldSpare newSpare : List ℕ) (r : Containment) : Type 0 where
+-- where the call accepts
+abbrev pub OnAcceptance : Answer → Type 0 → Type 0
+OnAcceptance answer P = (counts : List ℕ) → answer ≡ accepted counts → P
+
+-- of a buffer that holds the written order
+pub record OrderSentences (game buffer : List ℕ) : Type 0 where
+  -- "The written order contains every relation that the acceptor passes."
+  pub contains : (relation : List ℕ) → relationAnswer game relation ≡ accepted [] → (v w : ℕ) → v < vertexCount game → w < vertexCount game
+      → Marked game relation v w → Marked game buffer v w
+  -- "Where v is below w: a winning plan for Even from v gives one from w, ..
+  pub even-up : (v w : ℕ) → v < vertexCount game → w < vertexCount game → Marked game buffer v w
+      → Won even (gameOf game) v → Won even (gameOf game) w
+  -- .. a winning plan for Odd from w gives one from v."
+  pub odd-down : (v w : ℕ) → v < vertexCount game → w < vertexCount game → Marked game buffer v w
+      → Won odd (gameOf game) w → Won odd (gameOf game) v
+
+-- of class words: that of each vertex is its class
+abbrev pub ClassSentence : List ℕ → List ℕ → Type 0
+ClassSentence game classes = (v : ℕ) → v < vertexCount game → getD classes v 0 ≡ classOf (gameOf game) v
+
+-- of class words and an output that holds the table of a game of classes, n vertices and e edges
+pub record TableSentences (game classes output : List ℕ) (n e : ℕ) : Type 0 where
+  pub read : readAnswer (writtenTable n e output) ≡ accepted (n ∷ e ∷ [])
+  -- "Each player has a winning plan from a vertex exactly when that player has one from its class in the reduced game."
+  pub winner : (a : Player) (v : ℕ) → v < vertexCount game
+      → Won a (gameOf game) v ↔ Won a (gameOf (writtenTable n e output)) (getD classes v 0)
+
+-- ---- what holds after each call
+
+-- the order call
+pub record Orders (game marks marks′ spare spare′ : List ℕ) (answer : Answer) : Type 0 where
+  pub call : OrderWritten game marks marks′ spare spare′ answer
+  pub marks-order : OnAcceptance answer (OrderSentences game marks′)
+  pub spare-order : OnAcceptance answer (OrderSentences game spare′)
+
+-- the classes call
+pub record Classifies (game marks spare classes : List ℕ) (answer : Answer) (marks′ spare′ classes′ : List ℕ) : Type 0 where
+  pub call : ClassesCall game marks spare classes answer marks′ spare′ classes′
+  pub marks-order : OnAcceptance answer (OrderSentences game marks′)
+  pub spare-order : OnAcceptance answer (OrderSentences game spare′)
+  pub classes-words : OnAcceptance answer (ClassSentence game classes′)
+
+-- a call that writes the game K of classes: the quotient or the reduced game
+pub record Tabulates (K : Game → Game) (game marks spare classes output : List ℕ) (answer : Answer)
+    (marks′ spare′ classes′ output′ : List ℕ) : Type 0 where
+  pub call : TableCall K game marks spare classes output answer marks′ spare′ classes′ output′
+  pub marks-order : OnAcceptance answer (OrderSentences game marks′)
+  pub spare-order : OnAcceptance answer (OrderSentences game spare′)
+  pub classes-words : OnAcceptance answer (ClassSentence game classes′)
+  pub output-table : (k n e : ℕ) → answer ≡ accepted (k ∷ n ∷ e ∷ []) → TableSentences game classes′ output′ n e
+
+-- the relation acceptor and then the order call, with the verdicts of both
+pub record Contains (game relation marks marks′ spare spare′ : List ℕ) (r : Containment) : Type 0 where
   pub judged : acceptanceAnswer (r .relation) ≡ relationAnswer game relation
-  pub written : OrderWritten game oldMarks newMarks oldSpare newSpare (orderingAnswer (r .order))
-  pub sentence : acceptanceAnswer (r .relation) ≡ accepted [] → (counts : List ℕ) → orderingAnswer (r .order) ≡ accepted counts
-      → (v w : ℕ) → v < vertexCount game → w < vertexCount game → Marked game relation v w → Marked game newMarks v w
-
--- "Where v is below w: a winning plan for Even from v gives one from w, a winning plan for Odd from w gives one from v."
-pub record Transfers (game oldMarks newMarks oldSpare newSpare : List ℕ) (answer : Answer) : Type 0 where
-  pub written : OrderWritten game oldMarks newMarks oldSpare newSpare answer
-  pub sentence : (counts : List ℕ) → answer ≡ accepted counts → (v w : ℕ) → v < vertexCount game → w < vertexCount game → Marked game newMarks v w
-      → (Won even (gameOf game) v → Won even (gameOf game) w) × (Won odd (gameOf game) w → Won odd (gameOf game) v)
-
--- "Each player has a winning plan from a vertex exactly when that player has one from its class in the reduced game."
-pub record Reduces (game marks spare classes output : List ℕ) (answer : Answer) (marks′ spare′ classes′ output′ : List ℕ) : Type 0 where
-  pub call : TableCall reduced game marks spare classes output answer marks′ spare′ classes′ output′
-  pub accepted-table : (k n e : ℕ) → answer ≡ accepted (k ∷ n ∷ e ∷ []) → readAnswer (writtenTable n e output′) ≡ accepted (n ∷ e ∷ [])
-  pub sentence : (k n e : ℕ) → answer ≡ accepted (k ∷ n ∷ e ∷ []) → (a : Player) (v : ℕ) → v < vertexCount game
-      → Won a (gameOf game) v ↔ Won a (gameOf (writtenTable n e output′)) (getD classes′ v 0)
+  pub order : Orders game marks marks′ spare spare′ (orderingAnswer (r .order))
+  pub sentence : acceptanceAnswer (r .relation) ≡ accepted []
+      → OnAcceptance (orderingAnswer (r .order))
+      ((v w : ℕ) → v < vertexCount game → w < vertexCount game → Marked game relation v w → Marked game marks′ v w)

@@ -2,41 +2,60 @@
 use mathlib.Core.Path.{_≡_, sym, _∙_}
 use mathlib.Core.List.{List}
 use Prim.Native.Nat.{ℕ}
-use Rattle.theory.specs.Reduction.{reduced}
-use Rattle.table.specs.Verdict.{Answer, accepted}
+use Rattle.theory.specs.Game.{Game}
+use Rattle.table.specs.Verdict.{Answer}
 use Rattle.table.specs.Acceptance.{acceptanceAnswer}
-use Rattle.order.specs.OrderCall.{orderAnswer, orderingAnswer, OrderWritten}
+use Rattle.order.specs.OrderCall.{orderingAnswer, OrderWritten}
 use Rattle.order.specs.RelationCall.{relationAnswer}
-use Rattle.reduction.specs.Calls.{TableCall}
+use Rattle.reduction.specs.Calls.{ClassesCall, TableCall}
+use Rattle.claims.specs.Written.{LeavesOrder, Faithful}
 use Rattle.claims.specs.Demands as demands
-use Rattle.claims.specs.Sentences.{Contains, Transfers, Reduces}
+use Rattle.claims.specs.Sentences.{OnAcceptance, OrderSentences, Orders, Classifies, Tabulates, Contains}
 use Rattle.claims.specs.declared.Containment.{Containment}
 
-pub contains : (game relation oldMarks newMarks oldSpare newSpare : List ℕ) (r : Containment)
-    → acceptanceAnswer (r .relation) ≡ relationAnswer game relation → OrderWritten game oldMarks newMarks oldSpare newSpare (orderingAnswer (r .order))
-    → Contains game relation oldMarks newMarks oldSpare newSpare r
-contains game relation oldMarks newMarks oldSpare newSpare r j w = record {
-  judged = j;
-  written = w;
-  sentence = λ p counts e.
-      demands.contains game oldMarks newMarks counts (orderAnswer game oldMarks oldSpare) (w .marks) (sym (w .verdict) ∙ e) relation (sym j ∙ p);
+-- wherever a call leaves the order
+pub order-sentences : {game : List ℕ} {answer : Answer} {old new : List ℕ} → LeavesOrder game answer old new
+    → OnAcceptance answer (OrderSentences game new)
+order-sentences left counts e = record {
+  contains = demands.contains left counts e;
+  even-up = demands.even-up left counts e;
+  odd-down = demands.odd-down left counts e;
 }
 
-pub transfers : (game oldMarks newMarks oldSpare newSpare : List ℕ) (answer : Answer) → OrderWritten game oldMarks newMarks oldSpare newSpare answer
-    → Transfers game oldMarks newMarks oldSpare newSpare answer
-transfers game oldMarks newMarks oldSpare newSpare answer w = record {
-  written = w;
-  sentence = λ counts e v w′ hv hw m.
-      let a = orderAnswer game oldMarks oldSpare in
-      let yes′ : a ≡ accepted counts = sym (w .verdict) ∙ e in
-      (demands.even-up game oldMarks newMarks counts a (w .marks) yes′ v w′ hv hw m, demands.odd-down game oldMarks newMarks counts a (w .marks) yes′ v w′ hv hw m);
-}
-
-pub reduces : (game marks spare classes output : List ℕ) (answer : Answer) (marks′ spare′ classes′ output′ : List ℕ)
-    → TableCall reduced game marks spare classes output answer marks′ spare′ classes′ output′
-    → Reduces game marks spare classes output answer marks′ spare′ classes′ output′
-reduces game marks spare classes output answer marks′ spare′ classes′ output′ call = record {
+pub orders : {game marks marks′ spare spare′ : List ℕ} {answer : Answer} → OrderWritten game marks marks′ spare spare′ answer
+    → Orders game marks marks′ spare spare′ answer
+orders call = record {
   call = call;
-  accepted-table = demands.table-read reduced demands.reduced-faithful game marks spare classes output answer marks′ spare′ classes′ output′ call;
-  sentence = demands.table-winner reduced demands.reduced-faithful game marks spare classes output answer marks′ spare′ classes′ output′ call;
+  marks-order = order-sentences (demands.order-leaves-marks call);
+  spare-order = order-sentences (demands.order-leaves-spare call);
+}
+
+pub classifies : {game marks spare classes : List ℕ} {answer : Answer} {marks′ spare′ classes′ : List ℕ}
+    → ClassesCall game marks spare classes answer marks′ spare′ classes′ → Classifies game marks spare classes answer marks′ spare′ classes′
+classifies call = record {
+  call = call;
+  marks-order = order-sentences (demands.classes-leaves-marks call);
+  spare-order = order-sentences (demands.classes-leaves-spare call);
+  classes-words = demands.class-word (demands.classes-leaves-classes call);
+}
+
+pub tabulates : {K : Game → Game} → Faithful K
+    → {game marks spare classes output : List ℕ} {answer : Answer} {marks′ spare′ classes′ output′ : List ℕ}
+    → TableCall K game marks spare classes output answer marks′ spare′ classes′ output′
+    → Tabulates K game marks spare classes output answer marks′ spare′ classes′ output′
+tabulates faithful call = record {
+  call = call;
+  marks-order = order-sentences (demands.table-leaves-marks call);
+  spare-order = order-sentences (demands.table-leaves-spare call);
+  classes-words = demands.class-word (demands.table-leaves-classes call);
+  output-table = λ k n e a. record { read = demands.table-read faithful call k n e a; winner = demands.table-winner faithful call k n e a };
+}
+
+pub contains : {game relation marks marks′ spare spare′ : List ℕ} {r : Containment}
+    → acceptanceAnswer (r .relation) ≡ relationAnswer game relation
+    → OrderWritten game marks marks′ spare spare′ (orderingAnswer (r .order)) → Contains game relation marks marks′ spare spare′ r
+contains judged call = record {
+  judged = judged;
+  order = orders call;
+  sentence = λ p counts e. order-sentences (demands.order-leaves-marks call) counts e .contains _ (sym judged ∙ p);
 }

@@ -11,10 +11,16 @@ use Rattle.theory.specs.Reduction.{classOf}
 use Rattle.table.specs.Table.{tableLength, gameOf}
 use Rattle.table.specs.Verdict.{Answer, after}
 use Rattle.order.specs.Bytes.{bytes}
+use Rattle.reduction.specs.Calls.{classWords}
 
--- the marks buffer, old before the call and new after it, holds the order where the call accepts
-abbrev pub LeavesOrder : List ℕ → Answer → List ℕ → List ℕ → Type 0
-LeavesOrder game answer old new = new ≡ after answer (bytes (orderMarks (gameOf game))) old
+-- a call with this answer leaves the order in a buffer that was old before it and is new after it: where it accepts, the order stands
+-- there, with old content beyond; a refused call writes none
+pub record LeavesOrder (game : List ℕ) (answer : Answer) (old new : List ℕ) : Type 0 where
+  pub buffer : new ≡ after answer (bytes (orderMarks (gameOf game))) old
+
+-- likewise the class of each vertex, in class words
+pub record LeavesClasses (game : List ℕ) (answer : Answer) (old new : List ℕ) : Type 0 where
+  pub words : new ≡ after answer (classWords game) old
 
 -- the written table: as many words of the output as the verdict's counts, n vertices and e edges, tell
 abbrev pub writtenTable : ℕ → ℕ → List ℕ → List ℕ

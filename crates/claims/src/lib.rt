@@ -1,11 +1,13 @@
-// What is claimed of the library. A function for each sentence of demand 3: it calls the library, and its promise is that sentence about
-// the slices after the call, proved from the library's contracts alone.
+// What is claimed of the library. A function for each call that leaves the order: it makes the call, and its promise is what demand 3 says
+// of the slices after it, proved from the library's contracts alone.
 use order::Ordering;
+use reduction::Classification;
 use reduction::Tabulation;
 use table::Acceptance;
+ghost use Rattle.theory.specs.Reduction.{quotient, reduced};
 ghost use Rattle.order.specs.OrderCall.{orderingAnswer};
-ghost use Rattle.reduction.specs.Answers.{tabulationAnswer};
-ghost use Rattle.claims.specs.Sentences.{Contains, Transfers, Reduces};
+ghost use Rattle.reduction.specs.Answers.{classificationAnswer, tabulationAnswer};
+ghost use Rattle.claims.specs.Sentences.{Orders, Classifies, Tabulates, Contains};
 
 // The verdicts of the two calls.
 pub struct Containment {
@@ -26,10 +28,35 @@ pub fn contains(game: &[u16], relation: &[u8], marks: &mut [u8], spare: &mut [u8
 }
 
 // Writes the order.
-pub fn transfers(game: &[u16], marks: &mut [u8], spare: &mut [u8]) -> Ordering
-    ensures { λ r. ⌜ Transfers (now (game .entry)) (now (marks .entry)) (now (marks .exit)) (now (spare .entry)) (now (spare .exit)) (orderingAnswer r) ⌝ }
+pub fn orders(game: &[u16], marks: &mut [u8], spare: &mut [u8]) -> Ordering
+    ensures { λ r. ⌜ Orders (now (game .entry)) (now (marks .entry)) (now (marks .exit)) (now (spare .entry)) (now (spare .exit)) (orderingAnswer r) ⌝ }
 {
     order::write_order(game, marks, spare)
+}
+
+// Writes the classes.
+pub fn classifies(
+    game: &[u16],
+    marks: &mut [u8],
+    spare: &mut [u8],
+    classes: &mut [u16],
+) -> Classification
+    ensures { λ r. ⌜ Classifies (now (game .entry)) (now (marks .entry)) (now (spare .entry)) (now (classes .entry)) (classificationAnswer r) (now (marks .exit)) (now (spare .exit)) (now (classes .exit)) ⌝ }
+{
+    reduction::write_classes(game, marks, spare, classes)
+}
+
+// Writes the quotient game.
+pub fn quotients(
+    game: &[u16],
+    marks: &mut [u8],
+    spare: &mut [u8],
+    classes: &mut [u16],
+    output: &mut [u16],
+) -> Tabulation
+    ensures { λ r. ⌜ Tabulates quotient (now (game .entry)) (now (marks .entry)) (now (spare .entry)) (now (classes .entry)) (now (output .entry)) (tabulationAnswer r) (now (marks .exit)) (now (spare .exit)) (now (classes .exit)) (now (output .exit)) ⌝ }
+{
+    reduction::write_quotient(game, marks, spare, classes, output)
 }
 
 // Writes the reduced game.
@@ -40,7 +67,7 @@ pub fn reduces(
     classes: &mut [u16],
     output: &mut [u16],
 ) -> Tabulation
-    ensures { λ r. ⌜ Reduces (now (game .entry)) (now (marks .entry)) (now (spare .entry)) (now (classes .entry)) (now (output .entry)) (tabulationAnswer r) (now (marks .exit)) (now (spare .exit)) (now (classes .exit)) (now (output .exit)) ⌝ }
+    ensures { λ r. ⌜ Tabulates reduced (now (game .entry)) (now (marks .entry)) (now (spare .entry)) (now (classes .entry)) (now (output .entry)) (tabulationAnswer r) (now (marks .exit)) (now (spare .exit)) (now (classes .exit)) (now (output .exit)) ⌝ }
 {
     reduction::write_reduced(game, marks, spare, classes, output)
 }

@@ -17,7 +17,7 @@ same-length-2 : tie.Need-same-length-2
 same-length-2 c = search needs
 
 returns : tie.Need-returns
-returns c = laws.contains _ _ _ _ _ _ _ (c .before .before .before .before .before .before .before .accept-relation .ensures) (c .before .before .before .before .write-order .ensures)
+returns c = laws.contains (c .before .before .before .before .before .before .before .accept-relation .ensures) (c .before .before .before .before .write-order .ensures)
 
 pub contains-spec : {M : Type 1} → statement M
 contains-spec =

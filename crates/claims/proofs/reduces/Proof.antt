@@ -1,5 +1,6 @@
--- The sentence follows from what the call promises.
+-- The sentences follow from what the call promises.
 use Rattle.claims.specs.SentencesLaws as laws
+use Rattle.claims.specs.Demands.{reduced-faithful}
 use borrow.Author.Needs.{needs}
 use Rattle.claims.proofs.reduces.Statement.{statement}
 use Rattle.claims.proofs.reduces.Tie as tie
@@ -20,9 +21,7 @@ same-length-4 : tie.Need-same-length-4
 same-length-4 c = search needs
 
 returns : tie.Need-returns
-returns c = laws.reduces _ _ _ _ _ _ _ _ _ _ (c .before .before .before .before .before .before .before .before .write-reduced .ensures)
+returns c = laws.tabulates reduced-faithful (c .before .before .before .before .before .before .before .before .write-reduced .ensures)
 
 pub reduces-spec : {M : Type 1} → statement M
-reduces-spec =
-    tie.close
-    (tie.spec write-reduced-requires same-length same-length-2 same-length-3 same-length-4 returns)
+reduces-spec = tie.close (tie.spec write-reduced-requires same-length same-length-2 same-length-3 same-length-4 returns)

@@ -1,0 +1,93 @@
+-- The table of cases holds: one computation establishes it, of the definitions that the promises cite, and what the library promises of a
+-- call is what is computed.
+use mathlib.Core.Path.{_≡_, refl, sym, ap, subst, _∙_}
+use mathlib.Core.List.{List, [], _∷_, map}
+use Prim.Native.Nat.{ℕ}
+use lib.ListN.{length}
+use Rattle.theory.specs.Game.{Game}
+use Rattle.theory.specs.Compute.{compute}
+use Rattle.table.specs.Table.{gameOf, playerOf, isEdge}
+use Rattle.table.specs.Verdict.{Answer, judge, written, after}
+use Rattle.table.specs.Reading.{repeatsEarlier, lacksEdge, firstOwner, firstEnd, firstRepeat, firstLacking, gameRows, readAnswer}
+use Rattle.order.specs.Bytes.{bytes, isMark, relation}
+use Rattle.order.specs.OrderCall.{orderRows, orderAnswer, OrderWritten}
+use Rattle.order.specs.RelationCall.{fails, firstHigh, firstFailing, relationRows, relationAnswer}
+use Rattle.plan.specs.Acceptance.{badSize, beyond, firstBeyond, strays, firstStray, anyLink, answers, lacksLink, firstLackingLink, reaches, returns, positionPriority, hasLink, returnsWrong, firstReturn, planRows, planAnswer}
+use Rattle.reduction.specs.ClassTable.{ownerWord, tableWords}
+use Rattle.reduction.specs.ClassTableLaws.{pairsOf-lists, length-edges}
+use Rattle.reduction.specs.ListsLaws.{lists-length}
+use Rattle.reduction.specs.Calls.{classRows, tableRows, classTotal, classWords, ClassesCall, TableCall}
+use Rattle.reduction.specs.Answers.{ascending}
+use Rattle.claims.specs.Cases.{Call, Outcome, answered, lentPairs, lentClasses, lentOutput, Promised, outcome, Case, cases, AllHold}
+use Rattle.claims.specs.Cases.Call.{read, writeOrder, acceptRelation, writeClasses, writeTable, acceptPlan}
+
+-- ---- what a call promises is what is computed
+
+pub order-promised : {game marks spare : List ℕ} {a : Answer} → OrderWritten game (lentPairs game) marks (lentPairs game) spare a
+    → answered a (marks ∷ spare ∷ []) ≡ outcome (writeOrder game)
+order-promised call = rw (call .marks, call .spare, call .verdict)
+
+pub classes-promised : {game marks spare classes : List ℕ} {a : Answer}
+    → ClassesCall game (lentPairs game) (lentPairs game) (lentClasses game) a marks spare classes
+    → answered a (marks ∷ spare ∷ classes ∷ []) ≡ outcome (writeClasses game)
+classes-promised call = rw (call .marks-after, call .spare-after, call .classes-after, call .verdict)
+
+module _ {K : Game → Game} {game marks spare classes output : List ℕ} {a : Answer}
+    (call : TableCall K game (lentPairs game) (lentPairs game) (lentClasses game) (lentOutput game) a marks spare classes output) where
+  abbrev es : List (ℕ × ℕ)
+  es = ascending (K (gameOf game))
+
+  -- in whatever order the edges stand: all but the output, which differs from the computed one in that order alone (`output-after`)
+  pub table-promised : answered a (marks ∷ spare ∷ classes ∷ after a (tableWords (K (gameOf game)) es) (lentOutput game) ∷ [])
+      ≡ outcome (writeTable K game)
+  table-promised =
+      let l : length (call .edges) ≡ length es = lists-length (K (gameOf game)) (call .edges) (call .listed) ∙ sym (length-edges (K (gameOf game))) in
+      rw (call .marks-after, call .spare-after, call .classes-after, call .verdict, l)
+
+  -- in ascending order: the output as well
+  pub table-ascending : call .edges ≡ es → answered a (marks ∷ spare ∷ classes ∷ output ∷ []) ≡ outcome (writeTable K game)
+  table-ascending e = rw (call .output-after, e) table-promised
+
+pub promised-outcome : (c : Call) (o : Outcome) → Promised c o → o ≡ outcome c
+promised-outcome c o (Promised.reads e) = ap (λ (a : Answer). answered a []) e
+promised-outcome c o (Promised.orders call) = order-promised call
+promised-outcome c o (Promised.judges-relation e) = ap (λ (a : Answer). answered a []) e
+promised-outcome c o (Promised.classifies call) = classes-promised call
+promised-outcome c o (Promised.tabulates call e) = table-ascending call e
+promised-outcome c o (Promised.judges-plan e) = ap (λ (a : Answer). answered a []) e
+
+pub outcome-promised : (c : Call) → Promised c (outcome c)
+outcome-promised (read game) = Promised.reads refl
+outcome-promised (writeOrder game) = Promised.orders (record { verdict = refl; marks = refl; spare = refl })
+outcome-promised (acceptRelation game relation) = Promised.judges-relation refl
+outcome-promised (writeClasses game) = Promised.classifies (record { verdict = refl; marks-after = refl; spare-after = refl; classes-after = refl })
+outcome-promised (writeTable K game) = Promised.tabulates (record {
+  edges = ascending (K (gameOf game));
+  listed = pairsOf-lists (K (gameOf game));
+  verdict = refl;
+  marks-after = refl;
+  spare-after = refl;
+  classes-after = refl;
+  output-after = refl;
+}) refl
+outcome-promised (acceptPlan game player plan) = Promised.judges-plan refl
+
+-- ---- the table
+
+pub cases-hold : map (λ (c : Case). outcome (c .call)) cases ≡ map (λ (c : Case). c .expected) cases
+unfolding compute
+    gameOf playerOf isEdge judge written after
+    readAnswer gameRows firstOwner firstEnd firstRepeat firstLacking repeatsEarlier lacksEdge
+    bytes isMark relation orderRows orderAnswer fails firstHigh firstFailing relationRows relationAnswer ownerWord tableWords classRows tableRows classTotal classWords
+    badSize beyond firstBeyond strays firstStray anyLink answers lacksLink firstLackingLink reaches returns positionPriority hasLink returnsWrong firstReturn planRows planAnswer
+cases-hold = refl
+
+each-holds : (cs : List Case) → map (λ (c : Case). outcome (c .call)) cs ≡ map (λ (c : Case). c .expected) cs → AllHold cs
+each-holds [] e = tt
+each-holds (c ∷ cs) e =
+    let h : outcome (c .call) ≡ c .expected = cc in
+    let t : map (λ (c : Case). outcome (c .call)) cs ≡ map (λ (c : Case). c .expected) cs = cc in
+    (λ o. (λ p. promised-outcome (c .call) o p ∙ h, λ q. subst (Promised (c .call)) (h ∙ sym q) (outcome-promised (c .call))), each-holds cs t)
+
+pub cases-promised : AllHold cases
+cases-promised = each-holds cases cases-hold
