@@ -4,15 +4,16 @@ use mathlib.Core.List.{List}
 use Prim.Native.Nat.{ℕ}
 use Rattle.theory.specs.Game.{Game}
 use Rattle.table.specs.Verdict.{Answer}
-use Rattle.order.specs.OrderCall.{OrderWritten}
-use Rattle.reduction.specs.Calls.{ClassesCall, TableCall}
+use Rattle.order.specs.OrderCall.{OrderCall}
+use Rattle.classes.specs.ClassesCall.{ClassesCall}
+use Rattle.reduction.specs.TableCall.{TableCall}
 use Rattle.abi.specs.Fields.{orderFields, classesFields, tableFields}
 use Rattle.abi.specs.declared.RaskjomiAnswer.{RaskjomiAnswer}
 
-pub record OrderExport (game oldMarks newMarks oldSpare newSpare : List ℕ) (r : RaskjomiAnswer) : Type 0 where
+pub record OrderExport (game marks spare : List ℕ) (r : RaskjomiAnswer) (marks′ spare′ : List ℕ) : Type 0 where
   pub answer : Answer
   pub fields : r ≡ orderFields answer
-  pub call : OrderWritten game oldMarks newMarks oldSpare newSpare answer
+  pub call : OrderCall game marks spare answer marks′ spare′
 
 pub record ClassesExport (game marks spare classes : List ℕ) (r : RaskjomiAnswer) (marks′ spare′ classes′ : List ℕ) : Type 0 where
   pub answer : Answer

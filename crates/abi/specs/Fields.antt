@@ -5,7 +5,7 @@ use lib.ListN.{getD}
 use Rattle.table.specs.Verdict.{Answer, accepted, refused}
 use Rattle.table.specs.declared.Reading.{Reading}
 use Rattle.table.specs.declared.Reading.the-variants.{Accepted, Refused}
-use Rattle.reduction.specs.declared.Classification.{Classification}
+use Rattle.classes.specs.declared.Classification.{Classification}
 use Rattle.reduction.specs.declared.Tabulation.{Tabulation}
 use Rattle.abi.specs.declared.RaskjomiAnswer.{RaskjomiAnswer}
 

@@ -17,10 +17,10 @@ use Rattle.table.specs.ReadingLaws.{reading-accepted, clean-well}
 use Rattle.table.specs.TableLaws.{edges-listed}
 use Rattle.table.specs.declared.Reading.{Reading}
 use Rattle.table.specs.declared.Reading.the-variants.{Accepted, Refused}
-use Rattle.reduction.specs.ListsLaws.{lists-length}
-use Rattle.reduction.specs.Calls.{classRows, tableRows, classTotal, ClassesCall, TableCall}
-use Rattle.reduction.specs.Answers.{classificationAnswer, tabulationAnswer}
-use Rattle.reduction.specs.declared.Classification.{Classification}
+use Rattle.table.specs.ListsLaws.{lists-length}
+use Rattle.classes.specs.ClassesCall.{classRows, classTotal, classesAnswer, classificationAnswer, ClassesCall}
+use Rattle.classes.specs.declared.Classification.{Classification}
+use Rattle.reduction.specs.TableCall.{tableRows, tabulationAnswer, TableCall}
 use Rattle.reduction.specs.declared.Tabulation.{Tabulation}
 use Rattle.abi.specs.Fields.{SmallSizes, SmallCount, SmallCounts}
 
@@ -51,6 +51,7 @@ third-count {z} e = ap (λ (l : List ℕ). getD l 2 z) e
 
 pub classification-small : (game marks spare classes : List ℕ) (c : Classification) (marks′ spare′ classes′ : List ℕ)
     → ClassesCall game marks spare classes (classificationAnswer c) marks′ spare′ classes′ → SmallCount c
+unfolding classesAnswer
 classification-small game marks spare classes (Classification.Accepted count) marks′ spare′ classes′ call =
     let a = judge-accepted (classRows game marks spare classes) _ _ (sym (call .verdict)) in
     omega (arith, first-count (a .1), total-le game, classes-well game marks spare classes (a .0) .vertices)

@@ -1,6 +1,6 @@
 // The exports for a Rust host: numbers and slices in, one answer by value out. A slice passes as a pointer and a length.
+use classes::Classification;
 use order::Ordering;
-use reduction::Classification;
 use reduction::Tabulation;
 use table::Acceptance;
 use table::Reading;
@@ -10,10 +10,11 @@ ghost use Rattle.table.specs.Reading.{readAnswer, readingAnswer};
 ghost use Rattle.table.specs.Acceptance.{acceptanceAnswer};
 ghost use Rattle.table.specs.Kind.{kindOf};
 ghost use Rattle.order.specs.OrderCall.{orderingAnswer};
-ghost use Rattle.order.specs.RelationCall.{relationAnswer};
+ghost use Rattle.relation.specs.RelationCall.{relationAnswer};
 ghost use Rattle.plan.specs.Acceptance.{planAnswer};
 ghost use Rattle.theory.specs.Reduction.{quotient, reduced};
-ghost use Rattle.reduction.specs.Answers.{classificationAnswer, tabulationAnswer};
+ghost use Rattle.classes.specs.ClassesCall.{classificationAnswer};
+ghost use Rattle.reduction.specs.TableCall.{tabulationAnswer};
 ghost use Rattle.abi.specs.Exports.{OrderExport, ClassesExport, TableExport};
 ghost use Rattle.abi.specs.Fields.{counted, turnedDown, readFields, orderFields, acceptFields, classesFields, tableFields, SmallSizes, SmallCount, SmallCounts};
 
@@ -103,13 +104,13 @@ fn of_acceptance(acceptance: Acceptance) -> RaskjomiAnswer
 pub extern "C" fn raskjomi_accept_relation(game: &[u16], marks: &[u8]) -> RaskjomiAnswer
     ensures { λ r. ⌜ r ≡ acceptFields (relationAnswer (now (game .entry)) (now (marks .entry))) ⌝ }
 {
-    of_acceptance(order::accept_relation(game, marks))
+    of_acceptance(relation::accept_relation(game, marks))
 }
 
 // The order, into marks and spare.
 #[no_mangle]
 pub extern "C" fn raskjomi_order(game: &[u16], marks: &mut [u8], spare: &mut [u8]) -> RaskjomiAnswer
-    ensures { λ r. ⌜ OrderExport (now (game .entry)) (now (marks .entry)) (now (marks .exit)) (now (spare .entry)) (now (spare .exit)) r ⌝ }
+    ensures { λ r. ⌜ OrderExport (now (game .entry)) (now (marks .entry)) (now (spare .entry)) r (now (marks .exit)) (now (spare .exit)) ⌝ }
 {
     of_ordering(order::write_order(game, marks, spare))
 }
@@ -142,7 +143,7 @@ pub extern "C" fn raskjomi_classes(
 ) -> RaskjomiAnswer
     ensures { λ r. ⌜ ClassesExport (now (game .entry)) (now (marks .entry)) (now (spare .entry)) (now (classes .entry)) r (now (marks .exit)) (now (spare .exit)) (now (classes .exit)) ⌝ }
 {
-    of_classification(reduction::write_classes(game, marks, spare, classes))
+    of_classification(classes::write_classes(game, marks, spare, classes))
 }
 
 fn of_tabulation(tabulation: Tabulation) -> RaskjomiAnswer

@@ -83,7 +83,7 @@ pub fn short_buffers() {
 
 fn accepts(name: &[u8], game: &[u16], marks: &[u8]) {
     print::text(name);
-    match order::accept_relation(game, marks) {
+    match relation::accept_relation(game, marks) {
         Acceptance::Accepted(_) => {
             print::accepted();
             print::end_line();

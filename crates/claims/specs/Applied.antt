@@ -1,5 +1,5 @@
 -- The theorems of `Demands` applied to game D, whose vertices 0 and 5 are class 0, and to a game of Odd's: games that a reader can follow.
-use mathlib.Core.Path.{refl}
+use mathlib.Core.Path.{refl, sym}
 use mathlib.Core.List.{List, [], _∷_}
 use Prim.Native.Nat.{ℕ}
 use native.Mathlib.Omega.{arith}
@@ -12,12 +12,15 @@ use Rattle.theory.specs.Reduction.{reduced}
 use Rattle.theory.specs.Compute.{compute}
 use Rattle.theory.specs.Examples.{classPlan}
 use Rattle.table.specs.Table.{gameOf, playerOf, isEdge}
-use Rattle.table.specs.Verdict.{Answer, accepted, judge, written, after}
-use Rattle.table.specs.Reading.{repeatsEarlier, lacksEdge, firstOwner, firstEnd, firstRepeat, firstLacking, gameRows}
-use Rattle.order.specs.Bytes.{bytes}
-use Rattle.reduction.specs.ClassTable.{ownerWord, tableWords}
-use Rattle.reduction.specs.ClassTableLaws.{pairsOf-lists}
-use Rattle.reduction.specs.Calls.{classRows, tableRows, classTotal, classWords, TableCall}
+use Rattle.table.specs.Verdict.{Answer, accepted, judge, Clean, written, after}
+use Rattle.table.specs.VerdictLaws.{judge-accepted}
+use Rattle.table.specs.Reading.{repeatsEarlier, lacksEdge, firstOwner, firstEnd, firstRepeat, firstLacking, gameRowsBy}
+use Rattle.pairs.specs.Marks.{bytes}
+use Rattle.table.specs.TableWords.{ownerWord, tableWords}
+use Rattle.table.specs.TableWordsLaws.{pairsOf-lists}
+use Rattle.order.specs.OrderCall.{orderRows}
+use Rattle.classes.specs.ClassesCall.{classRows, classTotal, classWords}
+use Rattle.reduction.specs.TableCall.{tableRows, TableCall}
 use Rattle.claims.specs.Written.{LeavesOrder}
 use Rattle.claims.specs.Demands.{table-leaves-marks, even-up, odd-down, reduced-faithful, table-winner}
 
@@ -54,7 +57,7 @@ answerD = accepted (5 ∷ 5 ∷ 6 ∷ [])
 
 -- what the reduced-game call does with D, computed
 pub callD : TableCall reduced gameD (replicate 36 9) (replicate 36 9) (replicate 6 9) (replicate 30 9) answerD marksD marksD classesD outputD
-unfolding compute gameOf playerOf isEdge judge written after gameRows firstOwner firstEnd firstRepeat firstLacking repeatsEarlier lacksEdge bytes ownerWord tableWords classRows tableRows classTotal classWords
+unfolding compute gameOf playerOf isEdge judge written after gameRowsBy firstOwner firstEnd firstRepeat firstLacking repeatsEarlier lacksEdge bytes ownerWord tableWords classRows tableRows classTotal classWords
 callD = record {
   edges = pairsOf (reduced (gameOf gameD) .n) (reduced (gameOf gameD) .edge);
   listed = pairsOf-lists (reduced (gameOf gameD));
@@ -77,12 +80,15 @@ won-5 =
 
 -- ---- from vertex 0 up to vertex 5, along byte 5 of the marks
 
+passedD : Clean (tableRows gameD (replicate 36 9) (replicate 36 9) (replicate 6 9) (replicate 30 9))
+passedD = judge-accepted _ _ _ (sym (callD .verdict)) .0
+
 plan-0 : Wins even (gameOf gameD) classPlan 0
 unfolding compute gameOf playerOf isEdge classPlan
 plan-0 = surely-wins even _ classPlan 0 refl
 
 pub up-5 : Won even (gameOf gameD) 5
-up-5 = even-up (table-leaves-marks callD) (5 ∷ 5 ∷ 6 ∷ []) refl 0 5 (omega arith) (omega arith) refl (classPlan, plan-0)
+up-5 = even-up (table-leaves-marks callD) passedD 0 5 (omega arith) (omega arith) refl (classPlan, plan-0)
 
 -- ---- a game of Odd's: 0 has the edge of 1 and one more, so 0 is below 1; from vertex 1 down to vertex 0, along byte 1
 
@@ -94,9 +100,13 @@ abbrev marksO : List ℕ
 marksO = 1 ∷ 1 ∷ 0 ∷ 0 ∷ 0 ∷ 1 ∷ 0 ∷ 0 ∷ 0 ∷ 0 ∷ 1 ∷ 0 ∷ 0 ∷ 0 ∷ 0 ∷ 1 ∷ []
 
 -- what the order call leaves of it, computed
-pub leftO : LeavesOrder gameO (accepted (2 ∷ [])) (replicate 16 9) marksO
-unfolding compute gameOf playerOf isEdge written after bytes
+pub leftO : LeavesOrder gameO (orderRows gameO (replicate 16 9) (replicate 16 9)) (replicate 16 9) marksO
+unfolding compute gameOf playerOf isEdge written after gameRowsBy firstOwner firstEnd firstRepeat firstLacking repeatsEarlier lacksEdge bytes orderRows
 leftO = record { buffer = refl }
+
+passedO : Clean (orderRows gameO (replicate 16 9) (replicate 16 9))
+unfolding compute gameOf playerOf isEdge gameRowsBy firstOwner firstEnd firstRepeat firstLacking repeatsEarlier lacksEdge orderRows
+passedO = (refl, (refl, (refl, (refl, (refl, (refl, (refl, (refl, (refl, (refl, tt))))))))))
 
 abbrev pub oddPlan : Plan
 oddPlan = record { vertices = 1 ∷ 2 ∷ []; links = (0, 1) ∷ (1, 1) ∷ [] }
@@ -106,4 +116,4 @@ unfolding compute gameOf playerOf isEdge
 plan-1 = surely-wins odd _ oddPlan 1 refl
 
 pub down-0 : Won odd (gameOf gameO) 0
-down-0 = odd-down leftO (2 ∷ []) refl 0 1 (omega arith) (omega arith) refl (oddPlan, plan-1)
+down-0 = odd-down leftO passedO 0 1 (omega arith) (omega arith) refl (oddPlan, plan-1)

@@ -2,21 +2,21 @@
 use mathlib.Core.Path.{_≡_}
 use mathlib.Core.Logic.{_↔_}
 use mathlib.Core.List.{List, [], _∷_}
-use Prim.Native.Nat.{ℕ, _*_}
+use Prim.Native.Nat.{ℕ}
 use lib.ListN.{length, replicate}
 use Rattle.theory.specs.Game.{Game}
-use Rattle.theory.specs.Order.{orderMarks}
 use Rattle.theory.specs.Reduction.{quotient, reduced}
 use Rattle.table.specs.Table.{vertexCount, tableEdges, tableLength, gameOf}
-use Rattle.table.specs.Verdict.{Answer, accepted, refused, judge, after}
+use Rattle.table.specs.TableWords.{tableWords}
+use Rattle.table.specs.Verdict.{Row, Answer, accepted, refused, judge, after}
 use Rattle.table.specs.Reading.{readAnswer}
-use Rattle.order.specs.Bytes.{bytes}
-use Rattle.order.specs.OrderCall.{orderAnswer, OrderWritten}
-use Rattle.order.specs.RelationCall.{relationAnswer}
+use Rattle.pairs.specs.Marks.{marksLength}
+use Rattle.order.specs.OrderCall.{orderRows, orderAnswer, orderBytes, OrderCall}
+use Rattle.relation.specs.RelationCall.{relationAnswer}
 use Rattle.plan.specs.Acceptance.{planAnswer}
-use Rattle.reduction.specs.ClassTable.{tableWords}
-use Rattle.reduction.specs.Calls.{classRows, tableRows, classTotal, classWords, ClassesCall, TableCall}
-use Rattle.reduction.specs.Answers.{ascending}
+use Rattle.classes.specs.ClassesCall.{classRows, classTotal, classWords, classesAnswer, ClassesCall}
+use Rattle.reduction.specs.TableCall.{tableRows, TableCall}
+use Rattle.reduction.specs.Edges.{ascending}
 
 -- a call of the host, with its input; what it writes into is as long as needed, and old words are 7
 pub data Call : Type 0 where
@@ -44,8 +44,8 @@ answered a ws = record { answer = a; words = ws }
 
 -- ---- what is lent: marks or spare, class words, output
 
-abbrev pub lentPairs : List ℕ → List ℕ
-lentPairs game = replicate (vertexCount game * vertexCount game) 7
+abbrev pub lentMarks : List ℕ → List ℕ
+lentMarks game = replicate (marksLength (vertexCount game)) 7
 
 abbrev pub lentClasses : List ℕ → List ℕ
 lentClasses game = replicate (vertexCount game) 7
@@ -58,41 +58,42 @@ lentOutput game = replicate (tableLength (vertexCount game) (tableEdges game)) 7
 -- as to a table, with its edges ascending: document 01 leaves their order free, and so does the promise
 pub data Promised : Call → Outcome → Type 0 where
   reads : {game : List ℕ} {a : Answer} → a ≡ readAnswer game → Promised (read game) (answered a [])
-  orders : {game marks spare : List ℕ} {a : Answer} → OrderWritten game (lentPairs game) marks (lentPairs game) spare a
+  orders : {game marks spare : List ℕ} {a : Answer} → OrderCall game (lentMarks game) (lentMarks game) a marks spare
       → Promised (writeOrder game) (answered a (marks ∷ spare ∷ []))
   judges-relation : {game relation : List ℕ} {a : Answer} → a ≡ relationAnswer game relation
       → Promised (acceptRelation game relation) (answered a [])
   classifies : {game marks spare classes : List ℕ} {a : Answer}
-      → ClassesCall game (lentPairs game) (lentPairs game) (lentClasses game) a marks spare classes
+      → ClassesCall game (lentMarks game) (lentMarks game) (lentClasses game) a marks spare classes
       → Promised (writeClasses game) (answered a (marks ∷ spare ∷ classes ∷ []))
   tabulates : {K : Game → Game} {game marks spare classes output : List ℕ} {a : Answer}
-      → (call : TableCall K game (lentPairs game) (lentPairs game) (lentClasses game) (lentOutput game) a marks spare classes output)
+      → (call : TableCall K game (lentMarks game) (lentMarks game) (lentClasses game) (lentOutput game) a marks spare classes output)
       → call .edges ≡ ascending (K (gameOf game)) → Promised (writeTable K game) (answered a (marks ∷ spare ∷ classes ∷ output ∷ []))
   judges-plan : {game plan : List ℕ} {player : ℕ} {a : Answer} → a ≡ planAnswer game player plan
       → Promised (acceptPlan game player plan) (answered a [])
 
 -- ---- the same, computed
 
--- marks or spare after a call
-abbrev ordered : Answer → List ℕ → List ℕ
-ordered a game = after a (bytes (orderMarks (gameOf game))) (lentPairs game)
+-- marks or spare after a call that writes the order once these rows are passed
+abbrev ordered : List Row → List ℕ → List ℕ
+ordered rows game = after rows (orderBytes game) (lentMarks game)
 
 abbrev pub outcome : Call → Outcome
 outcome (read game) = answered (readAnswer game) []
 outcome (writeOrder game) =
-    let a = orderAnswer game (lentPairs game) (lentPairs game) in
-    answered a (ordered a game ∷ ordered a game ∷ [])
+    let rows = orderRows game (lentMarks game) (lentMarks game) in
+    answered (orderAnswer game (lentMarks game) (lentMarks game)) (ordered rows game ∷ ordered rows game ∷ [])
 outcome (acceptRelation game relation) = answered (relationAnswer game relation) []
 outcome (writeClasses game) =
-    let a = judge (classRows game (lentPairs game) (lentPairs game) (lentClasses game)) (classTotal game ∷ []) in
-    answered a (ordered a game ∷ ordered a game ∷ after a (classWords game) (lentClasses game) ∷ [])
+    let rows = classRows game (lentMarks game) (lentMarks game) (lentClasses game) in
+    answered (classesAnswer game (lentMarks game) (lentMarks game) (lentClasses game))
+    (ordered rows game ∷ ordered rows game ∷ after rows (classWords game) (lentClasses game) ∷ [])
 outcome (writeTable K game) =
     let es = ascending (K (gameOf game)) in
     let counts = classTotal game ∷ K (gameOf game) .n ∷ length es ∷ [] in
-    let a = judge (tableRows game (lentPairs game) (lentPairs game) (lentClasses game) (lentOutput game)) counts in
-    answered a
-    (ordered a game ∷ ordered a game ∷ after a (classWords game) (lentClasses game)
-    ∷ after a (tableWords (K (gameOf game)) es) (lentOutput game) ∷ [])
+    let rows = tableRows game (lentMarks game) (lentMarks game) (lentClasses game) (lentOutput game) in
+    answered (judge rows counts)
+    (ordered rows game ∷ ordered rows game ∷ after rows (classWords game) (lentClasses game)
+    ∷ after rows (tableWords (K (gameOf game)) es) (lentOutput game) ∷ [])
 outcome (acceptPlan game player plan) = answered (planAnswer game player plan) []
 
 pub record Case : Type 0 where

@@ -8,37 +8,43 @@ use Rattle.theory.specs.Game.{Game}
 use Rattle.theory.specs.Compute.{compute}
 use Rattle.table.specs.Table.{gameOf, playerOf, isEdge}
 use Rattle.table.specs.Verdict.{Answer, judge, written, after}
-use Rattle.table.specs.Reading.{repeatsEarlier, lacksEdge, firstOwner, firstEnd, firstRepeat, firstLacking, gameRows, readAnswer}
-use Rattle.order.specs.Bytes.{bytes, isMark, relation}
-use Rattle.order.specs.OrderCall.{orderRows, orderAnswer, OrderWritten}
-use Rattle.order.specs.RelationCall.{fails, firstHigh, firstFailing, relationRows, relationAnswer}
-use Rattle.plan.specs.Acceptance.{badSize, beyond, firstBeyond, strays, firstStray, anyLink, answers, lacksLink, firstLackingLink, reaches, returns, positionPriority, hasLink, returnsWrong, firstReturn, planRows, planAnswer}
-use Rattle.reduction.specs.ClassTable.{ownerWord, tableWords}
-use Rattle.reduction.specs.ClassTableLaws.{pairsOf-lists, length-edges}
-use Rattle.reduction.specs.ListsLaws.{lists-length}
-use Rattle.reduction.specs.Calls.{classRows, tableRows, classTotal, classWords, ClassesCall, TableCall}
-use Rattle.reduction.specs.Answers.{ascending}
-use Rattle.claims.specs.Cases.{Call, Outcome, answered, lentPairs, lentClasses, lentOutput, Promised, outcome, Case, cases, AllHold}
+use Rattle.table.specs.Reading.{repeatsEarlier, lacksEdge, firstOwner, firstEnd, firstRepeat, firstLacking, gameRowsBy, readAnswer}
+use Rattle.table.specs.TableWords.{ownerWord, tableWords}
+use Rattle.table.specs.TableWordsLaws.{pairsOf-lists, length-edges}
+use Rattle.table.specs.ListsLaws.{lists-length}
+use Rattle.pairs.specs.Marks.{bytes, isMark, relation, firstHigh}
+use Rattle.order.specs.OrderCall.{orderRows, orderAnswer, OrderCall}
+use Rattle.relation.specs.RelationCall.{fails, firstFailing, relationRows, relationAnswer}
+use Rattle.links.specs.PlanTable.{anyLink, hasLink}
+use Rattle.links.specs.Refusals.{badSize, beyond, firstBeyond, strays, firstStray}
+use Rattle.returns.specs.Returns.{reaches, returns, positionPriority, returnsWrong, firstReturn}
+use Rattle.plan.specs.Acceptance.{answers, lacksLink, firstLackingLink, planRows, planAnswer}
+use Rattle.classes.specs.ClassesCall.{classRows, classTotal, classWords, classesAnswer, ClassesCall}
+use Rattle.reduction.specs.TableCall.{tableRows, TableCall}
+use Rattle.reduction.specs.Edges.{ascending}
+use Rattle.claims.specs.Cases.{Call, Outcome, answered, lentMarks, lentClasses, lentOutput, Promised, outcome, Case, cases, AllHold}
 use Rattle.claims.specs.Cases.Call.{read, writeOrder, acceptRelation, writeClasses, writeTable, acceptPlan}
 
 -- ---- what a call promises is what is computed
 
-pub order-promised : {game marks spare : List ℕ} {a : Answer} → OrderWritten game (lentPairs game) marks (lentPairs game) spare a
+pub order-promised : {game marks spare : List ℕ} {a : Answer} → OrderCall game (lentMarks game) (lentMarks game) a marks spare
     → answered a (marks ∷ spare ∷ []) ≡ outcome (writeOrder game)
-order-promised call = rw (call .marks, call .spare, call .verdict)
+order-promised call = rw (call .marks-after, call .spare-after, call .verdict)
 
 pub classes-promised : {game marks spare classes : List ℕ} {a : Answer}
-    → ClassesCall game (lentPairs game) (lentPairs game) (lentClasses game) a marks spare classes
+    → ClassesCall game (lentMarks game) (lentMarks game) (lentClasses game) a marks spare classes
     → answered a (marks ∷ spare ∷ classes ∷ []) ≡ outcome (writeClasses game)
 classes-promised call = rw (call .marks-after, call .spare-after, call .classes-after, call .verdict)
 
 module _ {K : Game → Game} {game marks spare classes output : List ℕ} {a : Answer}
-    (call : TableCall K game (lentPairs game) (lentPairs game) (lentClasses game) (lentOutput game) a marks spare classes output) where
+    (call : TableCall K game (lentMarks game) (lentMarks game) (lentClasses game) (lentOutput game) a marks spare classes output) where
   abbrev es : List (ℕ × ℕ)
   es = ascending (K (gameOf game))
 
   -- in whatever order the edges stand: all but the output, which differs from the computed one in that order alone (`output-after`)
-  pub table-promised : answered a (marks ∷ spare ∷ classes ∷ after a (tableWords (K (gameOf game)) es) (lentOutput game) ∷ [])
+  pub table-promised : answered a
+      (marks ∷ spare ∷ classes
+      ∷ after (tableRows game (lentMarks game) (lentMarks game) (lentClasses game) (lentOutput game)) (tableWords (K (gameOf game)) es) (lentOutput game) ∷ [])
       ≡ outcome (writeTable K game)
   table-promised =
       let l : length (call .edges) ≡ length es = lists-length (K (gameOf game)) (call .edges) (call .listed) ∙ sym (length-edges (K (gameOf game))) in
@@ -58,7 +64,7 @@ promised-outcome c o (Promised.judges-plan e) = ap (λ (a : Answer). answered a 
 
 pub outcome-promised : (c : Call) → Promised c (outcome c)
 outcome-promised (read game) = Promised.reads refl
-outcome-promised (writeOrder game) = Promised.orders (record { verdict = refl; marks = refl; spare = refl })
+outcome-promised (writeOrder game) = Promised.orders (record { verdict = refl; marks-after = refl; spare-after = refl })
 outcome-promised (acceptRelation game relation) = Promised.judges-relation refl
 outcome-promised (writeClasses game) = Promised.classifies (record { verdict = refl; marks-after = refl; spare-after = refl; classes-after = refl })
 outcome-promised (writeTable K game) = Promised.tabulates (record {
@@ -77,8 +83,8 @@ outcome-promised (acceptPlan game player plan) = Promised.judges-plan refl
 pub cases-hold : map (λ (c : Case). outcome (c .call)) cases ≡ map (λ (c : Case). c .expected) cases
 unfolding compute
     gameOf playerOf isEdge judge written after
-    readAnswer gameRows firstOwner firstEnd firstRepeat firstLacking repeatsEarlier lacksEdge
-    bytes isMark relation orderRows orderAnswer fails firstHigh firstFailing relationRows relationAnswer ownerWord tableWords classRows tableRows classTotal classWords
+    readAnswer gameRowsBy firstOwner firstEnd firstRepeat firstLacking repeatsEarlier lacksEdge
+    bytes isMark relation orderRows orderAnswer fails firstHigh firstFailing relationRows relationAnswer ownerWord tableWords classRows tableRows classTotal classWords classesAnswer
     badSize beyond firstBeyond strays firstStray anyLink answers lacksLink firstLackingLink reaches returns positionPriority hasLink returnsWrong firstReturn planRows planAnswer
 cases-hold = refl
 

@@ -1,5 +1,5 @@
 -- Demand 3 about what the promises name: tables that the reader accepts, the order and the classes that an accepted call leaves, relations
--- that the acceptor passes, and written tables. Hypotheses are only: a call accepted, a byte is 1, a vertex is below n, a plan wins.
+-- that the acceptor passes, and written tables. Hypotheses are only: a call passed its rows, a mark is 1, a vertex is below n, a plan wins.
 use mathlib.Core.Path.{_≡_, sym, _∙_}
 use mathlib.Core.Logic.{_↔_}
 use mathlib.Core.Bool.{So}
@@ -18,96 +18,96 @@ use Rattle.theory.specs.Plan.{Won}
 use Rattle.theory.specs.Reduction.{quotient, reduced, classOf}
 use Rattle.theory.specs.ReductionLaws.{quotient-total, reduced-total, classOf-quotient, classOf-reduced}
 use Rattle.theory.specs.SizeLaws.{quotient-size, reduced-size, quotient-edges, reduced-edges}
-use Rattle.theory.specs.Demands as games
+use Rattle.theory.specs.KeptWinners as games
 use Rattle.theory.specs.AgreementLaws.{agree-winner, agree-sym}
+use Rattle.table.specs.Limits.{vertexLimit, edgeLimit}
 use Rattle.table.specs.Table.{vertexCount, tableEdges, tableLength, gameOf}
-use Rattle.table.specs.Verdict.{Answer, accepted, written}
-use Rattle.table.specs.VerdictLaws.{judge-accepted, after-accepted, getD-written}
+use Rattle.table.specs.Verdict.{Row, Answer, accepted, Clean, written}
+use Rattle.table.specs.VerdictLaws.{judge-accepted, after-clean, getD-written}
 use Rattle.table.specs.Reading.{readAnswer}
 use Rattle.table.specs.ReadingLaws.{read-accepts}
 use Rattle.table.specs.WellFormed.{WellFormed}
 use Rattle.table.specs.TableLaws.{edges-listed, game-total}
-use Rattle.order.specs.OrderCall.{OrderWritten}
-use Rattle.order.specs.OrderRulesLaws.{after-byte}
-use Rattle.order.specs.RelationCall.{relationAnswer}
-use Rattle.order.specs.RelationRules.{Marked}
-use Rattle.order.specs.RelationRulesLaws.{passed-below}
-use Rattle.reduction.specs.ClassTable.{tableWords}
-use Rattle.reduction.specs.ClassTableLaws.{length-tableWords, tableWords-well, tableWords-agree}
-use Rattle.reduction.specs.ListsLaws.{lists-length}
-use Rattle.reduction.specs.Calls.{tableRows, classWords, ClassesCall, TableCall}
-use Rattle.reduction.specs.CallRulesLaws.{table-accepted}
+use Rattle.table.specs.TableWords.{tableWords}
+use Rattle.table.specs.TableWordsLaws.{length-tableWords, tableWords-well, tableWords-agree}
+use Rattle.table.specs.ListsLaws.{lists-length}
+use Rattle.pairs.specs.Marks.{Marked}
+use Rattle.order.specs.OrderCall.{orderRows, orderBytes, OrderCall}
+use Rattle.order.specs.OrderRulesLaws.{written-byte}
+use Rattle.relation.specs.RelationCall.{relationAnswer}
+use Rattle.relation.specs.RelationRulesLaws.{passed-below}
+use Rattle.classes.specs.ClassesCall.{classRows, classWords, ClassesCall}
+use Rattle.reduction.specs.TableCall.{tableRows, TableCall}
+use Rattle.reduction.specs.TableRulesLaws.{table-accepted}
 use Rattle.claims.specs.Written.{LeavesOrder, LeavesClasses, writtenTable, Faithful}
 
 -- ---- which calls leave the order and the classes: a line for each call and buffer
 
-module _ {game marks marks′ spare spare′ : List ℕ} {answer : Answer} (call : OrderWritten game marks marks′ spare spare′ answer) where
-  pub order-leaves-marks : LeavesOrder game answer marks marks′
-  order-leaves-marks = record { buffer = rw (call .verdict) (call .marks) }
+module _ {game marks spare : List ℕ} {answer : Answer} {marks′ spare′ : List ℕ} (call : OrderCall game marks spare answer marks′ spare′) where
+  pub order-leaves-marks : LeavesOrder game (orderRows game marks spare) marks marks′
+  order-leaves-marks = record { buffer = call .marks-after }
 
-  pub order-leaves-spare : LeavesOrder game answer spare spare′
-  order-leaves-spare = record { buffer = rw (call .verdict) (call .spare) }
+  pub order-leaves-spare : LeavesOrder game (orderRows game marks spare) spare spare′
+  order-leaves-spare = record { buffer = call .spare-after }
 
 module _ {game marks spare classes : List ℕ} {answer : Answer} {marks′ spare′ classes′ : List ℕ}
     (call : ClassesCall game marks spare classes answer marks′ spare′ classes′) where
-  pub classes-leaves-marks : LeavesOrder game answer marks marks′
+  pub classes-leaves-marks : LeavesOrder game (classRows game marks spare classes) marks marks′
   classes-leaves-marks = record { buffer = call .marks-after }
 
-  pub classes-leaves-spare : LeavesOrder game answer spare spare′
+  pub classes-leaves-spare : LeavesOrder game (classRows game marks spare classes) spare spare′
   classes-leaves-spare = record { buffer = call .spare-after }
 
-  pub classes-leaves-classes : LeavesClasses game answer classes classes′
+  pub classes-leaves-classes : LeavesClasses game (classRows game marks spare classes) classes classes′
   classes-leaves-classes = record { words = call .classes-after }
 
 -- the quotient and the reduced game alike
 module _ {K : Game → Game} {game marks spare classes output : List ℕ} {answer : Answer} {marks′ spare′ classes′ output′ : List ℕ}
     (call : TableCall K game marks spare classes output answer marks′ spare′ classes′ output′) where
-  pub table-leaves-marks : LeavesOrder game answer marks marks′
+  pub table-leaves-marks : LeavesOrder game (tableRows game marks spare classes output) marks marks′
   table-leaves-marks = record { buffer = call .marks-after }
 
-  pub table-leaves-spare : LeavesOrder game answer spare spare′
+  pub table-leaves-spare : LeavesOrder game (tableRows game marks spare classes output) spare spare′
   table-leaves-spare = record { buffer = call .spare-after }
 
-  pub table-leaves-classes : LeavesClasses game answer classes classes′
+  pub table-leaves-classes : LeavesClasses game (tableRows game marks spare classes output) classes classes′
   table-leaves-classes = record { words = call .classes-after }
 
 -- ---- the written order: what a buffer holds after a call that, by its rules, leaves the order there
 
-module _ {game : List ℕ} {answer : Answer} {old new : List ℕ} (left : LeavesOrder game answer old new)
-    (counts : List ℕ) (accepts : answer ≡ accepted counts) where
-  -- byte v × n + w is 1 exactly if v is below w
-  pub written-mark : (v w : ℕ) → v < vertexCount game → w < vertexCount game
-      → (getD new (v * vertexCount game + w) 0 ≡ 1) ↔ So (order (gameOf game) v w)
+module _ {game : List ℕ} {rows : List Row} {old new : List ℕ} (left : LeavesOrder game rows old new) (passed : Clean rows) where
+  -- the mark of (v, w) is 1 exactly if v is below w
+  pub written-mark : (v w : ℕ) → v < vertexCount game → w < vertexCount game → Marked (vertexCount game) new v w ↔ So (order (gameOf game) v w)
   written-mark v w hv hw =
-      let e : getD new (v * vertexCount game + w) 0 ≡ bit (order (gameOf game) v w) = rw (left .buffer) (after-byte game old answer counts accepts v w hv hw) in
+      let e : getD new (v * vertexCount game + w) 0 ≡ bit (order (gameOf game) v w) =
+      rw (left .buffer, after-clean rows (orderBytes game) old passed) (written-byte game old v w hv hw) in
       (λ b. bit-out _ (sym e ∙ b), λ t. e ∙ bit-in t)
 
   -- "The written order contains every relation that the acceptor passes."
   pub contains : (relation : List ℕ) → relationAnswer game relation ≡ accepted []
-      → (v w : ℕ) → v < vertexCount game → w < vertexCount game → Marked game relation v w → getD new (v * vertexCount game + w) 0 ≡ 1
+      → (v w : ℕ) → v < vertexCount game → w < vertexCount game → Marked (vertexCount game) relation v w → Marked (vertexCount game) new v w
   unfolding gameOf
   contains relation passes v w hv hw m = written-mark v w hv hw .1 (order-in (gameOf game) hv hw (passed-below game relation passes v w m))
 
   -- "Where v is below w: a winning plan for Even from v gives one from w .."
-  pub even-up : (v w : ℕ) → v < vertexCount game → w < vertexCount game → getD new (v * vertexCount game + w) 0 ≡ 1
+  pub even-up : (v w : ℕ) → v < vertexCount game → w < vertexCount game → Marked (vertexCount game) new v w
       → Won even (gameOf game) v → Won even (gameOf game) w
   unfolding gameOf
   even-up v w hv hw b = games.even-up (gameOf game) v w hv hw (written-mark v w hv hw .0 b)
 
   -- ".. a winning plan for Odd from w gives one from v."
-  pub odd-down : (v w : ℕ) → v < vertexCount game → w < vertexCount game → getD new (v * vertexCount game + w) 0 ≡ 1
+  pub odd-down : (v w : ℕ) → v < vertexCount game → w < vertexCount game → Marked (vertexCount game) new v w
       → Won odd (gameOf game) w → Won odd (gameOf game) v
   unfolding gameOf
   odd-down v w hv hw b = games.odd-down (gameOf game) v w hv hw (written-mark v w hv hw .0 b)
 
 -- ---- the written classes: the class word of a vertex is its class
 
-pub class-word : {game : List ℕ} {answer : Answer} {old new : List ℕ} → LeavesClasses game answer old new
-    → (counts : List ℕ) → answer ≡ accepted counts
+pub class-word : {game : List ℕ} {rows : List Row} {old new : List ℕ} → LeavesClasses game rows old new → Clean rows
     → (v : ℕ) → v < vertexCount game → getD new v 0 ≡ classOf (gameOf game) v
 unfolding classWords
-class-word {game} {answer} {old} left counts accepts v h =
-    rw (left .words, after-accepted (classWords game) old accepts)
+class-word {game} {rows} {old} left passed v h =
+    rw (left .words, after-clean rows (classWords game) old passed)
     (getD-written (classWords game) old v 0 (omega (arith, length-tabulate (vertexCount game) (classOf (gameOf game))))
     ∙ getD-tabulate (vertexCount game) (classOf (gameOf game)) 0 v h)
 
@@ -135,20 +135,23 @@ module _ {K : Game → Game} (faithful : Faithful K)
       let a = judge-accepted (tableRows game marks spare classes output) _ _ (sym (call .verdict) ∙ accepts) in
       record { vertices = cc (a .1); edges = cc (a .1) }
 
+  passed : Clean (tableRows game marks spare classes output)
+  passed = judge-accepted (tableRows game marks spare classes output) _ _ (sym (call .verdict) ∙ accepts) .0
+
   well : WellFormed game
   well = table-accepted call _ accepts .0 .classesFit .orderFits .game
 
   table-is : writtenTable n e output′ ≡ tableWords (K G) (call .edges)
   unfolding written
   table-is =
-      rw (call .output-after, after-accepted (tableWords (K G) (call .edges)) output accepts)
+      rw (call .output-after, after-clean (tableRows game marks spare classes output) (tableWords (K G) (call .edges)) output passed)
       (take-at (tableWords (K G) (call .edges)) _ (tableLength n e) (length-tableWords (K G) (call .edges) ∙ rw (counts .vertices, counts .edges)))
 
   vertex : (v : ℕ) → v < vertexCount game → v < G .n
   unfolding gameOf
   vertex v h = h
 
-  few : K G .n ≤ 256
+  few : K G .n ≤ vertexLimit
   unfolding gameOf
   few = omega (arith, faithful .size G, well .vertices)
 
@@ -156,7 +159,7 @@ module _ {K : Game → Game} (faithful : Faithful K)
   pub table-edges : e ≤ tableEdges game
   table-edges = omega (arith, counts .edges, lists-length (K G) (call .edges) (call .listed), faithful .edges G, edges-listed game)
 
-  fits : length (call .edges) ≤ 4096
+  fits : length (call .edges) ≤ edgeLimit
   fits = omega (arith, counts .edges, table-edges, well .edges)
 
   table-well : WellFormed (writtenTable n e output′)
@@ -177,4 +180,4 @@ module _ {K : Game → Game} (faithful : Faithful K)
       let back =
       agree-winner a (K G) (gameOf (tableWords (K G) (call .edges))) (agree-sym (tableWords-agree (K G) (call .edges) (call .listed))) (classOf G v)
       (faithful .class G v (vertex v h)) in
-      rw (table-is, class-word (table-leaves-classes call) _ accepts v h) (λ w. back .0 (there .0 w), λ w. there .1 (back .1 w))
+      rw (table-is, class-word (table-leaves-classes call) passed v h) (λ w. back .0 (there .0 w), λ w. there .1 (back .1 w))

@@ -11,10 +11,11 @@ use Rattle.table.specs.Table.{vertexCount, gameOf}
 use Rattle.table.specs.Verdict.{Answer, accepted}
 use Rattle.table.specs.Reading.{readAnswer}
 use Rattle.table.specs.Acceptance.{acceptanceAnswer}
-use Rattle.order.specs.OrderCall.{orderingAnswer, OrderWritten}
-use Rattle.order.specs.RelationCall.{relationAnswer}
-use Rattle.order.specs.RelationRules.{Marked}
-use Rattle.reduction.specs.Calls.{ClassesCall, TableCall}
+use Rattle.pairs.specs.Marks.{Marked}
+use Rattle.order.specs.OrderCall.{orderingAnswer, OrderCall}
+use Rattle.relation.specs.RelationCall.{relationAnswer}
+use Rattle.classes.specs.ClassesCall.{ClassesCall}
+use Rattle.reduction.specs.TableCall.{TableCall}
 use Rattle.claims.specs.Written.{writtenTable}
 use Rattle.claims.specs.declared.Containment.{Containment}
 
@@ -26,12 +27,12 @@ OnAcceptance answer P = (counts : List ℕ) → answer ≡ accepted counts → P
 pub record OrderSentences (game buffer : List ℕ) : Type 0 where
   -- "The written order contains every relation that the acceptor passes."
   pub contains : (relation : List ℕ) → relationAnswer game relation ≡ accepted [] → (v w : ℕ) → v < vertexCount game → w < vertexCount game
-      → Marked game relation v w → Marked game buffer v w
+      → Marked (vertexCount game) relation v w → Marked (vertexCount game) buffer v w
   -- "Where v is below w: a winning plan for Even from v gives one from w, ..
-  pub even-up : (v w : ℕ) → v < vertexCount game → w < vertexCount game → Marked game buffer v w
+  pub even-up : (v w : ℕ) → v < vertexCount game → w < vertexCount game → Marked (vertexCount game) buffer v w
       → Won even (gameOf game) v → Won even (gameOf game) w
   -- .. a winning plan for Odd from w gives one from v."
-  pub odd-down : (v w : ℕ) → v < vertexCount game → w < vertexCount game → Marked game buffer v w
+  pub odd-down : (v w : ℕ) → v < vertexCount game → w < vertexCount game → Marked (vertexCount game) buffer v w
       → Won odd (gameOf game) w → Won odd (gameOf game) v
 
 -- of class words: that of each vertex is its class
@@ -48,8 +49,8 @@ pub record TableSentences (game classes output : List ℕ) (n e : ℕ) : Type 0 
 -- ---- what holds after each call
 
 -- the order call
-pub record Orders (game marks marks′ spare spare′ : List ℕ) (answer : Answer) : Type 0 where
-  pub call : OrderWritten game marks marks′ spare spare′ answer
+pub record Orders (game marks spare : List ℕ) (answer : Answer) (marks′ spare′ : List ℕ) : Type 0 where
+  pub call : OrderCall game marks spare answer marks′ spare′
   pub marks-order : OnAcceptance answer (OrderSentences game marks′)
   pub spare-order : OnAcceptance answer (OrderSentences game spare′)
 
@@ -70,9 +71,9 @@ pub record Tabulates (K : Game → Game) (game marks spare classes output : List
   pub output-table : (k n e : ℕ) → answer ≡ accepted (k ∷ n ∷ e ∷ []) → TableSentences game classes′ output′ n e
 
 -- the relation acceptor and then the order call, with the verdicts of both
-pub record Contains (game relation marks marks′ spare spare′ : List ℕ) (r : Containment) : Type 0 where
+pub record Contains (game relation marks spare : List ℕ) (r : Containment) (marks′ spare′ : List ℕ) : Type 0 where
   pub judged : acceptanceAnswer (r .relation) ≡ relationAnswer game relation
-  pub order : Orders game marks marks′ spare spare′ (orderingAnswer (r .order))
+  pub order : Orders game marks spare (orderingAnswer (r .order)) marks′ spare′
   pub sentence : acceptanceAnswer (r .relation) ≡ accepted []
       → OnAcceptance (orderingAnswer (r .order))
-      ((v w : ℕ) → v < vertexCount game → w < vertexCount game → Marked game relation v w → Marked game marks′ v w)
+      ((v w : ℕ) → v < vertexCount game → w < vertexCount game → Marked (vertexCount game) relation v w → Marked (vertexCount game) marks′ v w)

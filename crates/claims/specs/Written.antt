@@ -5,22 +5,21 @@ use mathlib.Core.List.{List}
 use Prim.Native.Nat.{ℕ, _≤_, _<_}
 use lib.ListN.{take}
 use Rattle.theory.specs.Game.{Player, Game, Total, edgeCount}
-use Rattle.theory.specs.Order.{orderMarks}
 use Rattle.theory.specs.Plan.{Won}
 use Rattle.theory.specs.Reduction.{classOf}
-use Rattle.table.specs.Table.{tableLength, gameOf}
-use Rattle.table.specs.Verdict.{Answer, after}
-use Rattle.order.specs.Bytes.{bytes}
-use Rattle.reduction.specs.Calls.{classWords}
+use Rattle.table.specs.Table.{tableLength}
+use Rattle.table.specs.Verdict.{Row, after}
+use Rattle.order.specs.OrderCall.{orderBytes}
+use Rattle.classes.specs.ClassesCall.{classWords}
 
--- a call with this answer leaves the order in a buffer that was old before it and is new after it: where it accepts, the order stands
--- there, with old content beyond; a refused call writes none
-pub record LeavesOrder (game : List ℕ) (answer : Answer) (old new : List ℕ) : Type 0 where
-  pub buffer : new ≡ after answer (bytes (orderMarks (gameOf game))) old
+-- a call leaves the order in a buffer that was old before it and is new after it: once these rows of its table of refusals are passed, the
+-- order stands there, with old content beyond; a call refused by one of them writes none
+pub record LeavesOrder (game : List ℕ) (rows : List Row) (old new : List ℕ) : Type 0 where
+  pub buffer : new ≡ after rows (orderBytes game) old
 
 -- likewise the class of each vertex, in class words
-pub record LeavesClasses (game : List ℕ) (answer : Answer) (old new : List ℕ) : Type 0 where
-  pub words : new ≡ after answer (classWords game) old
+pub record LeavesClasses (game : List ℕ) (rows : List Row) (old new : List ℕ) : Type 0 where
+  pub words : new ≡ after rows (classWords game) old
 
 -- the written table: as many words of the output as the verdict's counts, n vertices and e edges, tell
 abbrev pub writtenTable : ℕ → ℕ → List ℕ → List ℕ

@@ -1,12 +1,13 @@
 // What is claimed of the library. A function for each call that leaves the order: it makes the call, and its promise is what demand 3 says
 // of the slices after it, proved from the library's contracts alone.
+use classes::Classification;
 use order::Ordering;
-use reduction::Classification;
 use reduction::Tabulation;
 use table::Acceptance;
 ghost use Rattle.theory.specs.Reduction.{quotient, reduced};
 ghost use Rattle.order.specs.OrderCall.{orderingAnswer};
-ghost use Rattle.reduction.specs.Answers.{classificationAnswer, tabulationAnswer};
+ghost use Rattle.classes.specs.ClassesCall.{classificationAnswer};
+ghost use Rattle.reduction.specs.TableCall.{tabulationAnswer};
 ghost use Rattle.claims.specs.Sentences.{Orders, Classifies, Tabulates, Contains};
 
 // The verdicts of the two calls.
@@ -17,9 +18,9 @@ pub struct Containment {
 
 // Judges a relation, then writes the order.
 pub fn contains(game: &[u16], relation: &[u8], marks: &mut [u8], spare: &mut [u8]) -> Containment
-    ensures { λ r. ⌜ Contains (now (game .entry)) (now (relation .entry)) (now (marks .entry)) (now (marks .exit)) (now (spare .entry)) (now (spare .exit)) r ⌝ }
+    ensures { λ r. ⌜ Contains (now (game .entry)) (now (relation .entry)) (now (marks .entry)) (now (spare .entry)) r (now (marks .exit)) (now (spare .exit)) ⌝ }
 {
-    let judged = order::accept_relation(game, relation);
+    let judged = relation::accept_relation(game, relation);
     let written = order::write_order(game, marks, spare);
     Containment {
         relation: judged,
@@ -29,7 +30,7 @@ pub fn contains(game: &[u16], relation: &[u8], marks: &mut [u8], spare: &mut [u8
 
 // Writes the order.
 pub fn orders(game: &[u16], marks: &mut [u8], spare: &mut [u8]) -> Ordering
-    ensures { λ r. ⌜ Orders (now (game .entry)) (now (marks .entry)) (now (marks .exit)) (now (spare .entry)) (now (spare .exit)) (orderingAnswer r) ⌝ }
+    ensures { λ r. ⌜ Orders (now (game .entry)) (now (marks .entry)) (now (spare .entry)) (orderingAnswer r) (now (marks .exit)) (now (spare .exit)) ⌝ }
 {
     order::write_order(game, marks, spare)
 }
@@ -43,7 +44,7 @@ pub fn classifies(
 ) -> Classification
     ensures { λ r. ⌜ Classifies (now (game .entry)) (now (marks .entry)) (now (spare .entry)) (now (classes .entry)) (classificationAnswer r) (now (marks .exit)) (now (spare .exit)) (now (classes .exit)) ⌝ }
 {
-    reduction::write_classes(game, marks, spare, classes)
+    classes::write_classes(game, marks, spare, classes)
 }
 
 // Writes the quotient game.

@@ -8,10 +8,20 @@ use Rattle.theory.specs.Bools.{_&_, bit}
 use Rattle.theory.specs.Range.{first, count, tabulate}
 use Rattle.theory.specs.Passes.{Marks, marked, Test, nextPass, pass, settled, rounds, pairStart, pairTest}
 use Rattle.theory.specs.Game.{even}
-use Rattle.theory.specs.Order.{equalPriority, test, orderMarks, orderPasses}
-use Rattle.table.specs.Table.{vertexCount, gameOf}
+use Rattle.theory.specs.Order.{equalPriority, test, orderPasses}
+use Rattle.table.specs.Table.{vertexCount, pairCount, gameOf}
 use Rattle.table.specs.Verdict.{written}
-use Rattle.order.specs.Bytes.{bytes, isMark, marksOf, relation}
+use Rattle.table.specs.WellFormed.{WellFormed}
+use Rattle.index.specs.Index.{EdgeIndex}
+use Rattle.pairs.specs.Marks.{marksLength, bytes, isMark, marksOf, relation}
+use Rattle.order.specs.OrderCall.{orderBytes}
+
+-- a well-formed table, the index of its edges, and two buffers for the marks of all pairs
+pub record PassReady (g starts targets marks spare : List ℕ) : Type 0 where
+  pub game : WellFormed g
+  pub index : EdgeIndex g starts targets
+  pub marksFit : marksLength (vertexCount g) ≤ length marks
+  pub spareFit : marksLength (vertexCount g) ≤ length spare
 
 -- how many marks the pass after m unmarks
 unfoldable pub cleared : ℕ → Test → Marks → ℕ
@@ -21,10 +31,7 @@ cleared N ok m = count N (λ i. marked m i & not (ok (marked m) i))
 abbrev pub Unsettled : ℕ → Test → (ℕ → Bool) → ℕ → Type 0
 Unsettled N ok start k = (k ≤ N) × (rounds N ok start ≡ first (λ j. settled N ok (pass N ok start j)) k (suc N))
 
--- the pairs of vertices, pass 0 and the test of the table's game
-abbrev pub pairCount : List ℕ → ℕ
-pairCount g = vertexCount g * vertexCount g
-
+-- pass 0 and the test of the table's game
 abbrev pub equalPairs : List ℕ → ℕ → Bool
 equalPairs g = pairStart (vertexCount g) (equalPriority (gameOf g) (gameOf g))
 
@@ -70,8 +77,8 @@ pub record PassDone (g marks old new : List ℕ) (c : ℕ) : Type 0 where
   pub spare : new ≡ written (bytes (nextPass (pairCount g) (pairPasses g) (marksOf (pairCount g) marks))) old
   pub count : c ≡ cleared (pairCount g) (pairPasses g) (marksOf (pairCount g) marks)
 
--- all passes are done: both buffers hold the order's marks, and c passes were made
-pub record OrderDone (g oldMarks newMarks oldSpare newSpare : List ℕ) (c : ℕ) : Type 0 where
-  pub marks : newMarks ≡ written (bytes (orderMarks (gameOf g))) oldMarks
-  pub spare : newSpare ≡ written (bytes (orderMarks (gameOf g))) oldSpare
-  pub count : c ≡ orderPasses (gameOf g)
+-- all passes are done: their number, and both buffers hold the order's marks
+pub record OrderDone (game marks spare : List ℕ) (passes : ℕ) (marks′ spare′ : List ℕ) : Type 0 where
+  pub count : passes ≡ orderPasses (gameOf game)
+  pub marks-after : marks′ ≡ written (orderBytes game) marks
+  pub spare-after : spare′ ≡ written (orderBytes game) spare

@@ -21,13 +21,13 @@ use Rattle.theory.specs.Game.{Player, even, Game, own, Succ}
 use Rattle.theory.specs.SimulationLaws.{moves-mono}
 use Rattle.theory.specs.Order.{equalPriority, test, orderMarks, marksBetween, orderPasses, Holds}
 use Rattle.theory.specs.OrderLaws.{moves-in, moves-out}
-use Rattle.table.specs.Table.{vertexCount, gameOf}
+use Rattle.table.specs.Table.{vertexCount, pairCount, gameOf}
+use Rattle.table.specs.TableLaws.{game-n}
 use Rattle.table.specs.Verdict.{written}
 use Rattle.table.specs.VerdictLaws.{written-over, drop-written}
-use Rattle.order.specs.Bytes.{bytes, isMark, marksOf, relation}
-use Rattle.order.specs.BytesLaws.{length-bytes, fill-more, marks-written}
-use Rattle.order.specs.IndexLaws.{game-n}
-use Rattle.order.specs.Clearing.{cleared, Unsettled, pairCount, equalPairs, pairPasses, marksAfter, keptAt, clearedAt, keeps, clears, RowWritten, PairDone, RowDone, PassDone}
+use Rattle.pairs.specs.Marks.{bytes, isMark, marksOf, relation}
+use Rattle.pairs.specs.MarksLaws.{length-bytes, fill-more, marks-written}
+use Rattle.order.specs.Clearing.{cleared, Unsettled, equalPairs, pairPasses, marksAfter, keptAt, clearedAt, keeps, clears, RowWritten, PairDone, RowDone, PassDone}
 
 -- ---- a pass that clears nothing is the last
 
@@ -47,7 +47,7 @@ module _ (N : ℕ) (ok : Test) (m : Marks) where
       let b = and-out t in
       clash (imp-out (all-out s .at i h) (b .0)) (not-out (b .1))))))
 
-  -- the last pass clearedAt the marks as they are
+  -- the last pass leaves the marks as they are
   pub settled-same : length m ≡ N → So (settled N ok m) → nextPass N ok m ≡ m
   unfolding nextPass settled
   settled-same e s =

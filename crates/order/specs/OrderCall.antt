@@ -1,37 +1,36 @@
 -- The order call: document 01, "The order", with its table of refusals.
 use mathlib.Core.Path.{_≡_}
 use mathlib.Core.List.{List, [], _∷_, _++_}
-use Prim.Native.Nat.{ℕ, _*_}
-use lib.Dec.{ltb}
-use lib.ListN.{length}
+use Prim.Native.Nat.{ℕ}
 use Rattle.theory.specs.Order.{orderMarks, orderPasses}
 use Rattle.table.specs.Table.{vertexCount, gameOf}
-use Rattle.table.specs.Verdict.{Row, Answer, accepted, refused, judge, after}
-use Rattle.table.specs.Reading.{row, gameRows}
-use Rattle.order.specs.Bytes.{bytes}
+use Rattle.table.specs.Verdict.{Row, memoryRow, Answer, accepted, refused, judge, after}
+use Rattle.table.specs.Reading.{gameRows}
+use Rattle.pairs.specs.Marks.{marksLength, bytes}
 use Rattle.order.specs.declared.Ordering.{Ordering}
 use Rattle.order.specs.declared.Ordering.the-variants.{Accepted, Refused}
 
--- 21 to 24: lent memory shorter than needed; the place is the length needed
-abbrev pub memoryRow : ℕ → ℕ → List ℕ → Row
-memoryRow number needed memory = row number (ltb (length memory) needed) needed
-
 -- 1 to 8, 21, 22
 unfoldable pub orderRows : List ℕ → List ℕ → List ℕ → List Row
-orderRows g marks spare =
-    gameRows g ++ (memoryRow 21 (vertexCount g * vertexCount g) marks ∷ memoryRow 22 (vertexCount g * vertexCount g) spare ∷ [])
+orderRows game marks spare =
+    let needed = marksLength (vertexCount game) in
+    gameRows game ++ (memoryRow 21 needed marks ∷ memoryRow 22 needed spare ∷ [])
 
 -- accepted with the pass count
 unfoldable pub orderAnswer : List ℕ → List ℕ → List ℕ → Answer
-orderAnswer g marks spare = judge (orderRows g marks spare) (orderPasses (gameOf g) ∷ [])
+orderAnswer game marks spare = judge (orderRows game marks spare) (orderPasses (gameOf game) ∷ [])
 
 -- what the cases of the verdict say
 abbrev pub orderingAnswer : Ordering → Answer
 orderingAnswer (Accepted p) = accepted (p .passes ∷ [])
 orderingAnswer (Refused f) = refused (f .number) (f .place)
 
--- the promise: the verdict, and both buffers
-pub record OrderWritten (g oldMarks newMarks oldSpare newSpare : List ℕ) (answer : Answer) : Type 0 where
-  pub verdict : answer ≡ orderAnswer g oldMarks oldSpare
-  pub marks : newMarks ≡ after (orderAnswer g oldMarks oldSpare) (bytes (orderMarks (gameOf g))) oldMarks
-  pub spare : newSpare ≡ after (orderAnswer g oldMarks oldSpare) (bytes (orderMarks (gameOf g))) oldSpare
+-- the marks of the order of a table's game, in memory
+abbrev pub orderBytes : List ℕ → List ℕ
+orderBytes game = bytes (orderMarks (gameOf game))
+
+-- The promise: the verdict, and every lent word. As in every promise of a call: lent memory as it was, the answer, lent memory as it is.
+pub record OrderCall (game marks spare : List ℕ) (answer : Answer) (marks′ spare′ : List ℕ) : Type 0 where
+  pub verdict : answer ≡ orderAnswer game marks spare
+  pub marks-after : marks′ ≡ after (orderRows game marks spare) (orderBytes game) marks
+  pub spare-after : spare′ ≡ after (orderRows game marks spare) (orderBytes game) spare

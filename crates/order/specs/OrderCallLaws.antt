@@ -5,50 +5,58 @@ use Prim.Native.Nat.{ℕ, _≤_, _<_}
 use lib.ListN.{length}
 use borrow.Author.Tests.{lt-ltb, le-ltb}
 use Rattle.theory.specs.Order.{orderPasses}
-use Rattle.table.specs.Table.{gameOf}
-use Rattle.table.specs.Verdict.{accepted, refused, judge}
+use Rattle.table.specs.Table.{vertexCount, gameOf}
+use Rattle.table.specs.Verdict.{memoryRow, accepted, refused, judge}
 use Rattle.table.specs.VerdictLaws.{judge-hit, judge-next, after-accepted, after-refused}
 use Rattle.table.specs.Reading.{readAnswer, readingAnswer}
 use Rattle.table.specs.ReadingLaws.{reading-past, reading-stays}
 use Rattle.table.specs.declared.Sizes.{Sizes}
 use Rattle.table.specs.declared.Refusal.{Refusal}
 use Rattle.table.specs.declared.Reading.the-variants.{Accepted, Refused}
-use Rattle.order.specs.Clearing.{pairCount, OrderDone}
-use Rattle.order.specs.OrderCall.{memoryRow, orderRows, orderAnswer, OrderWritten}
+use Rattle.pairs.specs.Marks.{marksLength}
+use Rattle.order.specs.OrderCall.{orderRows, orderAnswer, orderBytes, OrderCall}
+use Rattle.order.specs.Clearing.{OrderDone}
 
-module _ (g marks spare : List ℕ) where
-  written-refused : (k p : ℕ) → orderAnswer g marks spare ≡ refused k p → OrderWritten g marks marks spare spare (refused k p)
-  written-refused k p e = record { verdict = sym e; marks = sym (after-refused _ marks e); spare = sym (after-refused _ spare e) }
+module _ (game marks spare : List ℕ) where
+  abbrev needed : ℕ
+  needed = marksLength (vertexCount game)
+
+  order-old : (k p : ℕ) → orderAnswer game marks spare ≡ refused k p → OrderCall game marks spare (refused k p) marks spare
+  unfolding orderAnswer
+  order-old k p e = record {
+    verdict = sym e;
+    marks-after = sym (after-refused (orderRows game marks spare) _ (orderBytes game) marks e);
+    spare-after = sym (after-refused (orderRows game marks spare) _ (orderBytes game) spare e);
+  }
 
   -- the reader's refusal is the call's
-  pub order-handed : (f : Refusal) → readingAnswer (Refused f) ≡ readAnswer g → OrderWritten g marks marks spare spare (refused (f .number) (f .place))
-  order-handed f e = written-refused (f .number) (f .place) (unfold orderAnswer orderRows in reading-stays g f e _ _)
+  pub order-handed : (f : Refusal) → readingAnswer (Refused f) ≡ readAnswer game → OrderCall game marks spare (refused (f .number) (f .place)) marks spare
+  order-handed f e = order-old (f .number) (f .place) (unfold orderAnswer orderRows in reading-stays game f e _ _)
 
-  module _ (c : Sizes) (e : readingAnswer (Accepted c) ≡ readAnswer g) where
-    memory : orderAnswer g marks spare
-        ≡ judge (memoryRow 21 (pairCount g) marks ∷ memoryRow 22 (pairCount g) spare ∷ []) (orderPasses (gameOf g) ∷ [])
+  module _ (c : Sizes) (e : readingAnswer (Accepted c) ≡ readAnswer game) where
+    memory : orderAnswer game marks spare ≡ judge (memoryRow 21 needed marks ∷ memoryRow 22 needed spare ∷ []) (orderPasses (gameOf game) ∷ [])
     unfolding orderAnswer orderRows
-    memory = reading-past g c e _ _
+    memory = reading-past game c e _ _
 
-    pub order-short-marks : length marks < pairCount g → OrderWritten g marks marks spare spare (refused 21 (pairCount g))
-    order-short-marks h = written-refused 21 (pairCount g) (memory ∙ judge-hit _ _ _ (lt-ltb (length marks) (pairCount g) h))
+    pub order-short-marks : length marks < needed → OrderCall game marks spare (refused 21 needed) marks spare
+    order-short-marks h = order-old 21 needed (memory ∙ judge-hit _ _ _ (lt-ltb (length marks) needed h))
 
-    module _ (h : pairCount g ≤ length marks) where
-      marks-fit : orderAnswer g marks spare ≡ judge (memoryRow 22 (pairCount g) spare ∷ []) (orderPasses (gameOf g) ∷ [])
-      marks-fit = memory ∙ judge-next _ _ _ (le-ltb (length marks) (pairCount g) h)
+    module _ (h : needed ≤ length marks) where
+      marks-fit : orderAnswer game marks spare ≡ judge (memoryRow 22 needed spare ∷ []) (orderPasses (gameOf game) ∷ [])
+      marks-fit = memory ∙ judge-next _ _ _ (le-ltb (length marks) needed h)
 
-      pub order-short-spare : length spare < pairCount g → OrderWritten g marks marks spare spare (refused 22 (pairCount g))
-      order-short-spare k = written-refused 22 (pairCount g) (marks-fit ∙ judge-hit _ _ _ (lt-ltb (length spare) (pairCount g) k))
+      pub order-short-spare : length spare < needed → OrderCall game marks spare (refused 22 needed) marks spare
+      order-short-spare k = order-old 22 needed (marks-fit ∙ judge-hit _ _ _ (lt-ltb (length spare) needed k))
 
       -- both fit
-      pub order-done : pairCount g ≤ length spare → (newMarks newSpare : List ℕ) (passes : ℕ) → OrderDone g marks newMarks spare newSpare passes
-          → OrderWritten g marks newMarks spare newSpare (accepted (passes ∷ []))
-      unfolding judge
-      order-done k newMarks newSpare passes d =
-          let a : orderAnswer g marks spare ≡ accepted (orderPasses (gameOf g) ∷ []) =
-          marks-fit ∙ judge-next _ [] (orderPasses (gameOf g) ∷ []) (le-ltb (length spare) (pairCount g) k) in
+      pub order-done : needed ≤ length spare → (passes : ℕ) (marks′ spare′ : List ℕ) → OrderDone game marks spare passes marks′ spare′
+          → OrderCall game marks spare (accepted (passes ∷ [])) marks′ spare′
+      unfolding judge orderAnswer
+      order-done k passes marks′ spare′ d =
+          let a : orderAnswer game marks spare ≡ accepted (orderPasses (gameOf game) ∷ []) =
+          marks-fit ∙ judge-next _ [] (orderPasses (gameOf game) ∷ []) (le-ltb (length spare) needed k) in
           record {
             verdict = rw (d .count) (sym a);
-            marks = d .marks ∙ sym (after-accepted _ marks a);
-            spare = d .spare ∙ sym (after-accepted _ spare a);
+            marks-after = d .marks-after ∙ sym (after-accepted (orderRows game marks spare) _ (orderBytes game) marks a);
+            spare-after = d .spare-after ∙ sym (after-accepted (orderRows game marks spare) _ (orderBytes game) spare a);
           }

@@ -7,7 +7,7 @@ use Prim.Native.Nat.{ℕ, suc, _+_, _*_, _≤_, _<_}
 use native.Mathlib.Omega.{arith}
 use lib.Arith.{digits-lt}
 use lib.ListN.{length, getD}
-use borrow.Author.Tests.{ltb-true, ltb-false, lt-ltb, le-ltb}
+use borrow.Author.Tests.{ltb-false, le-ltb}
 use Rattle.theory.specs.Bools.{bit}
 use Rattle.theory.specs.BoolsLaws.{bit-in, bit-out}
 use Rattle.theory.specs.Passes.{marked, relOf}
@@ -15,23 +15,20 @@ use Rattle.theory.specs.Game.{even}
 use Rattle.theory.specs.Simulation.{Below}
 use Rattle.theory.specs.Order.{order, orderMarks, orderPasses}
 use Rattle.theory.specs.OrderLaws.{order-in, order-out, length-orderMarks, orderPasses-le}
-use Rattle.table.specs.Table.{vertexCount, gameOf}
-use Rattle.table.specs.Verdict.{Answer, accepted, refused, after}
-use Rattle.table.specs.VerdictLaws.{judge-clean, judge-accepted, getD-written, getD-written-beyond, after-accepted, after-refused, length-after, clean-append, clean-split}
+use Rattle.table.specs.Table.{vertexCount, pairCount, gameOf}
+use Rattle.table.specs.TableLaws.{game-n}
+use Rattle.table.specs.Verdict.{accepted, refused, written}
+use Rattle.table.specs.VerdictLaws.{judge-clean, judge-accepted, length-written, getD-written, getD-written-beyond, after-accepted, after-refused, clean-append, clean-split}
 use Rattle.table.specs.Reading.{gameRows}
 use Rattle.table.specs.ReadingLaws.{rows-render, well-clean, clean-well}
-use Rattle.table.specs.Rules.{FirstRule, Renders, Rendered, none, next}
-use Rattle.table.specs.RulesLaws.{renders-placed, refused-by, rendered-append}
-use Rattle.order.specs.Bytes.{bytes}
-use Rattle.order.specs.BytesLaws.{length-bytes, getD-bytes}
-use Rattle.order.specs.IndexLaws.{game-n}
-use Rattle.order.specs.OrderCall.{memoryRow, orderRows, orderAnswer, OrderWritten}
-use Rattle.order.specs.OrderRules.{memoryRule, orderRules, OrderFits}
+use Rattle.table.specs.Rules.{FirstRule, Rendered, none, next}
+use Rattle.table.specs.RulesLaws.{memory-renders, refused-by, rendered-append}
+use Rattle.pairs.specs.Marks.{marksLength, Marked}
+use Rattle.pairs.specs.MarksLaws.{length-bytes, getD-bytes}
+use Rattle.order.specs.OrderCall.{orderRows, orderAnswer, orderBytes, OrderCall}
+use Rattle.order.specs.OrderRules.{orderRules, OrderFits}
 
 -- ---- refused exactly by the table
-
-pub memory-renders : (number needed : ℕ) (memory : List ℕ) → Renders (memoryRow number needed memory) (memoryRule number needed memory)
-memory-renders number needed memory = renders-placed number needed _ _ (ltb-true (length memory) needed, lt-ltb (length memory) needed)
 
 order-rows-render : (g marks spare : List ℕ) → Rendered (orderRows g marks spare) (orderRules g marks spare)
 unfolding orderRows
@@ -59,60 +56,70 @@ order-accepts g marks spare f =
 
 -- ---- what an accepted call wrote
 
-length-order-bytes : (g : List ℕ) → length (bytes (orderMarks (gameOf g))) ≡ vertexCount g * vertexCount g
-length-order-bytes g = rw (← game-n g) (length-bytes (orderMarks (gameOf g)) ∙ length-orderMarks (gameOf g))
+pub length-orderBytes : (game : List ℕ) → length (orderBytes game) ≡ marksLength (vertexCount game)
+length-orderBytes game = rw (← game-n game) (length-bytes (orderMarks (gameOf game)) ∙ length-orderMarks (gameOf game))
 
-order-mark : (g : List ℕ) (v w : ℕ) → order (gameOf g) v w ≡ marked (orderMarks (gameOf g)) (v * vertexCount g + w)
+order-mark : (game : List ℕ) (v w : ℕ) → order (gameOf game) v w ≡ marked (orderMarks (gameOf game)) (v * vertexCount game + w)
 unfolding order relOf
-order-mark g v w = ap (λ (n : ℕ). marked (orderMarks (gameOf g)) (v * n + w)) (game-n g)
+order-mark game v w = ap (λ (n : ℕ). marked (orderMarks (gameOf game)) (v * n + w)) (game-n game)
 
--- a buffer after it: the byte of (v, w), and bytes beyond
-module _ (g old : List ℕ) (answer : Answer) (counts : List ℕ) (e : answer ≡ accepted counts) where
-  pub after-byte : (v w : ℕ) → v < vertexCount g → w < vertexCount g
-      → getD (after answer (bytes (orderMarks (gameOf g))) old) (v * vertexCount g + w) 0 ≡ bit (order (gameOf g) v w)
-  after-byte v w hv hw =
-      rw (after-accepted (bytes (orderMarks (gameOf g))) old e, order-mark g v w)
-      (getD-written (bytes (orderMarks (gameOf g))) old (v * vertexCount g + w) 0 (rw (length-order-bytes g) (digits-lt hv hw))
-      ∙ getD-bytes (orderMarks (gameOf g)) (v * vertexCount g + w))
+-- a buffer that holds the order: the mark of (v, w), and bytes beyond
+module _ (game old : List ℕ) where
+  pub written-byte : (v w : ℕ) → v < vertexCount game → w < vertexCount game
+      → getD (written (orderBytes game) old) (v * vertexCount game + w) 0 ≡ bit (order (gameOf game) v w)
+  written-byte v w hv hw =
+      rw (order-mark game v w)
+      (getD-written (orderBytes game) old (v * vertexCount game + w) 0 (rw (length-orderBytes game) (digits-lt hv hw))
+      ∙ getD-bytes (orderMarks (gameOf game)) (v * vertexCount game + w))
 
-  after-beyond : (i : ℕ) → vertexCount g * vertexCount g ≤ i → getD (after answer (bytes (orderMarks (gameOf g))) old) i 0 ≡ getD old i 0
-  after-beyond i h =
-      rw (after-accepted (bytes (orderMarks (gameOf g))) old e) (getD-written-beyond (bytes (orderMarks (gameOf g))) old i 0 (rw (length-order-bytes g) h))
+  written-beyond : (i : ℕ) → marksLength (vertexCount game) ≤ i → getD (written (orderBytes game) old) i 0 ≡ getD old i 0
+  written-beyond i h = getD-written-beyond (orderBytes game) old i 0 (rw (length-orderBytes game) h)
 
-module _ (g oldMarks newMarks oldSpare newSpare counts : List ℕ) (p : OrderWritten g oldMarks newMarks oldSpare newSpare (accepted counts)) where
-  module _ (v w : ℕ) (hv : v < vertexCount g) (hw : w < vertexCount g) where
-    pub written-marks : getD newMarks (v * vertexCount g + w) 0 ≡ bit (order (gameOf g) v w)
-    written-marks = rw (p .marks) (after-byte g oldMarks _ counts (sym (p .verdict)) v w hv hw)
+module _ (game marks spare counts marks′ spare′ : List ℕ) (call : OrderCall game marks spare (accepted counts) marks′ spare′) where
+  marks-hold : marks′ ≡ written (orderBytes game) marks
+  unfolding orderAnswer
+  marks-hold = call .marks-after ∙ after-accepted (orderRows game marks spare) _ (orderBytes game) marks (sym (call .verdict))
 
-    pub written-spare : getD newSpare (v * vertexCount g + w) 0 ≡ bit (order (gameOf g) v w)
-    written-spare = rw (p .spare) (after-byte g oldSpare _ counts (sym (p .verdict)) v w hv hw)
+  spare-holds : spare′ ≡ written (orderBytes game) spare
+  unfolding orderAnswer
+  spare-holds = call .spare-after ∙ after-accepted (orderRows game marks spare) _ (orderBytes game) spare (sym (call .verdict))
+
+  module _ (v w : ℕ) (hv : v < vertexCount game) (hw : w < vertexCount game) where
+    pub written-marks : getD marks′ (v * vertexCount game + w) 0 ≡ bit (order (gameOf game) v w)
+    written-marks = rw marks-hold (written-byte game marks v w hv hw)
+
+    pub written-spare : getD spare′ (v * vertexCount game + w) 0 ≡ bit (order (gameOf game) v w)
+    written-spare = rw spare-holds (written-byte game spare v w hv hw)
 
     -- 1 exactly if some direct simulation holds the pair
-    pub marked-below : getD newMarks (v * vertexCount g + w) 0 ≡ 1 → Below even (gameOf g) (gameOf g) v w
-    marked-below e = order-out (gameOf g) (bit-out _ (sym written-marks ∙ e))
+    pub marked-below : Marked (vertexCount game) marks′ v w → Below even (gameOf game) (gameOf game) v w
+    marked-below e = order-out (gameOf game) (bit-out _ (sym written-marks ∙ e))
 
-    pub below-marked : Below even (gameOf g) (gameOf g) v w → getD newMarks (v * vertexCount g + w) 0 ≡ 1
-    below-marked b = written-marks ∙ bit-in (order-in (gameOf g) (rw (game-n g) hv) (rw (game-n g) hw) b)
+    pub below-marked : Below even (gameOf game) (gameOf game) v w → Marked (vertexCount game) marks′ v w
+    below-marked b = written-marks ∙ bit-in (order-in (gameOf game) (rw (game-n game) hv) (rw (game-n game) hw) b)
 
-  pub length-marks : length newMarks ≡ length oldMarks
+  pub length-marks : length marks′ ≡ length marks
   length-marks =
-      let f = order-accepted g oldMarks oldSpare counts (sym (p .verdict)) .0 in
-      ap length (p .marks) ∙ length-after _ (bytes (orderMarks (gameOf g))) oldMarks (omega (arith, f .marksFit, length-order-bytes g))
+      let f = order-accepted game marks spare counts (sym (call .verdict)) .0 in
+      ap length marks-hold ∙ length-written (orderBytes game) marks (omega (arith, f .marksFit, length-orderBytes game))
 
-  pub beyond-marks : (i : ℕ) → vertexCount g * vertexCount g ≤ i → getD newMarks i 0 ≡ getD oldMarks i 0
-  beyond-marks i h = rw (p .marks) (after-beyond g oldMarks _ counts (sym (p .verdict)) i h)
+  pub beyond-marks : (i : ℕ) → marksLength (vertexCount game) ≤ i → getD marks′ i 0 ≡ getD marks i 0
+  beyond-marks i h = rw marks-hold (written-beyond game marks i h)
 
-  pub beyond-spare : (i : ℕ) → vertexCount g * vertexCount g ≤ i → getD newSpare i 0 ≡ getD oldSpare i 0
-  beyond-spare i h = rw (p .spare) (after-beyond g oldSpare _ counts (sym (p .verdict)) i h)
+  pub beyond-spare : (i : ℕ) → marksLength (vertexCount game) ≤ i → getD spare′ i 0 ≡ getD spare i 0
+  beyond-spare i h = rw spare-holds (written-beyond game spare i h)
 
   -- at most n × n - n + 1 passes
-  pub passes-bound : (c : ℕ) → counts ≡ c ∷ [] → c + vertexCount g ≤ suc (vertexCount g * vertexCount g)
+  pub passes-bound : (c : ℕ) → counts ≡ c ∷ [] → c + vertexCount game ≤ suc (pairCount game)
   passes-bound c e =
-      let q : orderPasses (gameOf g) ≡ c = cc (order-accepted g oldMarks oldSpare counts (sym (p .verdict)) .1, e) in
-      rw (← q) (subst (λ (n : ℕ). orderPasses (gameOf g) + n ≤ suc (n * n)) (game-n g) (orderPasses-le (gameOf g)))
+      let q : orderPasses (gameOf game) ≡ c = cc (order-accepted game marks spare counts (sym (call .verdict)) .1, e) in
+      rw (← q) (subst (λ (n : ℕ). orderPasses (gameOf game) + n ≤ suc (n * n)) (game-n game) (orderPasses-le (gameOf game)))
 
 -- a refused call left both buffers as they were
-pub refused-old : (g oldMarks newMarks oldSpare newSpare : List ℕ) (k p : ℕ) → OrderWritten g oldMarks newMarks oldSpare newSpare (refused k p)
-    → (newMarks ≡ oldMarks) × (newSpare ≡ oldSpare)
-refused-old g oldMarks newMarks oldSpare newSpare k p w =
-    (w .marks ∙ after-refused _ oldMarks (sym (w .verdict)), w .spare ∙ after-refused _ oldSpare (sym (w .verdict)))
+pub refused-old : (game marks spare : List ℕ) (k p : ℕ) (marks′ spare′ : List ℕ) → OrderCall game marks spare (refused k p) marks′ spare′
+    → (marks′ ≡ marks) × (spare′ ≡ spare)
+unfolding orderAnswer
+refused-old game marks spare k p marks′ spare′ call = (
+  call .marks-after ∙ after-refused (orderRows game marks spare) _ (orderBytes game) marks (sym (call .verdict)),
+  call .spare-after ∙ after-refused (orderRows game marks spare) _ (orderBytes game) spare (sym (call .verdict)),
+)

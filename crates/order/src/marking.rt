@@ -1,19 +1,19 @@
-// A part of this crate's calls; no host calls it.
+// A part of the calls that leave the order; no host calls it.
 // The passes of document 01, "The order", over marks in buffers.
-use crate::pairs::pair_passes;
-use crate::pairs::same_priority;
+use pairs::test::pair_passes;
+use pairs::test::same_priority;
 ghost use mathlib.Core.Path.{_≡_};
 ghost use Prim.Native.Nat.{_+_, _*_, _<_, _≤_};
 ghost use lib.ListN.{length};
 ghost use Rattle.theory.specs.Bools.{bit};
 ghost use Rattle.theory.specs.Range.{tabulate};
 ghost use Rattle.theory.specs.Order.{equalPriority};
-ghost use Rattle.table.specs.Table.{vertexCount, gameOf};
+ghost use Rattle.table.specs.Table.{vertexCount, pairCount, gameOf};
 ghost use Rattle.table.specs.Verdict.{written};
 ghost use Rattle.table.specs.WellFormed.{WellFormed};
-ghost use Rattle.order.specs.Bytes.{bytes};
-ghost use Rattle.order.specs.Ready.{PairReady, PassReady};
-ghost use Rattle.order.specs.Clearing.{pairCount, equalPairs, RowWritten, PairDone, RowDone, PassDone, OrderDone};
+ghost use Rattle.pairs.specs.Marks.{bytes};
+ghost use Rattle.pairs.specs.Ready.{PairReady};
+ghost use Rattle.order.specs.Clearing.{PassReady, equalPairs, RowWritten, PairDone, RowDone, PassDone, OrderDone};
 
 // The mark of (v, w) in pass 0.
 fn equal_mark(game: &[u16], v: usize, w: usize) -> u8
@@ -56,7 +56,7 @@ fn mark_equal(game: &[u16], marks: &mut [u8])
 // Writes the mark of (v, w), byte k, after the pass; 1 if the pass clears it.
 fn pass_pair(
     game: &[u16],
-    offsets: &[u16],
+    starts: &[u16],
     targets: &[u16],
     marks: &[u8],
     spare: &mut [u8],
@@ -64,7 +64,7 @@ fn pass_pair(
     w: usize,
     k: usize,
 ) -> u32
-    requires { ⌜ PairReady (now game) (now offsets) (now targets) (now marks) v w ⌝ }
+    requires { ⌜ PairReady (now game) (now starts) (now targets) (now marks) v w ⌝ }
     requires { ⌜ (pairCount (now game) ≤ length (now spare)) × (k ≡ v * vertexCount (now game) + w) ⌝ }
     ensures { λ r. ⌜ PairDone (now (game .entry)) (now (marks .entry)) (now (spare .entry)) (now (spare .exit)) v w r ⌝ }
 {
@@ -72,7 +72,7 @@ fn pass_pair(
         spare[k] = 0;
         return 0;
     }
-    if !pair_passes(game, offsets, targets, marks, v, w) {
+    if !pair_passes(game, starts, targets, marks, v, w) {
         spare[k] = 0;
         return 1;
     }
@@ -83,13 +83,13 @@ fn pass_pair(
 // The pass for the pairs of v; how many marks it clears.
 fn pass_row(
     game: &[u16],
-    offsets: &[u16],
+    starts: &[u16],
     targets: &[u16],
     marks: &[u8],
     spare: &mut [u8],
     v: usize,
 ) -> u32
-    requires { ⌜ PassReady (now game) (now offsets) (now targets) (now marks) (now spare) ⌝ }
+    requires { ⌜ PassReady (now game) (now starts) (now targets) (now marks) (now spare) ⌝ }
     requires { ⌜ v < vertexCount (now game) ⌝ }
     ensures { λ r. ⌜ RowDone (now (game .entry)) (now (marks .entry)) (now (spare .entry)) (now (spare .exit)) v (vertexCount (now (game .entry))) r ⌝ }
 {
@@ -98,22 +98,22 @@ fn pass_row(
     let mut cleared: u32 = 0;
     let mut w = 0;
     while w < n {
-        cleared += pass_pair(game, offsets, targets, marks, spare, v, w, row + w);
+        cleared += pass_pair(game, starts, targets, marks, spare, v, w, row + w);
         w += 1;
     }
     cleared
 }
 
 // A pass from marks to spare; how many marks it clears.
-fn pass(game: &[u16], offsets: &[u16], targets: &[u16], marks: &[u8], spare: &mut [u8]) -> u32
-    requires { ⌜ PassReady (now game) (now offsets) (now targets) (now marks) (now spare) ⌝ }
+fn pass(game: &[u16], starts: &[u16], targets: &[u16], marks: &[u8], spare: &mut [u8]) -> u32
+    requires { ⌜ PassReady (now game) (now starts) (now targets) (now marks) (now spare) ⌝ }
     ensures { λ r. ⌜ PassDone (now (game .entry)) (now (marks .entry)) (now (spare .entry)) (now (spare .exit)) r ⌝ }
 {
     let n = game[0] as usize;
     let mut cleared: u32 = 0;
     let mut v = 0;
     while v < n {
-        cleared += pass_row(game, offsets, targets, marks, spare, v);
+        cleared += pass_row(game, starts, targets, marks, spare, v);
         v += 1;
     }
     cleared
@@ -122,21 +122,21 @@ fn pass(game: &[u16], offsets: &[u16], targets: &[u16], marks: &[u8], spare: &mu
 // Makes the passes, from one buffer to the other and back; how many there were. The last leaves the same marks in both.
 pub fn settle(
     game: &[u16],
-    offsets: &[u16],
+    starts: &[u16],
     targets: &[u16],
     marks: &mut [u8],
     spare: &mut [u8],
 ) -> u32
-    requires { ⌜ PassReady (now game) (now offsets) (now targets) (now marks) (now spare) ⌝ }
-    ensures { λ r. ⌜ OrderDone (now (game .entry)) (now (marks .entry)) (now (marks .exit)) (now (spare .entry)) (now (spare .exit)) r ⌝ }
+    requires { ⌜ PassReady (now game) (now starts) (now targets) (now marks) (now spare) ⌝ }
+    ensures { λ r. ⌜ OrderDone (now (game .entry)) (now (marks .entry)) (now (spare .entry)) r (now (marks .exit)) (now (spare .exit)) ⌝ }
 {
     mark_equal(game, marks);
     let mut passes: u32 = 0;
     loop {
-        if pass(game, offsets, targets, marks, spare) == 0 {
+        if pass(game, starts, targets, marks, spare) == 0 {
             return passes + 1;
         }
-        if pass(game, offsets, targets, spare, marks) == 0 {
+        if pass(game, starts, targets, spare, marks) == 0 {
             return passes + 2;
         }
         passes += 2;

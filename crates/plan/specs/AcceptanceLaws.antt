@@ -15,6 +15,7 @@ use Rattle.theory.specs.Game.{own, Succ}
 use Rattle.theory.specs.Plan.{linked}
 use Rattle.theory.specs.Returns.{WrongWalk}
 use Rattle.theory.specs.ReturnsLaws.{wrongWalk-return}
+use Rattle.table.specs.Limits.{positionLimit, linkLimit}
 use Rattle.table.specs.Table.{vertexCount, playerOf, gameOf}
 use Rattle.table.specs.Verdict.{Row, Answer, accepted, refused, judge, Clean}
 use Rattle.table.specs.VerdictLaws.{judge-accepted, judge-past, judge-stays, clean-split}
@@ -23,13 +24,15 @@ use Rattle.table.specs.ReadingLaws.{rows-render, clean-well}
 use Rattle.table.specs.ReadingRules.{gameRules}
 use Rattle.table.specs.Rules.{Rule, FirstRule, here, later, NoRule, no-rule, fails, Rendered, none, next}
 use Rattle.table.specs.RulesLaws.{renders-placed, renders-first, judge-refused, judge-refuses, rendered-append, clean-none, none-clean}
-use Rattle.plan.specs.PlanTable.{positionCount, linkCount, vertexAt, linkSource, linkTarget, planLength, planOf}
-use Rattle.plan.specs.Acceptance.{badSize, beyond, firstBeyond, strays, firstStray, anyLink, answers, lacksLink, firstLackingLink, positionPriority, hasLink, returnsWrong, firstReturn, planRows, planAnswer}
-use Rattle.plan.specs.PlanTableLaws.{planOf-links, planOf-link, link-out, anyLink-in, anyLink-out}
-use Rattle.plan.specs.PlanFormed.{PlanFormed, WordsPass}
-use Rattle.plan.specs.PlanFormedLaws.{size-good, words-good}
+use Rattle.links.specs.PlanTable.{positionCount, linkCount, vertexAt, linkSource, linkTarget, planLength, planOf, anyLink, hasLink}
+use Rattle.links.specs.PlanTableLaws.{planOf-links, planOf-link, anyLink-in, anyLink-out}
+use Rattle.links.specs.Refusals.{badSize, beyond, firstBeyond, strays, firstStray}
+use Rattle.links.specs.PlanFormed.{PlanFormed, WordsPass}
+use Rattle.links.specs.PlanFormedLaws.{size-good, words-good, link-inside}
+use Rattle.returns.specs.Returns.{positionPriority, returnsWrong, firstReturn}
+use Rattle.returns.specs.ReturnsLaws.{return-in, return-out}
+use Rattle.plan.specs.Acceptance.{answers, lacksLink, firstLackingLink, planRows, planAnswer}
 use Rattle.plan.specs.AcceptanceRules.{BadSize, Beyond, Strays, LacksMove, LacksAnswer, planRules}
-use Rattle.plan.specs.ReachLaws.{return-in, return-out}
 
 -- ---- what the tests say
 
@@ -42,9 +45,9 @@ bad-size w = (out, into)
         (λ a. ⊎-elim
         (λ b. ⊎-elim
         (λ c. ⊎-elim (λ d. inl (ltb-true (length w) 2 d)) (λ d. inr (inl (eqb-true (positionCount w) 0 d))) (or-out c))
-        (λ c. inr (inr (inl (ltb-true 4096 (positionCount w) c))))
+        (λ c. inr (inr (inl (ltb-true positionLimit (positionCount w) c))))
         (or-out b))
-        (λ b. inr (inr (inr (inl (ltb-true 16384 (linkCount w) b)))))
+        (λ b. inr (inr (inr (inl (ltb-true linkLimit (linkCount w) b)))))
         (or-out a))
         (λ a. inr (inr (inr (inr (eqb-false _ _ (not-out a))))))
         (or-out t)
@@ -52,8 +55,8 @@ bad-size w = (out, into)
     into : BadSize w → So (badSize w)
     into (inl a) = or-left _ (or-left _ (or-left _ (or-left _ (lt-ltb (length w) 2 a))))
     into (inr (inl a)) = or-left _ (or-left _ (or-left _ (or-right _ (eq-eqb (positionCount w) 0 a))))
-    into (inr (inr (inl a))) = or-left _ (or-left _ (or-right _ (lt-ltb 4096 (positionCount w) a)))
-    into (inr (inr (inr (inl a)))) = or-left _ (or-right _ (lt-ltb 16384 (linkCount w) a))
+    into (inr (inr (inl a))) = or-left _ (or-left _ (or-right _ (lt-ltb positionLimit (positionCount w) a)))
+    into (inr (inr (inr (inl a)))) = or-left _ (or-right _ (lt-ltb linkLimit (linkCount w) a))
     into (inr (inr (inr (inr a)))) = or-right _ (not-in (ne-eqb _ _ a))
 
 is-beyond : (n : ℕ) (w : List ℕ) (k : ℕ) → So (beyond n w k) ↔ Beyond n w k
@@ -115,12 +118,6 @@ module _ (g : List ℕ) (player : ℕ) (w : List ℕ) (i : ℕ) where
   unfolding lacksLink
   lacks-in (inl m) = rw (m .owner) (not-in (So-not (λ t. let r = anyLink-out w i (λ j. true) t in m .none (r .0) (rw (planOf-link w i (r .0)) (r .1)))))
   lacks-in (inr m) = rw (m .owner) (not-in (So-not (λ t. let r = answers-out g w i t (m .successor) (m .move) in m .none (r .position) (rw (planOf-link w i (r .position)) (r .linked)) (r .at))))
-
--- links of a well-formed plan lead from position to position
-pub link-inside : {n : ℕ} {w : List ℕ} → PlanFormed n w → (i j : ℕ) → So (hasLink w i j) → (i < positionCount w) × (j < positionCount w)
-link-inside {n} {w} f i j t =
-    let k = link-out w i j t in
-    (rw (← k .source) (f .sources (k .number) (k .inside)), rw (← k .target) (f .targets (k .number) (k .inside)))
 
 is-wrong : (g : List ℕ) (player : ℕ) (w : List ℕ) → PlanFormed (vertexCount g) w → (i : ℕ)
     → So (returnsWrong g player w i) ↔ WrongWalk (playerOf player) (positionPriority g w) (linked (planOf w .links)) i

@@ -8,18 +8,19 @@ use lib.ListN.{length, getD}
 use Rattle.theory.specs.Game.{own, Succ}
 use Rattle.theory.specs.Plan.{linked, Wins}
 use Rattle.theory.specs.Returns.{WrongWalk}
+use Rattle.table.specs.Limits.{positionLimit, linkLimit}
 use Rattle.table.specs.Table.{vertexCount, playerOf, gameOf}
 use Rattle.table.specs.WellFormed.{WellFormed}
 use Rattle.table.specs.Rules.{Rule, placed, firstSuch}
-use Rattle.plan.specs.PlanTable.{positionCount, linkCount, vertexAt, linkSource, linkTarget, planLength, planOf}
-use Rattle.plan.specs.Acceptance.{positionPriority}
-use Rattle.plan.specs.PlanFormed.{PlanSized}
+use Rattle.links.specs.PlanTable.{positionCount, linkCount, vertexAt, linkSource, linkTarget, planLength, planOf}
+use Rattle.links.specs.PlanFormed.{PlanSized}
+use Rattle.returns.specs.Returns.{positionPriority}
 
 -- under 2 words, p or l out of limits, or length not 2 + p + 2l
 abbrev pub BadSize : List ℕ → Type 0
 BadSize w =
     (length w < 2)
-    ⊎ ((positionCount w ≡ 0) ⊎ ((4096 < positionCount w) ⊎ ((16384 < linkCount w) ⊎ (length w ≢ planLength (positionCount w) (linkCount w)))))
+    ⊎ ((positionCount w ≡ 0) ⊎ ((positionLimit < positionCount w) ⊎ ((linkLimit < linkCount w) ⊎ (length w ≢ planLength (positionCount w) (linkCount w)))))
 
 -- word k is a position's vertex not below n, or a link end not below p
 abbrev pub Beyond : ℕ → List ℕ → ℕ → Type 0

@@ -2,12 +2,15 @@
 use mathlib.Core.Path.{_≡_}
 use mathlib.Core.Bool.{Bool, not, cond}
 use mathlib.Core.List.{List}
-use Prim.Native.Nat.{ℕ}
+use Prim.Native.Nat.{ℕ, _≤_, _<_}
 use lib.Dec.{eqb}
-use lib.ListN.{getD}
+use lib.ListN.{length, getD}
 use Rattle.theory.specs.Range.{anyFrom}
-use Rattle.table.specs.Grouping.{among}
-use Rattle.plan.specs.PlanTable.{vertexAt}
+use Rattle.table.specs.Limits.{vertexLimit}
+use Rattle.index.specs.Index.{among, Indexed, EdgeIndex}
+use Rattle.links.specs.PlanTable.{positionCount, vertexAt}
+use Rattle.links.specs.PlanFormed.{PlanFormed, WordsPass}
+use Rattle.links.specs.LinkIndex.{LinkIndex}
 
 -- position j stands at vertex x
 unfoldable pub standsAt : List ℕ → ℕ → ℕ → Bool
@@ -32,3 +35,21 @@ unstampedTarget stamps stamp targets k = unstamped stamps stamp (getD targets k 
 -- no link of i leads to a position at vertex x
 unfoldable pub unanswered : List ℕ → List ℕ → List ℕ → ℕ → ℕ → Bool
 unanswered w starts targets i x = not (among starts targets i (standsAt w x))
+
+-- ---- what the searches ask
+
+-- position i of a plan in a game of n vertices, both indexed, and room for a stamp on each vertex
+pub record AnswerSpace (n : ℕ) (w starts targets edgeStarts edgeTargets stamps : List ℕ) (i : ℕ) : Type 0 where
+  pub formed : PlanFormed n w
+  pub few : n ≤ vertexLimit
+  pub room : n ≤ length stamps
+  pub position : i < positionCount w
+  pub links : Indexed (positionCount w) starts targets
+  pub edges : Indexed n edgeStarts edgeTargets
+
+-- a game, a player's number and a plan that pass 1 to 13, indexes of both, and room for a stamp on each vertex
+pub record LackSpace (g : List ℕ) (player : ℕ) (w starts targets edgeStarts edgeTargets stamps : List ℕ) : Type 0 where
+  pub pass : WordsPass g player w
+  pub links : LinkIndex w starts targets
+  pub edges : EdgeIndex g edgeStarts edgeTargets
+  pub room : vertexLimit ≤ length stamps

@@ -18,15 +18,16 @@ use Rattle.table.specs.Verdict.{accepted, Clean}
 use Rattle.table.specs.VerdictLaws.{judge-clean, judge-accepted, clean-split, clean-append}
 use Rattle.table.specs.Reading.{gameRows}
 use Rattle.table.specs.ReadingLaws.{well-clean}
-use Rattle.plan.specs.PlanTable.{positionCount, linkCount, vertexAt, linkSource, linkTarget, planOf}
-use Rattle.plan.specs.Acceptance.{strays, firstStray, anyLink, answers, lacksLink, firstLackingLink, returns, positionPriority, hasLink, returnsWrong, firstReturn, planRows, planAnswer}
-use Rattle.plan.specs.PlanTableLaws.{planOf-length, planOf-vertex, planOf-links, planOf-link, link-in, link-out, anyLink-out}
-use Rattle.plan.specs.PlanFormed.{PlanSized, PlanFormed, WordsPass}
-use Rattle.plan.specs.PlanFormedLaws.{good-size, good-words}
+use Rattle.links.specs.PlanTable.{positionCount, linkCount, vertexAt, linkSource, linkTarget, planOf, anyLink, hasLink}
+use Rattle.links.specs.PlanTableLaws.{planOf-length, planOf-vertex, planOf-links, planOf-link, link-in, link-out, anyLink-out}
+use Rattle.links.specs.Refusals.{strays, firstStray}
+use Rattle.links.specs.PlanFormed.{PlanSized, PlanFormed, WordsPass}
+use Rattle.links.specs.PlanFormedLaws.{good-size, good-words, link-inside}
+use Rattle.returns.specs.Returns.{returns, positionPriority, returnsWrong, firstReturn}
+use Rattle.returns.specs.ReturnsLaws.{return-in, return-out, returns-ext}
+use Rattle.plan.specs.Acceptance.{answers, lacksLink, firstLackingLink, planRows, planAnswer}
 use Rattle.plan.specs.AcceptanceRules.{LacksMove, LacksAnswer, Accepts}
-use Rattle.plan.specs.ReachLaws.{return-in, return-out}
-use Rattle.plan.specs.SearchLaws.{returns-ext}
-use Rattle.plan.specs.AcceptanceLaws.{answers-out, lacks-out, link-inside, wordRows, clean-words, split-rows}
+use Rattle.plan.specs.AcceptanceLaws.{answers-out, lacks-out, wordRows, clean-words, split-rows}
 
 -- ---- rows 14 to 16
 

@@ -1,17 +1,22 @@
-// A part of this crate's calls; no host calls it.
-// Refusal 15: positions that lack a needed link. `edge_starts` and `edge_targets` index the game's edges, `starts` and `targets` the links.
-use crate::links::vertex_of;
-use table::index::index;
+// Refusal 15: positions that lack a needed link. A part of the plan acceptor; no host calls it.
+// `edge_starts` and `edge_targets` index the game's edges, `starts` and `targets` the links.
+use index::of_edges;
+use index::run_of;
+use links::vertex_of;
+use table::limits::EDGES;
+use table::limits::VERTEX_STARTS;
+use table::limits::VERTICES;
 ghost use mathlib.Core.Path.{_≡_};
 ghost use Prim.Native.Nat.{ℕ, _+_, _≤_, _<_};
 ghost use lib.ListN.{length, getD};
-ghost use Rattle.table.specs.Grouping.{among, EdgeIndex};
-ghost use Rattle.plan.specs.PlanTable.{positionCount, vertexAt};
-ghost use Rattle.plan.specs.PlanFormed.{PlanFormed, WordsPass};
+ghost use Rattle.table.specs.Limits.{vertexLimit};
+ghost use Rattle.index.specs.Index.{among, Indexed};
+ghost use Rattle.links.specs.PlanTable.{positionCount, vertexAt};
+ghost use Rattle.links.specs.PlanFormed.{PlanFormed, WordsPass};
+ghost use Rattle.links.specs.LinkIndex.{LinkIndex};
+ghost use Rattle.returns.specs.Search.{NoLater};
 ghost use Rattle.plan.specs.Acceptance.{lacksLink, firstLackingLink};
-ghost use Rattle.plan.specs.Index.{LinkIndex};
-ghost use Rattle.plan.specs.Search.{Graph};
-ghost use Rattle.plan.specs.Stamps.{Stamped, unstamped, unanswered};
+ghost use Rattle.plan.specs.Stamps.{Stamped, unstamped, unanswered, AnswerSpace, LackSpace};
 
 // Stamps the vertex of each position that a link of i leads to.
 fn stamp_answers(
@@ -23,12 +28,12 @@ fn stamp_answers(
     stamp: u16,
 )
     requires { ⌜ PlanFormed (length (now stamps)) (now plan) × (i < positionCount (now plan)) ⌝ }
-    requires { ⌜ Graph (positionCount (now plan)) (now starts) (now targets) ⌝ }
+    requires { ⌜ Indexed (positionCount (now plan)) (now starts) (now targets) ⌝ }
     ensures { λ r. ⌜ Stamped (now (plan .entry)) (now (starts .entry)) (now (targets .entry)) i stamp (now (stamps .entry)) (now (stamps .exit)) ⌝ }
 {
-    let end = starts[i + 1] as usize;
-    let mut t = starts[i] as usize;
-    while t < end {
+    let run = run_of(starts, i);
+    let mut t = run.from;
+    while t < run.end {
         let x = vertex_of(plan, targets[t] as usize);
         stamps[x] = stamp;
         t += 1;
@@ -44,12 +49,13 @@ fn some_unstamped(
     v: usize,
     stamp: u16,
 ) -> bool
-    requires { ⌜ Graph n (now starts) (now targets) × (v < n) × (n ≤ 256) × (n ≤ length (now stamps)) ⌝ }
+    requires { ⌜ Indexed n (now starts) (now targets) ⌝ }
+    requires { ⌜ (v < n) × (n ≤ vertexLimit) × (n ≤ length (now stamps)) ⌝ }
     ensures { λ r. ⌜ r ≡ among (now (starts .entry)) (now (targets .entry)) v (unstamped (now (stamps .entry)) stamp) ⌝ }
 {
-    let end = starts[v + 1] as usize;
-    let mut t = starts[v] as usize;
-    while t < end {
+    let run = run_of(starts, v);
+    let mut t = run.from;
+    while t < run.end {
         if stamps[targets[t] as usize] != stamp {
             return true;
         }
@@ -70,11 +76,10 @@ fn lacks_answer(
     stamps: &mut [u16],
     i: usize,
 ) -> bool
-    requires { ⌜ PlanFormed n (now plan) × (n ≤ 256) × (n ≤ length (now stamps)) × (i < positionCount (now plan)) ⌝ }
-    requires { ⌜ Graph (positionCount (now plan)) (now starts) (now targets) × Graph n (now «edge_starts») (now «edge_targets») ⌝ }
-    requires { ⌜ ((x : ℕ) → getD (now stamps) x 0 ≤ i) ⌝ }
+    requires { ⌜ AnswerSpace n (now plan) (now starts) (now targets) (now «edge_starts») (now «edge_targets») (now stamps) i ⌝ }
+    requires { ⌜ NoLater i (now stamps) ⌝ }
     ensures { λ r. ⌜ r ≡ among (now («edge_starts» .entry)) (now («edge_targets» .entry)) (vertexAt (now (plan .entry)) i) (unanswered (now (plan .entry)) (now (starts .entry)) (now (targets .entry)) i) ⌝ }
-    ensures { λ r. ⌜ ((x : ℕ) → getD (now (stamps .exit)) x 0 ≤ i + 1) ⌝ }
+    ensures { λ r. ⌜ NoLater (i + 1) (now (stamps .exit)) ⌝ }
 {
     let stamp = (i + 1) as u16;
     stamp_answers(plan, starts, targets, stamps, i, stamp);
@@ -94,12 +99,11 @@ fn lacks_link(
     stamps: &mut [u16],
     i: usize,
 ) -> bool
-    requires { ⌜ WordsPass (now game) player (now plan) ⌝ }
-    requires { ⌜ LinkIndex (now plan) (now starts) (now targets) × EdgeIndex (now game) (now «edge_starts») (now «edge_targets») ⌝ }
-    requires { ⌜ (256 ≤ length (now stamps)) × (i < positionCount (now plan)) ⌝ }
-    requires { ⌜ ((x : ℕ) → getD (now stamps) x 0 ≤ i) ⌝ }
+    requires { ⌜ LackSpace (now game) player (now plan) (now starts) (now targets) (now «edge_starts») (now «edge_targets») (now stamps) ⌝ }
+    requires { ⌜ i < positionCount (now plan) ⌝ }
+    requires { ⌜ NoLater i (now stamps) ⌝ }
     ensures { λ r. ⌜ r ≡ lacksLink (now (game .entry)) player (now (plan .entry)) i ⌝ }
-    ensures { λ r. ⌜ ((x : ℕ) → getD (now (stamps .exit)) x 0 ≤ i + 1) ⌝ }
+    ensures { λ r. ⌜ NoLater (i + 1) (now (stamps .exit)) ⌝ }
 {
     let n = game[0] as usize;
     let v = vertex_of(plan, i);
@@ -129,9 +133,7 @@ fn first_lacking_by(
     edge_targets: &[u16],
     stamps: &mut [u16],
 ) -> usize
-    requires { ⌜ WordsPass (now game) player (now plan) ⌝ }
-    requires { ⌜ LinkIndex (now plan) (now starts) (now targets) × EdgeIndex (now game) (now «edge_starts») (now «edge_targets») ⌝ }
-    requires { ⌜ 256 ≤ length (now stamps) ⌝ }
+    requires { ⌜ LackSpace (now game) player (now plan) (now starts) (now targets) (now «edge_starts») (now «edge_targets») (now stamps) ⌝ }
     requires { ⌜ ((x : ℕ) → getD (now stamps) x 0 ≡ 0) ⌝ }
     ensures { λ r. ⌜ r ≡ firstLackingLink (now (game .entry)) player (now (plan .entry)) ⌝ }
 {
@@ -169,20 +171,10 @@ pub fn first_lacking(
     requires { ⌜ LinkIndex (now plan) (now starts) (now targets) ⌝ }
     ensures { λ r. ⌜ r ≡ firstLackingLink (now (game .entry)) player (now (plan .entry)) ⌝ }
 {
-    let n = game[0] as usize;
-    let m = game[1] as usize;
-    let mut edge_starts = [0u16; 257];
-    let mut edge_targets = [0u16; 4096];
-    index(
-        game,
-        2 + 2 * n,
-        2 + 2 * n + m,
-        m,
-        n,
-        &mut edge_starts,
-        &mut edge_targets,
-    );
-    let mut stamps = [0u16; 256];
+    let mut edge_starts = [0u16; VERTEX_STARTS];
+    let mut edge_targets = [0u16; EDGES];
+    of_edges(game, &mut edge_starts, &mut edge_targets);
+    let mut stamps = [0u16; VERTICES];
     first_lacking_by(
         game,
         player,

@@ -1,12 +1,12 @@
 // The plan acceptor. A plan is document 01's term for a finite-memory strategy, given as a graph of positions and links.
 mod answers;
-mod links;
-mod returns;
 
 use table::Acceptance;
 use table::NoCounts;
 use table::Reading;
 use table::acceptor::refused;
+use table::limits::LINKS;
+use table::limits::POSITION_STARTS;
 use table::refusal_of;
 ghost use mathlib.Core.Path.{_≡_};
 ghost use mathlib.Core.List.{[]};
@@ -14,9 +14,9 @@ ghost use lib.ListN.{drop};
 ghost use Rattle.table.specs.Verdict.{judge};
 ghost use Rattle.table.specs.Acceptance.{acceptanceAnswer};
 ghost use Rattle.table.specs.WellFormed.{WellFormed};
-ghost use Rattle.plan.specs.PlanFormed.{WordsPass};
-ghost use Rattle.plan.specs.Index.{LinkIndex};
-ghost use Rattle.plan.specs.Acceptance.{badSize, planRows, planAnswer};
+ghost use Rattle.links.specs.PlanFormed.{WordsPass};
+ghost use Rattle.links.specs.LinkIndex.{LinkIndex};
+ghost use Rattle.plan.specs.Acceptance.{planRows, planAnswer};
 
 // Judges a game, a player (0 Even, 1 Odd) and a plan: the reader's refusals, then 11 to 16 in order. Accepted exactly if the plan wins
 // for the player from the vertex of position 0.
@@ -30,15 +30,15 @@ pub fn accept_plan(game: &[u16], player: u32, plan: &[u16]) -> Acceptance
     judge_plan(game, player, plan)
 }
 
-// 11 to 16, for a game that the reader accepts.
-fn judge_plan(game: &[u16], player: u32, plan: &[u16]) -> Acceptance
+// 11 to 16, for a game that was read already. A part of `accept_plan`, and of the calls that judge a plan after other checks.
+pub fn judge_plan(game: &[u16], player: u32, plan: &[u16]) -> Acceptance
     requires { ⌜ WellFormed (now game) ⌝ }
     ensures { λ r. ⌜ acceptanceAnswer r ≡ judge (planRows (now (game .entry)) player (now (plan .entry))) [] ⌝ }
 {
     if 1 < player {
         return refused(11, 0);
     }
-    if bad_size(plan) {
+    if links::bad_size(plan) {
         return refused(12, 0);
     }
     let n = game[0] as usize;
@@ -54,38 +54,14 @@ fn judge_plan(game: &[u16], player: u32, plan: &[u16]) -> Acceptance
     judge_positions(game, player, plan)
 }
 
-// 12: under 2 words, p or l out of limits, or length not 2 + p + 2l.
-fn bad_size(plan: &[u16]) -> bool
-    ensures { λ r. ⌜ r ≡ badSize (now (plan .entry)) ⌝ }
-{
-    let len = plan.len();
-    if len < 2 {
-        return true;
-    }
-    let p = plan[0] as usize;
-    let l = plan[1] as usize;
-    if p == 0 {
-        return true;
-    }
-    if 4096 < p {
-        return true;
-    }
-    if 16384 < l {
-        return true;
-    }
-    len != 2 + p + 2 * l
-}
-
 // 15 and 16, over an index of the links.
 fn judge_positions(game: &[u16], player: u32, plan: &[u16]) -> Acceptance
     requires { ⌜ WordsPass (now game) player (now plan) ⌝ }
     ensures { λ r. ⌜ acceptanceAnswer r ≡ judge (drop 4 (planRows (now (game .entry)) player (now (plan .entry)))) [] ⌝ }
 {
-    let p = plan[0] as usize;
-    let l = plan[1] as usize;
-    let mut starts = [0u16; 4097];
-    let mut targets = [0u16; 16384];
-    table::index::index(plan, 2 + p, 2 + p + l, l, p, &mut starts, &mut targets);
+    let mut starts = [0u16; POSITION_STARTS];
+    let mut targets = [0u16; LINKS];
+    links::index_links(plan, &mut starts, &mut targets);
     judge_indexed(game, player, plan, &starts, &targets)
 }
 

@@ -1,11 +1,18 @@
--- Edges listed in two parallel arrays, and the words of a table as the code puts them together. No public promise cites these.
+-- Edges listed in two parallel arrays, the words of a table as the code puts them together, and what is written in the end. No public
+-- promise cites these.
 use mathlib.Core.Path.{_≡_}
 use mathlib.Core.List.{List, _∷_, _++_, map}
 use Prim.Native.Nat.{ℕ, _+_}
 use lib.ListN.{length, getD}
-use Rattle.theory.specs.Range.{tabulate}
-use Rattle.table.specs.Table.{vertexCount}
-use Rattle.reduction.specs.Placing.{placed}
+use Rattle.theory.specs.Range.{tabulate, pairsOf}
+use Rattle.theory.specs.Game.{Game}
+use Rattle.table.specs.Table.{vertexCount, gameOf}
+use Rattle.table.specs.TableWords.{tableWords}
+use Rattle.table.specs.Placing.{placed}
+use Rattle.table.specs.Verdict.{written}
+use Rattle.order.specs.Clearing.{OrderDone}
+use Rattle.classes.specs.ClassesCall.{classTotal, classWords}
+use Rattle.reduction.specs.declared.TableCounts.{TableCounts}
 
 abbrev pub sourcesOf : List (ℕ × ℕ) → List ℕ
 sourcesOf es = map (λ e. e .0) es
@@ -25,3 +32,23 @@ tableBy game reps k sources targets e =
     k ∷ e ∷ (tabulate k (λ c. getD game (2 + getD reps c 0) 0)
     ++ (tabulate k (λ c. getD game (2 + vertexCount game + getD reps c 0) 0)
     ++ (tabulate e (λ i. getD sources i 0) ++ tabulate e (λ i. getD targets i 0))))
+
+-- ---- what is written once the game and the memory are judged
+
+-- the edges of a game, ascending
+abbrev pub ascending : Game → List (ℕ × ℕ)
+ascending K = pairsOf (K .n) (K .edge)
+
+-- the classes and the table of K, with the edges ascending
+pub record TableFilled (K : Game → Game) (game classes output : List ℕ) (counts : TableCounts) (classes′ output′ : List ℕ) : Type 0 where
+  pub class-count : counts .classes ≡ classTotal game
+  pub vertex-count : counts .vertices ≡ K (gameOf game) .n
+  pub edge-count : counts .edges ≡ length (ascending (K (gameOf game)))
+  pub classes-after : classes′ ≡ written (classWords game) classes
+  pub output-after : output′ ≡ written (tableWords (K (gameOf game)) (ascending (K (gameOf game)))) output
+
+-- and the order
+pub record TableDone (K : Game → Game) (game marks spare classes output : List ℕ) (counts : TableCounts) (marks′ spare′ classes′ output′ : List ℕ) : Type 0 where
+  pub passes : ℕ
+  pub order : OrderDone game marks spare passes marks′ spare′
+  pub table : TableFilled K game classes output counts classes′ output′

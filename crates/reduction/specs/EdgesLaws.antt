@@ -9,7 +9,7 @@ use native.Mathlib.Omega.{arith}
 use lib.ListN.{length, getD, set, length-append, length-map}
 use Rattle.theory.specs.Range.{tabulate, pairsBelow, pairsOf}
 use Rattle.theory.specs.CountLaws.{count-grows}
-use Rattle.theory.specs.ListLaws.{length-tabulate, getD-tabulate, tabulate-by}
+use Rattle.theory.specs.ListLaws.{tabulate-by}
 use Rattle.theory.specs.LinkLaws.{length-pairsBelow}
 use Rattle.theory.specs.Game.{Game, edgeCount}
 use Rattle.theory.specs.Order.{order}
@@ -21,16 +21,16 @@ use Rattle.table.specs.TableLaws.{edges-listed}
 use Rattle.table.specs.Verdict.{written}
 use Rattle.table.specs.VerdictLaws.{getD-written}
 use Rattle.table.specs.WellFormed.{WellFormed}
-use Rattle.reduction.specs.ClassTable.{ownerWord, tableWords}
-use Rattle.reduction.specs.ClassTableLaws.{length-edges}
-use Rattle.reduction.specs.Calls.{classTotal, classWords}
-use Rattle.reduction.specs.Answers.{TableDone}
-use Rattle.reduction.specs.Placing.{placed}
-use Rattle.reduction.specs.PlacingLaws.{placed-written, placed-join, placed-start, written-join, written-two}
-use Rattle.reduction.specs.Numbering.{classesIn, Represented}
-use Rattle.reduction.specs.Rows.{picked, edgeTo, gameBy}
-use Rattle.reduction.specs.PickedLaws.{pairs-row}
-use Rattle.reduction.specs.Edges.{sourcesOf, targetsOf, Appended, tableBy}
+use Rattle.table.specs.TableWords.{ownerWord, tableWords}
+use Rattle.table.specs.TableWordsLaws.{length-edges}
+use Rattle.classes.specs.ClassesCall.{classTotal, classWords}
+use Rattle.classes.specs.HoldingLaws.{tabulate-ext}
+use Rattle.table.specs.Placing.{placed}
+use Rattle.table.specs.PlacingLaws.{placed-written, placed-join, placed-start, written-join, written-two}
+use Rattle.classes.specs.Numbering.{classesIn, Represented}
+use Rattle.class_edges.specs.Rows.{picked, edgeTo, gameBy}
+use Rattle.class_edges.specs.PickedLaws.{pairs-row}
+use Rattle.reduction.specs.Edges.{sourcesOf, targetsOf, Appended, tableBy, TableFilled}
 
 -- ---- row after row
 
@@ -77,7 +77,7 @@ module _ (c : ℕ) where
 
 -- ---- as many as the game of classes has, and so no more than the table
 
-pub gameBy-n : (drop : Bool) (G : Game) → gameBy drop G .n ≡ classesIn G
+gameBy-n : (drop : Bool) (G : Game) → gameBy drop G .n ≡ classesIn G
 unfolding gameBy quotient reduced classGame
 gameBy-n true G = refl
 gameBy-n false G = refl
@@ -134,9 +134,6 @@ table-parts k e P O S T old o₁ o₂ o₃ o₄ o₅ lp lo ls lt room q₁ q₂ 
     let r₅ : o₅ ≡ written (w₄ ++ T) old = q₅ ∙ rw r₄ (written-join (2 + 2 * k + e) w₄ T old (omega arith) (omega arith)) in
     r₅ ∙ simp append-assoc
 
-tabulate-ext : (n : ℕ) (f g : ℕ → ℕ) → ((i : ℕ) → i < n → f i ≡ g i) → tabulate n f ≡ tabulate n g
-tabulate-ext n f g h = tabulate-by n g 0 (tabulate n f) (length-tabulate n f) (λ i l. getD-tabulate n f 0 i l ∙ h i l)
-
 -- an owner is 0 or 1
 owner-word : (w : ℕ) → w ≤ 1 → w ≡ ownerWord (playerOf w)
 unfolding ownerWord playerOf
@@ -161,7 +158,7 @@ read-back e words old new n w =
     sym (tabulate-by e _ 0 words (sym n) (λ i h. sym (rw (w, placed-written words old) (getD-written words old i 0 (omega arith)))))
 
 -- the words by the representatives and the listed edges are those of the game of classes
-module _ (game reps : List ℕ) (drop : Bool) (k e : ℕ) (s s′ t t′ : List ℕ) (well : WellFormed game) (represented : Represented (gameOf game) reps)
+module _ (game reps : List ℕ) (drop : Bool) (k e : ℕ) (s s′ t t′ : List ℕ) (well : WellFormed game) (represented : Represented (gameOf game .n) (order (gameOf game)) reps)
     (total : k ≡ classesIn (gameOf game)) (appended : Appended (pairsOf k (gameBy drop (gameOf game) .edge)) 0 s s′ t t′ e) where
   abbrev K : Game
   K = gameBy drop (gameOf game)
@@ -202,12 +199,12 @@ module _ (game reps : List ℕ) (drop : Bool) (k e : ℕ) (s s′ t t′ : List 
       cc (size, m, priorities, owners, a, b)
 
   -- all is written
-  pub table-done : (classes classes′ output output′ : List ℕ) → classes′ ≡ written (classWords game) classes → output′ ≡ written (tableBy game reps k s′ t′ e) output
-      → TableDone (gameBy drop) game classes classes′ output output′ (record { classes = k; vertices = k; edges = e })
-  table-done classes classes′ output output′ p q = record {
-    classes-after = p;
-    output-after = q ∙ ap (λ (ws : List ℕ). written ws output) table-words;
+  pub table-filled : (classes output classes′ output′ : List ℕ) → classes′ ≡ written (classWords game) classes → output′ ≡ written (tableBy game reps k s′ t′ e) output
+      → TableFilled (gameBy drop) game classes output (record { classes = k; vertices = k; edges = e }) classes′ output′
+  table-filled classes output classes′ output′ p q = record {
     class-count = unfold classTotal gameOf in total;
     vertex-count = size;
     edge-count = omega (arith, appended .count) ∙ ap length edges-size;
+    classes-after = p;
+    output-after = q ∙ ap (λ (ws : List ℕ). written ws output) table-words;
   }

@@ -1,21 +1,28 @@
 // A part of this crate's calls; no host calls it.
 // The table of a game of classes.
 use crate::TableCounts;
-use crate::classes;
-use crate::rows;
-use crate::words;
+use class_edges::rows::class_row;
+use classes::numbering::number_classes;
+use order::marking::settle;
+use table::limits::EDGES;
+use table::limits::VERTEX_STARTS;
+use table::limits::VERTICES;
+use table::words;
 ghost use mathlib.Core.Path.{_≡_};
 ghost use mathlib.Core.List.{map};
 ghost use Prim.Native.Nat.{_+_, _<_, _≤_};
 ghost use lib.ListN.{length};
 ghost use Rattle.theory.specs.Range.{pairsOf};
+ghost use Rattle.theory.specs.Order.{order};
+ghost use Rattle.table.specs.Limits.{edgeLimit};
 ghost use Rattle.table.specs.Table.{vertexCount, tableEdges, tableLength, gameOf};
 ghost use Rattle.table.specs.Verdict.{written};
 ghost use Rattle.table.specs.WellFormed.{WellFormed};
-ghost use Rattle.reduction.specs.Numbering.{Ordered, classesIn, Represented};
-ghost use Rattle.reduction.specs.Rows.{picked, edgeTo, gameBy, Prepared};
-ghost use Rattle.reduction.specs.Edges.{Appended, tableBy};
-ghost use Rattle.reduction.specs.Answers.{TableDone};
+ghost use Rattle.index.specs.Index.{EdgeIndex};
+ghost use Rattle.classes.specs.Numbering.{Ordered, classesIn, Represented};
+ghost use Rattle.class_edges.specs.Rows.{picked, edgeTo, gameBy, Prepared};
+ghost use Rattle.reduction.specs.TableRules.{TableFits};
+ghost use Rattle.reduction.specs.Edges.{Appended, tableBy, TableFilled, TableDone};
 
 // Puts the edges of class c behind the first e edges. Returns how many edges there are then.
 fn append_class(
@@ -23,7 +30,7 @@ fn append_class(
     marks: &[u8],
     classes: &[u16],
     reps: &[u16],
-    offsets: &[u16],
+    starts: &[u16],
     targets: &[u16],
     k: usize,
     drop: bool,
@@ -32,19 +39,19 @@ fn append_class(
     ends: &mut [u16],
     e: usize,
 ) -> usize
-    requires { ⌜ Prepared (now game) (now marks) (now classes) (now reps) (now offsets) (now targets) ⌝ }
+    requires { ⌜ Prepared (now game) (now marks) (now classes) (now reps) (now starts) (now targets) ⌝ }
     requires { ⌜ (c < k) × (k ≡ classesIn (gameOf (now game))) ⌝ }
     requires { ⌜ e + length (picked k (gameBy drop (gameOf (now game)) .edge c)) ≤ length (now sources) ⌝ }
     requires { ⌜ e + length (picked k (gameBy drop (gameOf (now game)) .edge c)) ≤ length (now ends) ⌝ }
     ensures { λ r. ⌜ Appended (map (edgeTo c) (picked k (gameBy drop (gameOf (now (game .entry))) .edge c))) e (now (sources .entry)) (now (sources .exit)) (now (ends .entry)) (now (ends .exit)) r ⌝ }
 {
-    let mut row = [0u16; 256];
-    let r = rows::class_row(
+    let mut row = [0u16; VERTICES];
+    let r = class_row(
         game,
         marks,
         classes,
         reps,
-        offsets,
+        starts,
         targets,
         k,
         drop,
@@ -62,14 +69,14 @@ fn list_edges(
     marks: &[u8],
     classes: &[u16],
     reps: &[u16],
-    offsets: &[u16],
+    starts: &[u16],
     targets: &[u16],
     k: usize,
     drop: bool,
     sources: &mut [u16],
     ends: &mut [u16],
 ) -> usize
-    requires { ⌜ Prepared (now game) (now marks) (now classes) (now reps) (now offsets) (now targets) ⌝ }
+    requires { ⌜ Prepared (now game) (now marks) (now classes) (now reps) (now starts) (now targets) ⌝ }
     requires { ⌜ k ≡ classesIn (gameOf (now game)) ⌝ }
     requires { ⌜ (tableEdges (now game) ≤ length (now sources)) × (tableEdges (now game) ≤ length (now ends)) ⌝ }
     ensures { λ r. ⌜ Appended (pairsOf k (gameBy drop (gameOf (now (game .entry))) .edge)) 0 (now (sources .entry)) (now (sources .exit)) (now (ends .entry)) (now (ends .exit)) r ⌝ }
@@ -82,7 +89,7 @@ fn list_edges(
             marks,
             classes,
             reps,
-            offsets,
+            starts,
             targets,
             k,
             drop,
@@ -106,8 +113,8 @@ fn write_table(
     e: usize,
     output: &mut [u16],
 )
-    requires { ⌜ WellFormed (now game) × Represented (gameOf (now game)) (now reps) × (k ≡ classesIn (gameOf (now game))) ⌝ }
-    requires { ⌜ (e ≤ 4096) × (e ≤ length (now sources)) × (e ≤ length (now ends)) × (tableLength k e ≤ length (now output)) ⌝ }
+    requires { ⌜ WellFormed (now game) × Represented (gameOf (now game) .n) (order (gameOf (now game))) (now reps) × (k ≡ classesIn (gameOf (now game))) ⌝ }
+    requires { ⌜ (e ≤ edgeLimit) × (e ≤ length (now sources)) × (e ≤ length (now ends)) × (tableLength k e ≤ length (now output)) ⌝ }
     ensures { λ r. ⌜ now (output .exit) ≡ written (tableBy (now (game .entry)) (now (reps .entry)) k (now (sources .entry)) (now (ends .entry)) e) (now (output .entry)) ⌝ }
 {
     let n = game[0] as usize;
@@ -119,33 +126,33 @@ fn write_table(
     words::copy(output, 2 + 2 * k + e, ends, e);
 }
 
-// Writes the classes, and the table of the quotient or, with `drop`, of the reduced game. The index, the representatives and the edges
-// are in local arrays of 25,602 bytes.
-pub fn fill_table(
+// Writes the classes of marks that hold the order, and the table of the quotient or, with `drop`, of the reduced game. The representatives
+// and the edges are in local arrays of 16,896 bytes.
+fn fill_table(
     game: &[u16],
+    starts: &[u16],
+    targets: &[u16],
     marks: &[u8],
     classes: &mut [u16],
     output: &mut [u16],
     drop: bool,
 ) -> TableCounts
-    requires { ⌜ WellFormed (now game) × Ordered (gameOf (now game)) (now marks) ⌝ }
+    requires { ⌜ WellFormed (now game) × EdgeIndex (now game) (now starts) (now targets) × Ordered (gameOf (now game)) (now marks) ⌝ }
     requires { ⌜ (vertexCount (now game) ≤ length (now classes)) × (tableLength (vertexCount (now game)) (tableEdges (now game)) ≤ length (now output)) ⌝ }
-    ensures { λ r. ⌜ TableDone (gameBy drop) (now (game .entry)) (now (classes .entry)) (now (classes .exit)) (now (output .entry)) (now (output .exit)) r ⌝ }
+    ensures { λ r. ⌜ TableFilled (gameBy drop) (now (game .entry)) (now (classes .entry)) (now (output .entry)) r (now (classes .exit)) (now (output .exit)) ⌝ }
 {
-    let mut reps = [0u16; 256];
-    let k = classes::number_classes(game, marks, classes, &mut reps);
-    let mut offsets = [0u16; 257];
-    let mut targets = [0u16; 4096];
-    order::index::build(game, &mut offsets, &mut targets);
-    let mut sources = [0u16; 4096];
-    let mut ends = [0u16; 4096];
+    let n = game[0] as usize;
+    let mut reps = [0u16; VERTICES];
+    let k = number_classes(marks, n, classes, &mut reps);
+    let mut sources = [0u16; EDGES];
+    let mut ends = [0u16; EDGES];
     let e = list_edges(
         game,
         marks,
         classes,
         &reps,
-        &offsets,
-        &targets,
+        starts,
+        targets,
         k,
         drop,
         &mut sources,
@@ -157,4 +164,24 @@ pub fn fill_table(
         vertices: k,
         edges: e,
     }
+}
+
+// Writes all lent memory: the order, the classes and the table. One index of the edges, in local arrays of 8,706 bytes, serves the passes
+// and the table.
+pub fn fill_memory(
+    game: &[u16],
+    marks: &mut [u8],
+    spare: &mut [u8],
+    classes: &mut [u16],
+    output: &mut [u16],
+    drop: bool,
+) -> TableCounts
+    requires { ⌜ TableFits (now game) (now marks) (now spare) (now classes) (now output) ⌝ }
+    ensures { λ r. ⌜ TableDone (gameBy drop) (now (game .entry)) (now (marks .entry)) (now (spare .entry)) (now (classes .entry)) (now (output .entry)) r (now (marks .exit)) (now (spare .exit)) (now (classes .exit)) (now (output .exit)) ⌝ }
+{
+    let mut starts = [0u16; VERTEX_STARTS];
+    let mut targets = [0u16; EDGES];
+    index::of_edges(game, &mut starts, &mut targets);
+    settle(game, &starts, &targets, marks, spare);
+    fill_table(game, &starts, &targets, marks, classes, output, drop)
 }

@@ -7,8 +7,8 @@ use Rattle.theory.specs.Order.{orderPasses}
 use Rattle.theory.specs.Reduction.{reduced}
 use Rattle.table.specs.Table.{gameOf}
 use Rattle.table.specs.Verdict.{Answer, accepted, refused, after}
-use Rattle.table.specs.Reading.{readAnswer, readingAnswer}
-use Rattle.reduction.specs.Calls.{classTotal, classWords}
+use Rattle.table.specs.Reading.{gameRows, readAnswer, readingAnswer}
+use Rattle.classes.specs.ClassesCall.{classTotal, classWords}
 use Rattle.report.specs.declared.Report.{Report}
 
 -- a number of an accepted game; 0 after a refusal
@@ -23,4 +23,4 @@ pub record Reported (game old new : List ℕ) (r : Report) : Type 0 where
   pub classes : r .classes ≡ number (readAnswer game) (classTotal game)
   pub vertices : r .vertices ≡ number (readAnswer game) (reduced (gameOf game) .n)
   pub edges : r .edges ≡ number (readAnswer game) (edgeCount (reduced (gameOf game)))
-  pub class-words : new ≡ after (readAnswer game) (classWords game) old
+  pub class-words : new ≡ after (gameRows game) (classWords game) old

@@ -1,5 +1,5 @@
 pub mod Words
 pub mod WordsLaws
 pub mod Findings
-pub mod Parts
-pub mod PartsLaws
+pub mod Verdicts
+pub mod FindingsLaws

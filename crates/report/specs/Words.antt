@@ -3,6 +3,11 @@ use mathlib.Core.List.{List}
 use Prim.Native.Nat.{ℕ, _+_, _*_, _/_}
 use lib.ListN.{length, getD}
 use Rattle.theory.specs.Range.{tabulate}
+use Rattle.table.specs.Limits.{tableLimit}
+
+-- "It stops after 8,707 words": a word more than the longest table has
+abbrev pub readLimit : ℕ
+readLimit = tableLimit + 1
 
 -- word i; beyond the last byte is 0
 unfoldable pub wordAt : List ℕ → ℕ → ℕ

@@ -6,11 +6,11 @@ use reduction::TableCounts;
 use reduction::Tabulation;
 use table::Reading;
 ghost use mathlib.Core.Path.{_≡_};
-ghost use Prim.Native.Nat.{_≤_};
+ghost use Prim.Native.Nat.{_*_, _≤_};
 ghost use lib.ListN.{length};
-ghost use Rattle.report.specs.Words.{wordsOf};
+ghost use Rattle.report.specs.Words.{readLimit, wordsOf};
 ghost use Rattle.report.specs.Findings.{Reported};
-ghost use Rattle.report.specs.Parts.{passesOf, countsOf, Enough};
+ghost use Rattle.report.specs.Verdicts.{passesOf, countsOf, Enough};
 
 // The pass count of an accepted order.
 fn passes_of(ordering: Ordering) -> u32
@@ -78,7 +78,7 @@ pub fn find_from_bytes(
     classes: &mut [u16],
     output: &mut [u16],
 ) -> Report
-    requires { ⌜ (length (now bytes) ≤ 17414) × (8707 ≤ length (now words)) ⌝ }
+    requires { ⌜ (length (now bytes) ≤ 2 * readLimit) × (readLimit ≤ length (now words)) ⌝ }
     requires { ⌜ Enough (now marks) (now spare) (now classes) (now output) ⌝ }
     ensures { λ r. ⌜ Reported (wordsOf (now (bytes .entry))) (now (classes .entry)) (now (classes .exit)) r ⌝ }
 {

@@ -5,9 +5,16 @@ mod words;
 
 use libc::STDIN_FILENO;
 use table::Reading;
-ghost use Prim.Native.Nat.{_≤_};
+use table::limits::PAIRS;
+use table::limits::TABLE_WORDS;
+use table::limits::VERTICES;
+ghost use Prim.Native.Nat.{_*_, _≤_};
 ghost use lib.ListN.{length};
-ghost use Rattle.report.specs.Parts.{AtMost};
+ghost use Rattle.report.specs.Words.{readLimit};
+ghost use Rattle.report.specs.Verdicts.{AtMost};
+
+// Reading stops after a word more than the longest table has.
+const READ_WORDS: usize = TABLE_WORDS + 1;
 
 // The reader's verdict; for an accepted game also the counts of passes, of classes, and of the reduced game's vertices and edges.
 pub struct Report {
@@ -45,15 +52,15 @@ fn print_report(report: Report, classes: &[u16])
     }
 }
 
-// Lends the arrays: a word more than the longest table has, and memory for any game that is accepted.
+// Lends the arrays: the words that are read, and memory for any game that is accepted.
 fn report_bytes(bytes: &[u8])
-    requires { ⌜ length (now bytes) ≤ 17414 ⌝ }
+    requires { ⌜ length (now bytes) ≤ 2 * readLimit ⌝ }
 {
-    let mut words = [0u16; 8707];
-    let mut marks = [0u8; 65536];
-    let mut spare = [0u8; 65536];
-    let mut classes = [0u16; 256];
-    let mut output = [0u16; 8706];
+    let mut words = [0u16; READ_WORDS];
+    let mut marks = [0u8; PAIRS];
+    let mut spare = [0u8; PAIRS];
+    let mut classes = [0u16; VERTICES];
+    let mut output = [0u16; TABLE_WORDS];
     let report = findings::find_from_bytes(
         bytes,
         &mut words,
@@ -65,9 +72,8 @@ fn report_bytes(bytes: &[u8])
     print_report(report, &classes);
 }
 
-// 17,414 bytes are 8,707 words.
 fn main() {
-    let mut bytes = [0u8; 17414];
+    let mut bytes = [0u8; 2 * READ_WORDS];
     let count = io::read_full(STDIN_FILENO, &mut bytes);
     report_bytes(&bytes[..count]);
 }

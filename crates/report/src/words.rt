@@ -3,7 +3,7 @@ ghost use mathlib.Core.Path.{_≡_};
 ghost use Prim.Native.Nat.{_+_, _*_, _<_, _≤_};
 ghost use lib.ListN.{length};
 ghost use Rattle.table.specs.Verdict.{written};
-ghost use Rattle.report.specs.Words.{wordAt, wordsOf};
+ghost use Rattle.report.specs.Words.{readLimit, wordAt, wordsOf};
 
 fn word(low: u8, high: u8) -> u16
     ensures { λ r. ⌜ r ≡ low + 256 * high ⌝ }
@@ -13,7 +13,7 @@ fn word(low: u8, high: u8) -> u16
 
 // The word of number i; a last half word gets high byte 0.
 fn word_at(bytes: &[u8], i: usize) -> u16
-    requires { ⌜ (2 * i < length (now bytes)) × (length (now bytes) ≤ 17414) ⌝ }
+    requires { ⌜ (2 * i < length (now bytes)) × (length (now bytes) ≤ 2 * readLimit) ⌝ }
     ensures { λ r. ⌜ r ≡ wordAt (now (bytes .entry)) i ⌝ }
 {
     let at = 2 * i;
@@ -26,7 +26,7 @@ fn word_at(bytes: &[u8], i: usize) -> u16
 
 // Writes the words of at most 17,414 bytes; returns how many they are.
 pub fn decode(bytes: &[u8], words: &mut [u16]) -> usize
-    requires { ⌜ (length (now bytes) ≤ 17414) × (8707 ≤ length (now words)) ⌝ }
+    requires { ⌜ (length (now bytes) ≤ 2 * readLimit) × (readLimit ≤ length (now words)) ⌝ }
     ensures { λ r. ⌜ (r ≡ length (wordsOf (now (bytes .entry)))) × (now (words .exit) ≡ written (wordsOf (now (bytes .entry))) (now (words .entry))) ⌝ }
 {
     let mut i = 0;

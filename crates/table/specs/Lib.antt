@@ -1,3 +1,4 @@
+pub mod Limits
 pub mod Table
 pub mod TableLaws
 pub mod Verdict
@@ -10,9 +11,11 @@ pub mod WellFormed
 pub mod ReadingLaws
 pub mod Kind
 pub mod KindLaws
-pub mod Parts
-pub mod PartsLaws
+pub mod Flags
+pub mod FlagsLaws
 pub mod Acceptance
-pub mod Grouping
-pub mod GroupingLaws
-pub mod SortLaws
+pub mod TableWords
+pub mod TableWordsLaws
+pub mod ListsLaws
+pub mod Placing
+pub mod PlacingLaws

@@ -6,8 +6,9 @@ use lib.Dec.{eqb, ltb, leb}
 use lib.ListN.{length, getD}
 use Rattle.theory.specs.Bools.{_or_}
 use Rattle.theory.specs.Range.{anyBelow, first}
+use Rattle.table.specs.Limits.{vertexLimit, edgeLimit}
 use Rattle.table.specs.Table.{vertexCount, tableEdges, sourceAt, targetAt, tableLength, isEdge}
-use Rattle.table.specs.Verdict.{Row, Answer, accepted, refused, judge}
+use Rattle.table.specs.Verdict.{Row, row, Answer, accepted, refused, judge}
 use Rattle.table.specs.declared.Refusal.{Refusal}
 use Rattle.table.specs.declared.Reading.{Reading}
 use Rattle.table.specs.declared.Reading.the-variants.{Accepted, Refused}
@@ -36,21 +37,22 @@ firstRepeat g = first (repeatsEarlier g) 0 (tableEdges g)
 unfoldable pub firstLacking : List ℕ → ℕ
 firstLacking g = first (lacksEdge g) 0 (vertexCount g)
 
-abbrev pub row : ℕ → Bool → ℕ → Row
-row k condition place = record { number = k; condition = condition; place = place }
-
--- document 01's table, row by row: number, condition, place
-unfoldable pub gameRows : List ℕ → List Row
-gameRows g =
+-- Document 01's table, row by row: number, condition, place. Row 4 tests the length by `unfit`: a table has the length that its sizes ask;
+-- one that begins a longer buffer has at least that.
+unfoldable pub gameRowsBy : (ℕ → ℕ → Bool) → List ℕ → List Row
+gameRowsBy unfit g =
     row 1 (ltb (length g) 2) (length g)
-    ∷ row 2 (eqb (vertexCount g) 0 or ltb 256 (vertexCount g)) 0
-    ∷ row 3 (ltb 4096 (tableEdges g)) 1
-    ∷ row 4 (not (eqb (length g) (tableLength (vertexCount g) (tableEdges g)))) (length g)
+    ∷ row 2 (eqb (vertexCount g) 0 or ltb vertexLimit (vertexCount g)) 0
+    ∷ row 3 (ltb edgeLimit (tableEdges g)) 1
+    ∷ row 4 (unfit (length g) (tableLength (vertexCount g) (tableEdges g))) (length g)
     ∷ row 5 (ltb (firstOwner g) (2 + 2 * vertexCount g)) (firstOwner g)
     ∷ row 6 (ltb (firstEnd g) (tableLength (vertexCount g) (tableEdges g))) (firstEnd g)
     ∷ row 7 (ltb (firstRepeat g) (tableEdges g)) (2 + 2 * vertexCount g + firstRepeat g)
     ∷ row 8 (ltb (firstLacking g) (vertexCount g)) (firstLacking g)
     ∷ []
+
+abbrev pub gameRows : List ℕ → List Row
+gameRows g = gameRowsBy (λ size needed. not (eqb size needed)) g
 
 -- the reader's answer: accepted with n and m
 unfoldable pub readAnswer : List ℕ → Answer

@@ -2,7 +2,7 @@
 -- the well-formed tables.
 use mathlib.Core.Path.{_≡_, refl, sym}
 use mathlib.Core.Logic.{_⊎_, inl, inr, _↔_, _≢_, ⊎-elim}
-use mathlib.Core.Bool.{not, So}
+use mathlib.Core.Bool.{Bool, not, So}
 use mathlib.Core.List.{List, [], _∷_, _++_}
 use Prim.Native.Nat.{ℕ, _+_, _-_, _*_, _≤_, _<_}
 use native.Mathlib.Decide.{decLt, decLe, ℕ-discrete}
@@ -15,13 +15,14 @@ use Rattle.theory.specs.Bools.{_or_}
 use Rattle.theory.specs.BoolsLaws.{decide, So-not, not-in, not-out, and-in, and-out, or-left, or-right, or-out}
 use Rattle.theory.specs.Range.{anyBelow}
 use Rattle.theory.specs.RangeLaws.{any-in, any-out, any-fails}
+use Rattle.table.specs.Limits.{vertexLimit, edgeLimit}
 use Rattle.table.specs.Table.{vertexCount, tableEdges, ownerAt, sourceAt, targetAt, tableLength, isEdge}
 use Rattle.table.specs.Verdict.{Row, accepted, refused, judge, Clean}
 use Rattle.table.specs.Rules.{Some, FirstRule, NoRule, no-rule, fails, Rendered, none, next}
 use Rattle.table.specs.VerdictLaws.{judge-accepted, judge-clean, judge-past, judge-stays}
 use Rattle.table.specs.RulesLaws.{renders-placed, renders-first, refused-by, clean-none, none-clean}
-use Rattle.table.specs.Reading.{repeatsEarlier, lacksEdge, firstOwner, firstEnd, firstRepeat, firstLacking, gameRows, readAnswer, readingAnswer}
-use Rattle.table.specs.ReadingRules.{Repeats, Lacks, gameRules}
+use Rattle.table.specs.Reading.{repeatsEarlier, lacksEdge, firstOwner, firstEnd, firstRepeat, firstLacking, gameRowsBy, gameRows, readAnswer, readingAnswer}
+use Rattle.table.specs.ReadingRules.{Repeats, Lacks, gameRulesBy, gameRules}
 use Rattle.table.specs.WellFormed.{WellFormed, WellSized}
 use Rattle.table.specs.declared.Sizes.{Sizes}
 use Rattle.table.specs.declared.Refusal.{Refusal}
@@ -29,10 +30,10 @@ use Rattle.table.specs.declared.Reading.the-variants.{Accepted, Refused}
 
 -- ---- what the reader's tests say
 
-bad-count : (n : ℕ) → So (eqb n 0 or ltb 256 n) ↔ ((n ≡ 0) ⊎ (256 < n))
+bad-count : (n : ℕ) → So (eqb n 0 or ltb vertexLimit n) ↔ ((n ≡ 0) ⊎ (vertexLimit < n))
 bad-count n = (
-  λ h. ⊎-elim (λ a. inl (eqb-true n 0 a)) (λ b. inr (ltb-true 256 n b)) (or-out h),
-  λ s. ⊎-elim (λ a. or-left (ltb 256 n) (eq-eqb n 0 a)) (λ b. or-right (eqb n 0) (lt-ltb 256 n b)) s,
+  λ h. ⊎-elim (λ a. inl (eqb-true n 0 a)) (λ b. inr (ltb-true vertexLimit n b)) (or-out h),
+  λ s. ⊎-elim (λ a. or-left (ltb vertexLimit n) (eq-eqb n 0 a)) (λ b. or-right (eqb n 0) (lt-ltb vertexLimit n b)) s,
 )
 
 differs : (a b : ℕ) → So (not (eqb a b)) ↔ (a ≢ b)
@@ -52,20 +53,24 @@ lacks g v = (
   λ d. not-in {b = anyBelow (tableEdges g) (λ j. eqb (sourceAt g j) v)} (So-not (λ h. let r = any-out h in d (r .0) (r .1) (eqb-true (sourceAt g (r .0)) v (r .2)))),
 )
 
-pub rows-render : (g : List ℕ) → Rendered (gameRows g) (gameRules g)
-unfolding gameRows firstOwner firstEnd firstRepeat firstLacking
-rows-render g =
+rows-render-by : (unfit : ℕ → ℕ → Bool) (Unfit : ℕ → ℕ → Type 0) → ((a b : ℕ) → So (unfit a b) ↔ Unfit a b)
+    → (g : List ℕ) → Rendered (gameRowsBy unfit g) (gameRulesBy Unfit g)
+unfolding gameRowsBy firstOwner firstEnd firstRepeat firstLacking
+rows-render-by unfit Unfit says g =
     let n = vertexCount g in
     let m = tableEdges g in
     next (renders-placed 1 (length g) _ _ (ltb-true (length g) 2, lt-ltb (length g) 2))
     (next (renders-placed 2 0 _ _ (bad-count n))
-    (next (renders-placed 3 1 _ _ (ltb-true 4096 m, lt-ltb 4096 m))
-    (next (renders-placed 4 (length g) _ _ (differs (length g) (tableLength n m)))
+    (next (renders-placed 3 1 _ _ (ltb-true edgeLimit m, lt-ltb edgeLimit m))
+    (next (renders-placed 4 (length g) _ _ (says (length g) (tableLength n m)))
     (next (renders-first 5 (λ k. ltb 1 (getD g k 0)) (λ k. 1 < getD g k 0) (2 + n) (2 + 2 * n) (λ k. k) (omega arith) (λ k. (ltb-true 1 (getD g k 0), lt-ltb 1 (getD g k 0))))
     (next (renders-first 6 (λ k. leb n (getD g k 0)) (λ k. n ≤ getD g k 0) (2 + 2 * n) (tableLength n m) (λ k. k) (omega arith) (λ k. (leb-true n (getD g k 0), le-leb n (getD g k 0))))
     (next (renders-first 7 (repeatsEarlier g) (Repeats g) 0 m (λ j. 2 + 2 * n + j) (omega arith) (repeats g))
     (next (renders-first 8 (lacksEdge g) (Lacks g) 0 n (λ v. v) (omega arith) (lacks g))
     none)))))))
+
+pub rows-render : (g : List ℕ) → Rendered (gameRows g) (gameRules g)
+rows-render = rows-render-by _ _ differs
 
 -- ---- the reader refuses k at p exactly if rule k is the first whose condition holds, and it names p
 
@@ -79,7 +84,7 @@ none-well : (g : List ℕ) → NoRule (gameRules g) → WellFormed g
 unfolding lacksEdge
 none-well g (fails d₁ (fails d₂ (fails d₃ (fails d₄ (fails d₅ (fails d₆ (fails d₇ (fails d₈ no-rule)))))))) = record {
   some = let x : vertexCount g ≢ 0 = λ e. d₂ (inl e) in omega arith;
-  vertices = let x : ¬ (256 < vertexCount g) = λ l. d₂ (inr l) in omega arith;
+  vertices = let x : ¬ (vertexLimit < vertexCount g) = λ l. d₂ (inr l) in omega arith;
   edges = omega arith;
   size = elim (ℕ-discrete (length g) (tableLength (vertexCount g) (tableEdges g))) [ yes e ↦ e | no e ↦ absurd (d₄ e) ];
   owners = λ v h. elim (decLt 1 (ownerAt g v)) [ yes l ↦ absurd (d₅ (2 + vertexCount g + v, omega arith, omega arith, l)) | no l ↦ omega arith ];
@@ -99,14 +104,14 @@ well-none : (g : List ℕ) → WellFormed g → NoRule (gameRules g)
 well-none g w =
     fails (λ (h : length g < 2). omega (arith, w .size))
     (fails count
-    (fails (λ (h : 4096 < tableEdges g). omega (arith, w .edges))
+    (fails (λ (h : edgeLimit < tableEdges g). omega (arith, w .edges))
     (fails (λ (h : length g ≢ tableLength (vertexCount g) (tableEdges g)). h (w .size))
     (fails owner
     (fails inside
     (fails (λ (h : Some (Repeats g) 0 (tableEdges g)). let r = h .3 in w .distinct (r .0) (h .0) (r .1) (h .2) (r .2) (r .3))
     (fails (λ (h : Some (Lacks g) 0 (vertexCount g)). let t = w .total (h .0) (h .2) in h .3 (t .0) (t .1) (t .2)) no-rule)))))))
   where
-    count : (vertexCount g ≡ 0) ⊎ (256 < vertexCount g) → ⊥
+    count : (vertexCount g ≡ 0) ⊎ (vertexLimit < vertexCount g) → ⊥
     count (inl e) = omega (arith, w .some)
     count (inr l) = omega (arith, w .vertices)
 

@@ -4,6 +4,7 @@ use mathlib.Core.Logic.{_↔_}
 use mathlib.Core.Bool.{So}
 use mathlib.Core.List.{List, [], _∷_}
 use Prim.Native.Nat.{ℕ, _≤_, _<_}
+use lib.ListN.{length}
 use Rattle.table.specs.Verdict.{Row}
 
 -- a row as document 01 has it: number, condition, and which place it names
@@ -26,6 +27,10 @@ pub record First (P : ℕ → Type 0) (a e k : ℕ) : Type 0 where
 -- a condition with one place
 abbrev pub placed : ℕ → Type 0 → ℕ → Rule
 placed k C x = record { number = k; Holds = C; At = λ p. x ≡ p }
+
+-- 21 to 24: lent memory shorter than needed; the place is the length needed
+abbrev pub memoryRule : ℕ → ℕ → List ℕ → Rule
+memoryRule number needed memory = placed number (length memory < needed) needed
 
 -- some number from a on, below e, has P; the place of the first such j is `at j`
 abbrev pub firstSuch : ℕ → (ℕ → Type 0) → ℕ → ℕ → (ℕ → ℕ) → Rule

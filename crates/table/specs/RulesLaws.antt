@@ -6,18 +6,22 @@ use mathlib.Core.List.{List, _∷_, _++_}
 use Prim.Native.Nat.{ℕ, _≤_}
 use native.Mathlib.Omega.{arith}
 use lib.Dec.{ltb}
+use lib.ListN.{length}
 use borrow.Author.Tests.{ltb-true, lt-ltb}
 use Rattle.theory.specs.BoolsLaws.{clash, So-not}
 use Rattle.theory.specs.Range.{first}
 use Rattle.theory.specs.RangeLaws.{first-ge, first-before, first-passes, first-least, first-is}
-use Rattle.table.specs.Verdict.{Row, Answer, refused, judge, Clean}
+use Rattle.table.specs.Verdict.{Row, memoryRow, Answer, refused, judge, Clean}
 use Rattle.table.specs.VerdictLaws.{refused-inj, not-both, judge-hit, judge-next}
-use Rattle.table.specs.Rules.{Rule, Some, First, placed, firstSuch, FirstRule, here, later, NoRule, no-rule, fails, Renders, Rendered, none, next}
+use Rattle.table.specs.Rules.{Rule, Some, First, placed, memoryRule, firstSuch, FirstRule, here, later, NoRule, no-rule, fails, Renders, Rendered, none, next}
 
 -- ---- a computed row renders a rule
 
 pub renders-placed : (k x : ℕ) (b : Bool) (C : Type 0) → So b ↔ C → Renders (record { number = k; condition = b; place = x }) (placed k C x)
 renders-placed k x b C t = record { number = refl; holds = t; place = λ h p. (λ e. e, λ e. e) }
+
+pub memory-renders : (number needed : ℕ) (memory : List ℕ) → Renders (memoryRow number needed memory) (memoryRule number needed memory)
+memory-renders number needed memory = renders-placed number needed _ _ (ltb-true (length memory) needed, lt-ltb (length memory) needed)
 
 -- the test p says P, so the search for p finds the first P
 pub renders-first : (k : ℕ) (p : ℕ → Bool) (P : ℕ → Type 0) (a e : ℕ) (at : ℕ → ℕ) → a ≤ e → ((j : ℕ) → So (p j) ↔ P j)

@@ -4,7 +4,7 @@ use mathlib.Core.Bool.{Bool, cond}
 use mathlib.Core.List.{List}
 use Prim.Native.Nat.{ℕ, _+_, _*_, _<_}
 use lib.Dec.{eqb}
-use lib.ListN.{getD}
+use lib.ListN.{getD, take}
 use Rattle.theory.specs.Bools.{_&_}
 use Rattle.theory.specs.Range.{anyBelow}
 use Rattle.theory.specs.Game.{Player, even, odd, Game}
@@ -15,6 +15,10 @@ vertexCount g = getD g 0 0
 
 abbrev pub tableEdges : List ℕ → ℕ
 tableEdges g = getD g 1 0
+
+-- the pairs of vertices
+abbrev pub pairCount : List ℕ → ℕ
+pairCount g = vertexCount g * vertexCount g
 
 -- then two parallel arrays of n words: priorities, owners
 abbrev pub priorityAt : List ℕ → ℕ → ℕ
@@ -33,6 +37,10 @@ targetAt g j = getD g (2 + 2 * vertexCount g + tableEdges g + j) 0
 -- how many words a table of n vertices and m edges has
 abbrev pub tableLength : ℕ → ℕ → ℕ
 tableLength n m = 2 + 2 * n + 2 * m
+
+-- the table that begins a buffer, as its sizes tell
+abbrev pub tableIn : List ℕ → List ℕ
+tableIn buffer = take (tableLength (vertexCount buffer) (tableEdges buffer)) buffer
 
 -- 0 Even, 1 Odd
 unfoldable pub playerOf : ℕ → Player

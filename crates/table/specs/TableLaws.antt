@@ -6,13 +6,26 @@ use mathlib.Core.List.{List}
 use Prim.Native.Nat.{ℕ, zero, suc, _*_, _/_, _%_, _≤_, _<_}
 use native.Mathlib.Omega.{arith}
 use lib.Dec.{eqb}
+use lib.ListN.{getD}
+use lib.Seq.{getD-take}
 use borrow.Author.Tests.{eqb-true, eq-eqb}
 use Rattle.theory.specs.BoolsLaws.{and-in, and-out}
 use Rattle.theory.specs.RangeLaws.{any-in, any-out}
 use Rattle.theory.specs.CountLaws.{count-inject, count-all, pair-ext}
 use Rattle.theory.specs.Game.{even, odd, same, own, Succ, Total, edgeCount}
-use Rattle.table.specs.Table.{vertexCount, tableEdges, ownerAt, sourceAt, targetAt, playerOf, isEdge, Listed, gameOf}
+use Rattle.table.specs.Table.{vertexCount, tableEdges, ownerAt, sourceAt, targetAt, tableLength, tableIn, playerOf, isEdge, Listed, gameOf}
 use Rattle.table.specs.WellFormed.{WellFormed}
+
+-- ---- a table that begins a buffer has the buffer's words
+
+pub in-word : (buffer : List ℕ) (i : ℕ) → i < tableLength (vertexCount buffer) (tableEdges buffer) → getD (tableIn buffer) i 0 ≡ getD buffer i 0
+in-word buffer i h = getD-take _ _ _ _ h
+
+-- ---- vertices
+
+pub game-n : (g : List ℕ) → gameOf g .n ≡ vertexCount g
+unfolding gameOf
+game-n g = refl
 
 -- ---- owners: 0 is Even, 1 is Odd
 

@@ -4,6 +4,7 @@ use mathlib.Core.Path.{_≡_}
 use mathlib.Core.Bool.{Bool, false, cond}
 use mathlib.Core.List.{List, [], _∷_, _++_}
 use Prim.Native.Nat.{ℕ}
+use lib.Dec.{ltb}
 use lib.ListN.{length, drop}
 
 -- a row of the table of refusals
@@ -11,6 +12,13 @@ pub record Row : Type 0 where
   pub number : ℕ
   pub condition : Bool
   pub place : ℕ
+
+abbrev pub row : ℕ → Bool → ℕ → Row
+row k condition place = record { number = k; condition = condition; place = place }
+
+-- 21 to 24: lent memory shorter than needed; the place is the length needed
+abbrev pub memoryRow : ℕ → ℕ → List ℕ → Row
+memoryRow number needed memory = row number (ltb (length memory) needed) needed
 
 -- what a verdict says: accepted with its counts, or refused with a number and a place
 pub data Answer : Type 0 where
@@ -32,7 +40,8 @@ Clean (r ∷ rs) = (r .condition ≡ false) × Clean rs
 unfoldable pub written : List ℕ → List ℕ → List ℕ
 written new old = new ++ drop (length new) old
 
--- after acceptance the stated words; after a refusal, old content
-unfoldable pub after : Answer → List ℕ → List ℕ → List ℕ
-after (accepted counts) new old = written new old
-after (refused number place) new old = old
+-- A buffer after a call that writes it once these rows are passed: the stated words, or old content where one of their conditions holds.
+-- A call that writes on acceptance alone has all its rows here.
+unfoldable pub after : List Row → List ℕ → List ℕ → List ℕ
+after [] new old = written new old
+after (r ∷ rs) new old = cond (r .condition) old (after rs new old)

@@ -9,7 +9,7 @@ use lib.ListN.{length, drop, getD, set, length-append, length-drop, List·getD-a
 use lib.Seq.{getD-append-add, getD-drop, drop-cons, set-append-seam, drop-at}
 use Rattle.theory.specs.Range.{tabulate}
 use Rattle.theory.specs.ListLaws.{length-tabulate, tabulate-snoc}
-use Rattle.table.specs.Verdict.{Row, Answer, accepted, refused, judge, Clean, written, after}
+use Rattle.table.specs.Verdict.{Row, accepted, refused, judge, Clean, written, after}
 
 -- ---- answers
 
@@ -120,15 +120,31 @@ pub drop-written : (N : ℕ) (new old : List ℕ) → length new ≡ N → drop 
 unfolding written
 drop-written N new old e = drop-at new (drop (length new) old) N e ∙ ap (λ (k : ℕ). drop k old) e
 
-pub after-accepted : {a : Answer} {counts : List ℕ} (new old : List ℕ) → a ≡ accepted counts → after a new old ≡ written new old
-unfolding after
-after-accepted new old e = rw e
+-- ---- a buffer after a call: the rows are passed, or one of them refuses
 
-pub after-refused : {a : Answer} {k p : ℕ} (new old : List ℕ) → a ≡ refused k p → after a new old ≡ old
+pub after-clean : (rs : List Row) (new old : List ℕ) → Clean rs → after rs new old ≡ written new old
 unfolding after
-after-refused new old e = rw e
+after-clean [] new old c = refl
+after-clean (r ∷ rs) new old c = rw (c .0) (after-clean rs new old (c .1))
 
-pub length-after : (a : Answer) (new old : List ℕ) → length new ≤ length old → length (after a new old) ≡ length old
+pub after-accepted : (rs : List Row) (counts : List ℕ) {given : List ℕ} (new old : List ℕ) → judge rs counts ≡ accepted given → after rs new old ≡ written new old
+after-accepted rs counts new old e = after-clean rs new old (judge-accepted rs counts _ e .0)
+
+pub after-refused : (rs : List Row) (counts : List ℕ) {k p : ℕ} (new old : List ℕ) → judge rs counts ≡ refused k p → after rs new old ≡ old
+unfolding judge after
+after-refused [] counts new old e = absurd (not-both (sym e))
+after-refused (r ∷ rs) counts {k} {p} new old e = go (r .condition) e (after-refused rs counts new old)
+  where
+    go : (b : Bool) → cond b (refused (r .number) (r .place)) (judge rs counts) ≡ refused k p
+        → (judge rs counts ≡ refused k p → after rs new old ≡ old) → cond b old (after rs new old) ≡ old
+    go true e ih = refl
+    go false e ih = ih e
+
+pub length-after : (rs : List Row) (new old : List ℕ) → length new ≤ length old → length (after rs new old) ≡ length old
 unfolding after
-length-after (accepted counts) new old h = length-written new old h
-length-after (refused k p) new old h = refl
+length-after [] new old h = length-written new old h
+length-after (r ∷ rs) new old h = go (r .condition) (length-after rs new old h)
+  where
+    go : (b : Bool) → length (after rs new old) ≡ length old → length (cond b old (after rs new old)) ≡ length old
+    go true ih = refl
+    go false ih = ih

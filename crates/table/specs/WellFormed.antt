@@ -3,13 +3,14 @@ use mathlib.Core.Path.{_≡_}
 use mathlib.Core.List.{List}
 use Prim.Native.Nat.{ℕ, _≤_, _<_}
 use lib.ListN.{length}
+use Rattle.table.specs.Limits.{vertexLimit, edgeLimit}
 use Rattle.table.specs.Table.{vertexCount, tableEdges, ownerAt, sourceAt, targetAt, tableLength}
 use Rattle.table.specs.declared.Sizes.{Sizes}
 
 pub record WellFormed (g : List ℕ) : Type 0 where
   pub some : 0 < vertexCount g
-  pub vertices : vertexCount g ≤ 256
-  pub edges : tableEdges g ≤ 4096
+  pub vertices : vertexCount g ≤ vertexLimit
+  pub edges : tableEdges g ≤ edgeLimit
   pub size : length g ≡ tableLength (vertexCount g) (tableEdges g)
   pub owners : (v : ℕ) → v < vertexCount g → ownerAt g v ≤ 1
   pub sources : (j : ℕ) → j < tableEdges g → sourceAt g j < vertexCount g

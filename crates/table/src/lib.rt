@@ -1,8 +1,12 @@
-// The game table: its reader, the refusal that all verdicts share, the kinds of refusals, and the index over parallel arrays.
+// The game table: its reader, the refusal that all verdicts share, the kinds of refusals, the limits, and words put into a buffer.
 pub mod acceptor;
-pub mod index;
+pub mod flags;
+pub mod limits;
 mod reader;
+pub mod words;
 
+use crate::limits::EDGES;
+use crate::limits::VERTICES;
 ghost use mathlib.Core.Path.{_≡_};
 ghost use Rattle.table.specs.Reading.{readAnswer, readingAnswer, refusalOf};
 ghost use Rattle.table.specs.Kind.{kindOf};
@@ -41,10 +45,10 @@ pub fn read(game: &[u16]) -> Reading
     }
     let n = game[0] as usize;
     let m = game[1] as usize;
-    if n == 0 || 256 < n {
+    if n == 0 || VERTICES < n {
         return refused(2, 0);
     }
-    if 4096 < m {
+    if EDGES < m {
         return refused(3, 1);
     }
     if len != 2 + 2 * n + 2 * m {

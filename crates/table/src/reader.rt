@@ -1,12 +1,16 @@
 // Parts of the reader, `read`: the four searches for its refusals 5 to 8. No host calls them.
+use crate::flags::flag_edge;
+use crate::limits::PAIRS;
+use crate::limits::VERTICES;
 ghost use mathlib.Core.Path.{_≡_};
 ghost use Prim.Native.Nat.{_+_, _*_, _<_, _≤_};
 ghost use lib.ListN.{length};
 ghost use Rattle.theory.specs.Bools.{bit};
 ghost use Rattle.theory.specs.Range.{first, tabulate};
+ghost use Rattle.table.specs.Limits.{vertexLimit, pairLimit};
 ghost use Rattle.table.specs.Table.{vertexCount};
 ghost use Rattle.table.specs.Reading.{firstOwner, firstEnd, firstRepeat, firstLacking, lacksEdge};
-ghost use Rattle.table.specs.Parts.{atLeast, Sized, EndsInside, edgeNumber, Filled, Flagged};
+ghost use Rattle.table.specs.Flags.{atLeast, Sized, EndsInside, Filled};
 
 // The first word from `from` on, below `end`, that is `limit` or more; `end` where there is none.
 fn first_at_least(words: &[u16], limit: usize, from: usize, end: usize) -> usize
@@ -25,7 +29,7 @@ fn first_at_least(words: &[u16], limit: usize, from: usize, end: usize) -> usize
 
 // 5: the first word of an owner above 1.
 pub fn first_owner(game: &[u16], n: usize) -> usize
-    requires { ⌜ (n ≡ vertexCount (now game)) × (n ≤ 256) × (2 + 2 * n ≤ length (now game)) ⌝ }
+    requires { ⌜ (n ≡ vertexCount (now game)) × (n ≤ vertexLimit) × (2 + 2 * n ≤ length (now game)) ⌝ }
     ensures { λ r. ⌜ r ≡ firstOwner (now (game .entry)) ⌝ }
 {
     first_at_least(game, 2, 2 + n, 2 + 2 * n)
@@ -44,37 +48,23 @@ pub fn first_repeat(game: &[u16], n: usize, m: usize) -> usize
     requires { ⌜ Sized (now game) n m × EndsInside (now game) ⌝ }
     ensures { λ r. ⌜ r ≡ firstRepeat (now (game .entry)) ⌝ }
 {
-    let mut seen = [0u8; 65536];
+    let mut seen = [0u8; PAIRS];
     first_seen(game, n, m, &mut seen)
 }
 
-// Leaves a 1 at the numbers of the edges before the answer.
 fn first_seen(game: &[u16], n: usize, m: usize, seen: &mut [u8]) -> usize
     requires { ⌜ Sized (now game) n m × EndsInside (now game) ⌝ }
-    requires { ⌜ (65536 ≤ length (now seen)) × Filled 0 (now seen) ⌝ }
+    requires { ⌜ (pairLimit ≤ length (now seen)) × Filled 0 (now seen) ⌝ }
     ensures { λ r. ⌜ r ≡ firstRepeat (now (game .entry)) ⌝ }
-    ensures { λ r. ⌜ Flagged 0 1 (edgeNumber (now (game .entry))) r (now (seen .exit)) ⌝ }
 {
     let mut j = 0;
     while j < m {
-        let i = edge_number(game, n, m, j);
-        if seen[i] != 0 {
+        if flag_edge(game, n, m, seen, j) != 0 {
             return j;
         }
-        seen[i] = 1;
         j += 1;
     }
     j
-}
-
-// An edge as one number: source × n + target.
-fn edge_number(game: &[u16], n: usize, m: usize, j: usize) -> usize
-    requires { ⌜ Sized (now game) n m × EndsInside (now game) × (j < m) ⌝ }
-    ensures { λ r. ⌜ r ≡ edgeNumber (now (game .entry)) j ⌝ }
-{
-    let s = game[2 + 2 * n + j] as usize;
-    let t = game[2 + 2 * n + m + j] as usize;
-    s * n + t
 }
 
 // 8: the lowest vertex without an edge out.
@@ -82,7 +72,7 @@ pub fn first_lacking(game: &[u16], n: usize, m: usize) -> usize
     requires { ⌜ Sized (now game) n m × EndsInside (now game) ⌝ }
     ensures { λ r. ⌜ r ≡ firstLacking (now (game .entry)) ⌝ }
 {
-    let mut lacking = [1u16; 256];
+    let mut lacking = [1u16; VERTICES];
     clear_sources(game, n, m, &mut lacking);
     first_at_least(&lacking, 1, 0, n)
 }

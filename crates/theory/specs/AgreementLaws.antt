@@ -4,9 +4,9 @@ use mathlib.Core.Logic.{_↔_}
 use mathlib.Core.Bool.{Bool, true, false}
 use Prim.Native.Nat.{ℕ, _<_}
 use Rattle.theory.specs.Game.{Player, even, same, Game, own, Succ}
-use Rattle.theory.specs.Simulation.{Moves, Passes, DirectSimulation, Below}
+use Rattle.theory.specs.Simulation.{Moves, PassesTest, DirectSimulation, Below}
 use Rattle.theory.specs.Plan.{Won}
-use Rattle.theory.specs.Demands.{mutual-winner}
+use Rattle.theory.specs.KeptWinners.{mutual-winner}
 use Rattle.theory.specs.Agreement.{Agree}
 
 pub agree-sym : {G K : Game} → Agree G K → Agree K G
@@ -28,7 +28,7 @@ succ-agree e v x h s = record { inside = rw (← e .size) (s .inside); along = r
 
 agree-simulation : {G K : Game} → Agree G K → DirectSimulation G K (λ v w. v ≡ w)
 agree-simulation {G} {K} e v w hv hw q =
-    subst (λ (u : ℕ). Passes even G K (λ v w. v ≡ w) v u) q (record {
+    subst (λ (u : ℕ). PassesTest even G K (λ v w. v ≡ w) v u) q (record {
       equal = e .priority v hv;
       moves =
           subst (λ (o : Bool). Moves (own G even v) o (Succ G v) (Succ K v) (λ v w. v ≡ w)) (ap (same even) (e .owner v hv))

@@ -5,7 +5,7 @@ use Prim.Native.Nat.{ℕ, _<_}
 use Rattle.theory.specs.Passes.{Rel}
 use Rattle.theory.specs.Game.{Player, Game, Succ}
 use Rattle.theory.specs.Order.{order}
-use Rattle.theory.specs.Reduction.{sameClass, isLowest, worse, quotientEdge}
+use Rattle.theory.specs.Reduction.{sameClass, isLowest, noBetter, quotientEdge}
 
 -- every member of c's class has a successor in d's
 abbrev pub QuotientEdge : Game → ℕ → ℕ → Type 0
@@ -18,7 +18,7 @@ pub record Better (g : Game) (c d : ℕ) : Type 0 where
   pub is-lowest : So (isLowest (g .n) (order g) to)
   pub apart : to ≡ d → ⊥
   pub edge : So (quotientEdge g (order g) c to)
-  pub above : So (worse (g .owner c) (order g) d to)
+  pub above : So (noBetter (g .owner c) (order g) d to)
 
 -- ---- for any choice E of edges between lowest members
 
@@ -28,7 +28,7 @@ pub record EdgeAbove (g : Game) (E : Rel) (a : Player) (c x : ℕ) : Type 0 wher
   pub inside : to < g .n
   pub is-lowest : So (isLowest (g .n) (order g) to)
   pub edge : So (E c to)
-  pub above : So (worse a (order g) x to)
+  pub above : So (noBetter a (order g) x to)
 
 -- E holds quotient edges alone, and enough of them: one above each successor, for the owner
 pub record Enough (g : Game) (E : Rel) : Type 0 where

@@ -6,9 +6,9 @@ use Rattle.theory.specs.Game.{other, same, parity, edgeCount}
 use Rattle.theory.specs.Order.{allNext, anyNext, moves, equalPriority, test, marksBetween, below, orderMarks, order, orderPasses}
 use Rattle.theory.specs.Plan.{linked}
 use Rattle.theory.specs.Transfer.{isPair, oldPosition, newVertex, newLink, positions, carried}
-use Rattle.theory.specs.Reduction.{sameClass, lowest, isLowest, classCount, classNumber, representative, quotientEdge, worse, dropped, reducedEdge, classGame, quotient, reduced, classOf}
+use Rattle.theory.specs.Reduction.{sameClass, lowest, isLowest, classCount, classNumber, representative, quotientEdge, noBetter, dropped, reducedEdge, classGame, quotient, reduced, classOf}
 use Rattle.theory.specs.PlanTest.{eachLink, goodLink, answered, moved, surelyWins}
 
 unfoldable pub compute : Unit {0}
-unfolding _&_ _or_ imp bit allBelow anyBelow anyFrom firstOf first count nth tabulate pairsBelow pairsOf nextPass pass settled rounds passCount finalMarks relOf pairStart pairTest largest other same parity edgeCount allNext anyNext moves equalPriority test marksBetween below orderMarks order orderPasses linked isPair oldPosition newVertex newLink positions carried sameClass lowest isLowest classCount classNumber representative quotientEdge worse dropped reducedEdge classGame quotient reduced classOf eachLink goodLink answered moved surelyWins
+unfolding _&_ _or_ imp bit allBelow anyBelow anyFrom firstOf first count nth tabulate pairsBelow pairsOf nextPass pass settled rounds passCount finalMarks relOf pairStart pairTest largest other same parity edgeCount allNext anyNext moves equalPriority test marksBetween below orderMarks order orderPasses linked isPair oldPosition newVertex newLink positions carried sameClass lowest isLowest classCount classNumber representative quotientEdge noBetter dropped reducedEdge classGame quotient reduced classOf eachLink goodLink answered moved surelyWins
 compute = tt

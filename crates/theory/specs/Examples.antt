@@ -10,7 +10,7 @@ use Rattle.theory.specs.Order.{order, orderPasses}
 use Rattle.theory.specs.Plan.{Plan, linked, Wins, Won}
 use Rattle.theory.specs.TransferLaws.{transfer}
 use Rattle.theory.specs.Reduction.{quotient, reduced, classOf}
-use Rattle.theory.specs.Demands.{mutual-winner, reduced-winner}
+use Rattle.theory.specs.KeptWinners.{mutual-winner, reduced-winner}
 use Rattle.theory.specs.PlanTestLaws.{surely-wins}
 use Rattle.theory.specs.Compute.{compute}
 

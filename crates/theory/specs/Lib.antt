@@ -3,6 +3,7 @@ pub mod BoolsLaws
 pub mod Range
 pub mod RangeLaws
 pub mod CountLaws
+pub mod SumLaws
 pub mod ListLaws
 pub mod Passes
 pub mod PassesLaws
@@ -31,7 +32,7 @@ pub mod QuotientLaws
 pub mod ReductionLaws
 pub mod SizeLaws
 pub mod MixedLaws
-pub mod Demands
+pub mod KeptWinners
 pub mod Agreement
 pub mod AgreementLaws
 pub mod PlanTest

@@ -5,7 +5,7 @@ use mathlib.Core.Bool.{So}
 use Prim.Native.Nat.{ℕ, _<_}
 use Rattle.theory.specs.BoolsLaws.{and-in}
 use Rattle.theory.specs.Game.{even, odd, same, Game, Succ, Total}
-use Rattle.theory.specs.Simulation.{Moves, Passes}
+use Rattle.theory.specs.Simulation.{Moves, PassesTest}
 use Rattle.theory.specs.Order.{order, Holds}
 use Rattle.theory.specs.OrderLaws.{order-trans, order-simulation}
 use Rattle.theory.specs.Reduction.{sameClass, classNumber, representative, classGame, quotient, classOf}
@@ -18,7 +18,7 @@ module _ (g : Game) (v w : ℕ) (hv : v < g .n) (hw : w < g .n) (together : So (
   crossed : (v′ w′ : ℕ) → Succ g v v′ → Succ g w w′ → So (order g v′ w′)
   unfolding Moves same
   crossed =
-      let p : Passes even g g (Holds (order g)) v w = order-simulation g v w hv hw (sameClass-le (order g) v w together) in
+      let p : PassesTest even g g (Holds (order g)) v w = order-simulation g v w hv hw (sameClass-le (order g) v w together) in
       rw (ev, ow) at (p .moves)
 
   abbrev rep : ℕ → ℕ

@@ -9,7 +9,7 @@ use Rattle.theory.specs.RangeLaws.{all-in, all-out, any-in, any-out}
 use Rattle.theory.specs.Passes.{Rel, pairStart, pairTest, largest}
 use Rattle.theory.specs.PassesLaws.{length-finalMarks, largest-start, largest-fixed, largest-contains, passes-le}
 use Rattle.theory.specs.Game.{Player, even, Game, own, Succ}
-use Rattle.theory.specs.Simulation.{Moves, Passes, Simulation, DirectSimulation, Below}
+use Rattle.theory.specs.Simulation.{Moves, PassesTest, Simulation, DirectSimulation, Below}
 use Rattle.theory.specs.SimulationLaws.{moves-mono, below-refl, below-trans}
 use Rattle.theory.specs.Order.{allNext, anyNext, moves, equalPriority, test, marksBetween, below, orderMarks, order, orderPasses, Holds}
 
@@ -48,11 +48,11 @@ moves-out false false g h H v w t = λ w′ u. anyNext-out g v _ (allNext-out h 
 
 module _ (a : Player) (g h : Game) where
   -- a Bool-valued relation passes at (v, w), computed and in types
-  pub passes-out : (H : Rel) (v w : ℕ) → So (equalPriority g h v w) → So (test a g h H v w) → Passes a g h (Holds H) v w
+  pub passes-out : (H : Rel) (v w : ℕ) → So (equalPriority g h v w) → So (test a g h H v w) → PassesTest a g h (Holds H) v w
   unfolding equalPriority test
   passes-out H v w e t = record { equal = eqb-true _ _ e; moves = moves-out _ _ g h H v w t }
 
-  pub passes-in : (H : Rel) (v w : ℕ) → Passes a g h (Holds H) v w → So (equalPriority g h v w) × So (test a g h H v w)
+  pub passes-in : (H : Rel) (v w : ℕ) → PassesTest a g h (Holds H) v w → So (equalPriority g h v w) × So (test a g h H v w)
   unfolding equalPriority test
   passes-in H v w p = (eq-eqb _ _ (p .equal), moves-in _ _ g h H v w (p .moves))
 

@@ -1,4 +1,4 @@
--- Bounded "each", "some", "the first", "how many" and "the c-th"; the list of a function's values, and of a relation's pairs.
+-- Bounded "each", "some", "the first", "how many" and "the c-th"; the sum and the list of a function's values, and of a relation's pairs.
 use mathlib.Core.Bool.{Bool, true, false, cond}
 use mathlib.Core.List.{List, [], _∷_, _++_}
 use Prim.Native.Nat.{ℕ, zero, suc, _+_, _-_, _*_, _/_, _%_}
@@ -32,6 +32,11 @@ first p a e = firstOf p (e - a) a
 unfoldable pub count : ℕ → (ℕ → Bool) → ℕ
 count zero p = zero
 count (suc n) p = count n p + bit (p n)
+
+-- the sum f 0 + .. + f (n - 1)
+unfoldable pub sum : ℕ → (ℕ → ℕ) → ℕ
+sum zero f = zero
+sum (suc n) f = sum n f + f n
 
 -- the c-th number below n that passes, counted from 0
 unfoldable pub nth : ℕ → (ℕ → Bool) → ℕ → ℕ

@@ -40,14 +40,14 @@ unfoldable pub quotientEdge : Game → Rel → Rel
 quotientEdge g le c d = allBelow (g .n) (λ v. imp (sameClass le v c) (anyNext g v (λ w. sameClass le w d)))
 
 -- d is no better than e for the player: for Even, d is below e; for Odd, e is below d
-unfoldable pub worse : Player → Rel → Rel
-worse even le d e = le d e
-worse odd le d e = le e d
+unfoldable pub noBetter : Player → Rel → Rel
+noBetter even le d e = le d e
+noBetter odd le d e = le e d
 
 -- c has another quotient edge, to e, and d is no better than e for c's owner. Document 004, table 4; the prose beside it says the reverse.
 unfoldable pub dropped : Game → Rel → Rel
 dropped g le c d =
-    anyBelow (g .n) (λ e. isLowest (g .n) le e & not (eqb e d) & quotientEdge g le c e & worse (g .owner c) le d e)
+    anyBelow (g .n) (λ e. isLowest (g .n) le e & not (eqb e d) & quotientEdge g le c e & noBetter (g .owner c) le d e)
 
 unfoldable pub reducedEdge : Game → Rel → Rel
 reducedEdge g le c d = quotientEdge g le c d & not (dropped g le c d)

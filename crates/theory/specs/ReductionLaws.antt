@@ -7,14 +7,14 @@ use Prim.Native.Nat.{ℕ, _<_}
 use Rattle.theory.specs.Passes.{Rel}
 use Rattle.theory.specs.Game.{even, Game, own, Succ, Total}
 use Rattle.theory.specs.GameLaws.{same-out, same-fails}
-use Rattle.theory.specs.Simulation.{Moves, Passes, DirectSimulation, Below}
+use Rattle.theory.specs.Simulation.{Moves, PassesTest, DirectSimulation, Below}
 use Rattle.theory.specs.SimulationLaws.{below-turn}
 use Rattle.theory.specs.Order.{order, Holds}
 use Rattle.theory.specs.OrderLaws.{order-in, order-trans, order-simulation}
-use Rattle.theory.specs.Reduction.{sameClass, classCount, classNumber, representative, quotientEdge, reducedEdge, worse, classGame, quotient, reduced, classOf}
+use Rattle.theory.specs.Reduction.{sameClass, classCount, classNumber, representative, quotientEdge, reducedEdge, noBetter, classGame, quotient, reduced, classOf}
 use Rattle.theory.specs.ClassEdges.{Enough}
 use Rattle.theory.specs.ClassLaws.{sameClass-le, sameClass-ge, sameClass-refl, classNumber-lt, representative-of, representative-same}
-use Rattle.theory.specs.QuotientLaws.{order-preorder, rep-lt, worse-out, worse-trans, quotientEdge-out, quotient-above, reduced-above, reducedEdge-quotient}
+use Rattle.theory.specs.QuotientLaws.{order-preorder, rep-lt, noBetter-out, noBetter-trans, quotientEdge-out, quotient-above, reduced-above, reducedEdge-quotient}
 
 -- ---- any game of classes with enough quotient edges
 
@@ -39,7 +39,7 @@ module _ (g : Game) (E : Rel) (enough : Enough g E) where
   record Up (c x : ℕ) : Type 0 where
     to : ℕ
     edge : Succ K c to
-    above : So (worse (g .owner (rep c)) (order g) x (rep to))
+    above : So (noBetter (g .owner (rep c)) (order g) x (rep to))
 
   up : (c x : ℕ) → c < k → Succ g (rep c) x → Up c x
   unfolding classGame
@@ -60,20 +60,20 @@ module _ (g : Game) (E : Rel) (enough : Enough g E) where
   above-even : (c x : ℕ) → c < k → x < g .n → own g even (rep c) ≡ true → (u : Up c x) → So (order g x (rep (u .to)))
   unfolding classGame
   above-even c x hc hx o u =
-      order-in g hx (rep-lt g (u .to) (u .edge .inside)) (rw (same-out even (g .owner (rep c)) o) (worse-out g (g .owner (rep c)) (u .above)))
+      order-in g hx (rep-lt g (u .to) (u .edge .inside)) (rw (same-out even (g .owner (rep c)) o) (noBetter-out g (g .owner (rep c)) (u .above)))
 
   below-odd : (c x : ℕ) → c < k → x < g .n → own g even (rep c) ≡ false → (u : Up c x) → So (order g (rep (u .to)) x)
   unfolding classGame
   below-odd c x hc hx o u =
       order-in g (rep-lt g (u .to) (u .edge .inside)) hx
-      (below-turn even (g .owner (rep c)) (same-fails even (g .owner (rep c)) o) (worse-out g (g .owner (rep c)) (u .above)))
+      (below-turn even (g .owner (rep c)) (same-fails even (g .owner (rep c)) o) (noBetter-out g (g .owner (rep c)) (u .above)))
 
   -- v is below the representative of c
   pub class-into : DirectSimulation g K (λ v c. So (order g v (rep c)))
   unfolding classGame Moves
   class-into v c hv hc t = record { equal = p .equal; moves = go (own g even v) (own g even (rep c)) refl (p .moves) }
     where
-      p : Passes even g g (Holds (order g)) v (rep c)
+      p : PassesTest even g g (Holds (order g)) v (rep c)
       p = order-simulation g v (rep c) hv (rep-lt g c hc) t
 
       more : (x y d : ℕ) → x < g .n → y < g .n → d < k → So (order g x y) → So (order g y (rep d)) → So (order g x (rep d))
@@ -101,7 +101,7 @@ module _ (g : Game) (E : Rel) (enough : Enough g E) where
   unfolding classGame Moves
   class-from c w hc hw t = record { equal = p .equal; moves = go (own g even (rep c)) (own g even w) refl (p .moves) }
     where
-      p : Passes even g g (Holds (order g)) (rep c) w
+      p : PassesTest even g g (Holds (order g)) (rep c) w
       p = order-simulation g (rep c) w (rep-lt g c hc) hw t
 
       more : (d x y : ℕ) → d < k → x < g .n → y < g .n → So (order g (rep d) x) → So (order g x y) → So (order g (rep d) y)
@@ -164,7 +164,7 @@ module _ (g : Game) where
           inside = r .inside;
           is-lowest = r .is-lowest;
           edge = r .edge;
-          above = worse-trans g (g .owner c) x (q .to) (r .to) (s .inside) (q .inside) (r .inside) (q .above) (r .above);
+          above = noBetter-trans g (g .owner c) x (q .to) (r .to) (s .inside) (q .inside) (r .inside) (q .above) (r .above);
         };
   }
 

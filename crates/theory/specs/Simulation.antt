@@ -13,13 +13,13 @@ Moves false true X Y H = (v′ : ℕ) × (w′ : ℕ) × X v′ × Y w′ × H v
 Moves false false X Y H = (w′ : ℕ) → Y w′ → (v′ : ℕ) × X v′ × H v′ w′
 
 -- equal priorities, and the test of the two owners
-pub record Passes (a : Player) (G₁ G₂ : Game) (H : ℕ → ℕ → Type 0) (v w : ℕ) : Type 0 where
+pub record PassesTest (a : Player) (G₁ G₂ : Game) (H : ℕ → ℕ → Type 0) (v w : ℕ) : Type 0 where
   pub equal : G₁ .priority v ≡ G₂ .priority w
   pub moves : Moves (own G₁ a v) (own G₂ a w) (Succ G₁ v) (Succ G₂ w) H
 
 -- each pair of vertices in H passes
 abbrev pub Simulation : Player → Game → Game → (ℕ → ℕ → Type 0) → Type 0
-Simulation a G₁ G₂ H = (v w : ℕ) → v < G₁ .n → w < G₂ .n → H v w → Passes a G₁ G₂ H v w
+Simulation a G₁ G₂ H = (v w : ℕ) → v < G₁ .n → w < G₂ .n → H v w → PassesTest a G₁ G₂ H v w
 
 abbrev pub DirectSimulation : Game → Game → (ℕ → ℕ → Type 0) → Type 0
 DirectSimulation = Simulation even

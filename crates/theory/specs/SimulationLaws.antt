@@ -4,7 +4,7 @@ use mathlib.Core.Bool.{Bool, true, false, not}
 use Prim.Native.Nat.{ℕ, _<_}
 use Rattle.theory.specs.Game.{Player, other, Game, own, Succ}
 use Rattle.theory.specs.GameLaws.{same-other}
-use Rattle.theory.specs.Simulation.{Moves, Passes, Simulation, Below, Compose}
+use Rattle.theory.specs.Simulation.{Moves, PassesTest, Simulation, Below, Compose}
 
 -- ---- the pair test
 
@@ -55,7 +55,7 @@ module _ (a : Player) where
 
   pub simulation-refl : (G : Game) → Simulation a G G (λ v w. v ≡ w)
   simulation-refl G v w hv hw e =
-      subst (λ (u : ℕ). Passes a G G (λ v w. v ≡ w) v u) e (record { equal = refl; moves = moves-refl (own G a v) (Succ G v) })
+      subst (λ (u : ℕ). PassesTest a G G (λ v w. v ≡ w) v u) e (record { equal = refl; moves = moves-refl (own G a v) (Succ G v) })
 
   pub simulation-compose : (G₁ G₂ G₃ : Game) (H K : ℕ → ℕ → Type 0) → Simulation a G₁ G₂ H → Simulation a G₂ G₃ K
       → Simulation a G₁ G₃ (Compose (λ u. u < G₂ .n) H K)

@@ -1,8 +1,8 @@
 -- Each case of the verdict is one of the fields' definition; a small count fits 32 bits.
 use mathlib.Core.Path.{sym, ap, _∙_, subst}
 use native.Mathlib.Omega.{arith}
-use Rattle.reduction.specs.declared.Classification.{Classification}
-use Rattle.reduction.specs.Answers.{classificationAnswer}
+use Rattle.classes.specs.declared.Classification.{Classification}
+use Rattle.classes.specs.ClassesCall.{classificationAnswer}
 use Rattle.abi.specs.Fields.{classesFields, SmallCount}
 use borrow.Author.Needs.{needs}
 use Rattle.abi.proofs.of_classification.Statement.{statement}

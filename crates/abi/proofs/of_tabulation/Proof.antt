@@ -2,7 +2,7 @@
 use mathlib.Core.Path.{sym, ap, _∙_, subst}
 use native.Mathlib.Omega.{arith}
 use Rattle.reduction.specs.declared.Tabulation.{Tabulation}
-use Rattle.reduction.specs.Answers.{tabulationAnswer}
+use Rattle.reduction.specs.TableCall.{tabulationAnswer}
 use Rattle.abi.specs.Fields.{tableFields, SmallCounts}
 use borrow.Author.Needs.{needs}
 use Rattle.abi.proofs.of_tabulation.Statement.{statement}

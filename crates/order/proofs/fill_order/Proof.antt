@@ -1,18 +1,20 @@
--- Arrays of 257 and 4,096 words hold the index of any well-formed table.
+-- The arrays hold the index of any well-formed table.
 use borrow.Author.Needs.{needs}
 use native.Mathlib.Omega.{arith}
+use Prim.Native.Nat.{_+_}
 use Rattle.theory.specs.ListLaws.{zeros}
+use Rattle.table.specs.Limits.{vertexLimit}
 use Rattle.order.proofs.fill_order.Statement.{statement}
 use Rattle.order.proofs.fill_order.Tie as tie
 
-slice-aggregate-build : tie.Need-slice-aggregate-build
-slice-aggregate-build c = search needs
+slice-aggregate-of-edges : tie.Need-slice-aggregate-of-edges
+slice-aggregate-of-edges c = search needs
 
-slice-aggregate-build-2 : tie.Need-slice-aggregate-build-2
-slice-aggregate-build-2 c = search needs
+slice-aggregate-of-edges-2 : tie.Need-slice-aggregate-of-edges-2
+slice-aggregate-of-edges-2 c = search needs
 
-build-requires : tie.Need-build-requires
-build-requires c κs = let p = c .before .before .before .before .before .pre in (p .0, ((omega arith, p .0 .edges), zeros 257))
+of-edges-requires : tie.Need-of-edges-requires
+of-edges-requires c κs = let p = c .before .before .before .before .before .pre in (p .0, ((omega arith, p .0 .edges), zeros (vertexLimit + 1)))
 
 slice-aggregate-settle : tie.Need-slice-aggregate-settle
 slice-aggregate-settle c = search needs
@@ -36,9 +38,9 @@ pub fill-order-spec : {M : Type 1} → statement M
 fill-order-spec =
     tie.close
     (tie.spec
-    slice-aggregate-build
-    slice-aggregate-build-2
-    build-requires
+    slice-aggregate-of-edges
+    slice-aggregate-of-edges-2
+    of-edges-requires
     slice-aggregate-settle
     slice-aggregate-settle-2
     settle-requires

@@ -9,10 +9,11 @@ use Prim.Native.Nat.{_≤_, _<_}
 use Rattle.table.specs.Table.{vertexCount}
 use Rattle.table.specs.Verdict.{judge}
 use Rattle.table.specs.VerdictLaws.{judge-hit, judge-next}
-use Rattle.plan.specs.PlanTable.{positionCount, linkCount, planLength}
-use Rattle.plan.specs.Acceptance.{firstBeyond, planRows}
-use Rattle.plan.specs.PlanFormed.{PlanSized, PlanFormed}
-use Rattle.plan.specs.PlanFormedLaws.{size-good, words-good}
+use Rattle.links.specs.PlanTable.{positionCount, linkCount, planLength}
+use Rattle.links.specs.Refusals.{firstBeyond}
+use Rattle.plan.specs.Acceptance.{planRows}
+use Rattle.links.specs.PlanFormed.{PlanSized, PlanFormed}
+use Rattle.links.specs.PlanFormedLaws.{size-good, words-good}
 use Rattle.plan.proofs.judge_plan.Statement.{statement}
 use Rattle.plan.proofs.judge_plan.Tie as tie
 

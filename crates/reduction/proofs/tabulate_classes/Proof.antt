@@ -5,11 +5,11 @@ use native.Mathlib.Omega.{arith}
 use lib.ListN.{length}
 use Rattle.table.specs.Verdict.{judge}
 use Rattle.table.specs.Table.{vertexCount}
-use Rattle.reduction.specs.Calls.{memoryRows}
-use Rattle.reduction.specs.Answers.{memoryAnswer}
-use Rattle.reduction.specs.NumberingLaws.{ordered-written}
-use Rattle.reduction.specs.CallRules.{ClassesFit, TableFits}
-use Rattle.reduction.specs.CallsLaws.{memory-fits, table-short, table-output-short, table-written}
+use Rattle.classes.specs.ClassesCall.{memoryRows, memoryAnswer}
+use Rattle.classes.specs.ClassesCallLaws.{memory-fits}
+use Rattle.classes.specs.ClassesRules.{ClassesFit}
+use Rattle.reduction.specs.TableRules.{TableFits}
+use Rattle.reduction.specs.TableCallLaws.{table-short, table-output-short, table-written}
 use borrow.Author.Needs.{needs}
 use Rattle.reduction.proofs.tabulate_classes.Statement.{statement}
 use Rattle.reduction.proofs.tabulate_classes.Tie as tie
@@ -25,9 +25,6 @@ judged c = rw (← start c .pre .vertices) (c .judge-memory .ensures)
 
 fits : (c : tie.After-enum-told) → let a = start (c .before .before) .args in ClassesFit (a .game .now) (a .marks .now) (a .spare .now) (a .classes .now)
 fits c = memory-fits _ _ _ _ (start (c .before .before) .pre .well) (ap memoryAnswer (sym (c .enum-told .given .1)) ∙ judged (c .before .before))
-
-abbrev told-at : tie.After-fill-order → tie.After-enum-told
-told-at c = c .before .before .before .before .before .before
 
 judge-memory-requires : tie.Need-judge-memory-requires
 judge-memory-requires c κs = let p = c .before .before .before .before .before .pre in omega (arith, p .vertices, p .well .vertices)
@@ -62,24 +59,15 @@ returns-2 c =
     table-output-short _ _ _ _ _ _ (fits t) _ (omega (arith, s .pre .vertices, s .pre .edges)) (c .if1 .taken)
 
 -- the output was long enough, too
-all-fits : (c : tie.After-fill-order)
-    → let a = start (told-at c .before .before) .args in
-    TableFits (a .game .now) (a .marks .now) (a .spare .now) (a .classes .now) (a .output .now)
+all-fits : (c : tie.Else1)
+    → let a = start (c .before .before .before .before .before) .args in TableFits (a .game .now) (a .marks .now) (a .spare .now) (a .classes .now) (a .output .now)
 all-fits c =
-    let s = start (told-at c .before .before) in
-    record { classesFit = fits (told-at c); outputFit = omega (arith, s .pre .vertices, s .pre .edges, c .before .before .before .if1 .left) }
+    let t = c .before .before .before in
+    let p = start (t .before .before) .pre in
+    record { classesFit = fits t; outputFit = omega (arith, p .vertices, p .edges, c .if1 .left) }
 
-fill-order-requires : tie.Need-fill-order-requires
-fill-order-requires c κs =
-    let f = fits (c .before .before .before .before .before) .orderFits in
-    (f .game, (f .marksFit, f .spareFit))
-
-fill-table-requires : tie.Need-fill-table-requires
-fill-table-requires c κs =
-    let o = c .before .before .before .before .before .before .before in
-    let f = all-fits o in
-    let g = f .classesFit .orderFits in
-    ((g .game, rw (o .fill-order .ensures .marks) (ordered-written _ _ (g .marksFit))), (f .classesFit .wordsFit, f .outputFit))
+fill-memory-requires : tie.Need-fill-memory-requires
+fill-memory-requires c κs = all-fits (c .before .before .before .before)
 
 same-length : tie.Need-same-length
 same-length c = search needs
@@ -95,9 +83,8 @@ same-length-4 c = search needs
 
 returns-3 : tie.Need-returns-3
 returns-3 c =
-    let x = c .before .before .before .before in
-    let o = x .before .before .before .before .before .before .before .before in
-    table-written _ _ _ _ _ _ (all-fits o) _ _ _ _ _ _ (o .fill-order .ensures) (x .fill-table .ensures)
+    let x = c .before .before .before .before .before .before .before .before in
+    table-written _ _ _ _ _ _ (all-fits (x .before .before .before .before .before)) _ _ _ _ _ (x .fill-memory .ensures)
 
 pub tabulate-classes-spec : {M : Type 1} → statement M
 tabulate-classes-spec =
@@ -112,8 +99,7 @@ tabulate-classes-spec =
     mul-needed-2
     add-needed-2
     returns-2
-    fill-order-requires
-    fill-table-requires
+    fill-memory-requires
     same-length
     same-length-2
     same-length-3

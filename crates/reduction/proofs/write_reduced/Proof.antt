@@ -1,7 +1,6 @@
 -- The reader's refusal is the call's; an accepted game is well-formed, which is what the rest needs.
-use Rattle.table.specs.ReadingLaws.{reading-accepted}
-use Rattle.reduction.specs.Rows.{gameBy}
-use Rattle.reduction.specs.CallsLaws.{table-handed}
+use Rattle.class_edges.specs.Rows.{gameBy}
+use Rattle.reduction.specs.TableCallLaws.{sized, table-handed}
 use borrow.Author.Needs.{needs}
 use Rattle.reduction.proofs.write_reduced.Statement.{statement}
 use Rattle.reduction.proofs.write_reduced.Tie as tie
@@ -21,12 +20,12 @@ refusal-of-requires c κs = search needs
 returns : tie.Need-returns
 returns c =
     let t = c .before .enum-told .given in
-    rw (c .refusal-of .ensures, t .1) (table-handed _ _ _ _ _ _ (t .0 .0) (rw (t .1) at (c .before .before .before .read .ensures)))
+    table-handed _ _ _ _ _ _ _ _ _ (t .1) (c .before .before .before .read .ensures) (c .refusal-of .ensures)
 
 tabulate-classes-requires : tie.Need-tabulate-classes-requires
 tabulate-classes-requires c κs =
     let r = c .before .before .before .before .before in
-    reading-accepted _ _ (rw (r .reading .given .1) at (r .before .before .read .ensures))
+    sized (r .reading .given .1) (r .before .before .read .ensures)
 
 same-length : tie.Need-same-length
 same-length c = search needs

@@ -1,6 +1,6 @@
--- The arrays are enough for any accepted game, and an accepted game has at most 256 vertices to print.
+-- The arrays are enough for any accepted game, and its vertices are few enough to print.
 use native.Mathlib.Omega.{arith}
-use Rattle.report.specs.PartsLaws.{reported-small}
+use Rattle.report.specs.FindingsLaws.{reported-small}
 use borrow.Author.Needs.{needs}
 use Rattle.report.proofs.report_bytes.Statement.{statement}
 use Rattle.report.proofs.report_bytes.Tie as tie

@@ -11,12 +11,13 @@ use lib.Dec.{eqb, ltb}
 use lib.ListN.{drop}
 use Rattle.theory.specs.Bools.{_or_}
 use Rattle.theory.specs.BoolsLaws.{or-left, or-right}
+use Rattle.table.specs.Limits.{vertexLimit}
 use Rattle.table.specs.Table.{vertexCount, tableEdges}
 use Rattle.table.specs.Verdict.{Answer, refused, judge}
 use Rattle.table.specs.VerdictLaws.{judge-hit, judge-next}
-use Rattle.table.specs.Reading.{gameRows, readAnswer}
-use Rattle.table.specs.Parts.{Sized, EndsInside}
-use Rattle.table.specs.PartsLaws.{ends-inside}
+use Rattle.table.specs.Reading.{gameRowsBy, gameRows, readAnswer}
+use Rattle.table.specs.Flags.{Sized, EndsInside}
+use Rattle.table.specs.FlagsLaws.{ends-inside}
 use Rattle.table.proofs.read.Statement.{statement}
 use Rattle.table.proofs.read.Tie as tie
 
@@ -59,11 +60,11 @@ game8 c = game7 (c .before .before)
 
 -- ---- what is known there
 
-few : (c : tie.Else3) → vertexCount (game2 c) ≤ 256
-few c = ltb-false 256 (vertexCount (game2 c)) (c .if3 .left)
+few : (c : tie.Else3) → vertexCount (game2 c) ≤ vertexLimit
+few c = ltb-false vertexLimit (vertexCount (game2 c)) (c .if3 .left)
 
 sized : (c : tie.Else5) → Sized (game4 c) (vertexCount (game4 c)) (tableEdges (game4 c))
-sized c = record { vertices = refl; edges = refl; vertexLimit = few (c .before .before); edgeLimit = c .before .if4 .left; size = c .if5 .left }
+sized c = record { vertices = refl; edges = refl; fewVertices = few (c .before .before); fewEdges = c .before .if4 .left; size = c .if5 .left }
 
 ends : (c : tie.Else7) → EndsInside (game6 c)
 ends c = ends-inside (game6 c) (omega (arith, c .before .first-end .ensures, c .if7 .left, sized (c .before .before .before .before)))
@@ -71,41 +72,41 @@ ends c = ends-inside (game6 c) (omega (arith, c .before .first-end .ensures, c .
 -- ---- the rows so far are clean
 
 clean1 : (c : tie.Else1) → readAnswer (game1 c) ≡ rest (game1 c) 1
-unfolding readAnswer gameRows
+unfolding readAnswer gameRowsBy
 clean1 c = judge-next _ _ _ (le-ltb _ _ (c .if1 .left))
 
 clean2 : (c : tie.Else3) → readAnswer (game2 c) ≡ rest (game2 c) 2
-unfolding gameRows _or_
+unfolding gameRowsBy _or_
 clean2 c = clean1 (c .before .before .before .before) ∙ judge-next _ _ _ (rw (ne-eqb (vertexCount (game2 c)) 0 (c .before .if2 .left), c .if3 .left))
 
 clean3 : (c : tie.Else4) → readAnswer (game3 c) ≡ rest (game3 c) 3
-unfolding gameRows
+unfolding gameRowsBy
 clean3 c = clean2 (c .before) ∙ judge-next _ _ _ (le-ltb _ _ (c .if4 .left))
 
 clean4 : (c : tie.Else5) → readAnswer (game4 c) ≡ rest (game4 c) 4
-unfolding gameRows
+unfolding gameRowsBy
 clean4 c = clean3 (c .before) ∙ judge-next _ _ _ (ap not (eq-eqb _ _ (c .if5 .left)))
 
 clean5 : (c : tie.Else6) → readAnswer (game5 c) ≡ rest (game5 c) 5
-unfolding gameRows
+unfolding gameRowsBy
 clean5 c = clean4 (c .before .before) ∙ judge-next _ _ _ (misses (c .before .first-owner .ensures) (c .if6 .left))
 
 clean6 : (c : tie.Else7) → readAnswer (game6 c) ≡ rest (game6 c) 6
-unfolding gameRows
+unfolding gameRowsBy
 clean6 c = clean5 (c .before .before) ∙ judge-next _ _ _ (misses (c .before .first-end .ensures) (rw (sized (c .before .before .before .before) .size) at (c .if7 .left)))
 
 clean7 : (c : tie.Else8) → readAnswer (game7 c) ≡ rest (game7 c) 7
-unfolding gameRows
+unfolding gameRowsBy
 clean7 c = clean6 (c .before .before) ∙ judge-next _ _ _ (misses (c .before .first-repeat .ensures) (c .if8 .left))
 
 clean8 : (c : tie.Else9) → readAnswer (game8 c) ≡ rest (game8 c) 8
-unfolding gameRows
+unfolding gameRowsBy
 clean8 c = clean7 (c .before .before) ∙ judge-next _ _ _ (misses (c .before .first-lacking .ensures) (c .if9 .left))
 
 -- ---- needs
 
 returns : tie.Need-returns
-unfolding readAnswer gameRows
+unfolding readAnswer gameRowsBy
 returns c = rw (c .refused .ensures) (sym (judge-hit _ _ _ (lt-ltb _ _ (c .before .if1 .taken))))
 
 cast-n : tie.Need-cast-n
@@ -114,15 +115,15 @@ cast-n c = omega (arith, c .shared-slice-known2 .given 0)
 cast-m : tie.Need-cast-m
 cast-m c = omega (arith, c .shared-slice-known3 .given 1)
 
-bad-count : (c : tie.Joined2) → So (eqb (vertexCount (game1 (c .before .before .before))) 0 or ltb 256 (vertexCount (game1 (c .before .before .before))))
+bad-count : (c : tie.Joined2) → So (eqb (vertexCount (game1 (c .before .before .before))) 0 or ltb vertexLimit (vertexCount (game1 (c .before .before .before))))
 bad-count c = ⊎-elim (λ w. or-left _ (eq-eqb _ _ (w .taken))) (λ w. or-right _ (w .1 .taken)) (c .if2 .came)
 
 returns-2 : tie.Need-returns-2
-unfolding gameRows
+unfolding gameRowsBy
 returns-2 c = rw (c .refused2 .ensures) (sym (clean1 (c .before .before .before .before) ∙ judge-hit _ _ _ (bad-count (c .before))))
 
 returns-3 : tie.Need-returns-3
-unfolding gameRows
+unfolding gameRowsBy
 returns-3 c = rw (c .refused3 .ensures) (sym (clean2 (c .before .before) ∙ judge-hit _ _ _ (lt-ltb _ _ (c .before .if4 .taken))))
 
 mul-if5 : tie.Need-mul-if5
@@ -138,11 +139,11 @@ add-if5-2 : tie.Need-add-if5-2
 add-if5-2 c = omega (arith, few (c .before))
 
 returns-4 : tie.Need-returns-4
-unfolding gameRows
+unfolding gameRowsBy
 returns-4 c = rw (c .refused4 .ensures) (sym (clean3 (c .before .before) ∙ judge-hit _ _ _ (ap not (ne-eqb _ _ (c .before .if5 .taken)))))
 
 first-owner-requires : tie.Need-first-owner-requires
-first-owner-requires c κs = let s = sized c in (refl, s .vertexLimit, omega arith)
+first-owner-requires c κs = let s = sized c in (refl, s .fewVertices, omega arith)
 
 mul-if6 : tie.Need-mul-if6
 mul-if6 c = omega (arith, sized (c .before))
@@ -151,7 +152,7 @@ add-if6 : tie.Need-add-if6
 add-if6 c = omega (arith, sized (c .before))
 
 returns-5 : tie.Need-returns-5
-unfolding gameRows
+unfolding gameRowsBy
 returns-5 c =
     let e = c .before .before .first-owner .ensures in
     rw (c .refused5 .ensures) (ap (refused 5) e ∙ sym (clean4 (c .before .before .before) ∙ judge-hit _ _ _ (finds e (c .before .if6 .taken))))
@@ -160,7 +161,7 @@ first-end-requires : tie.Need-first-end-requires
 first-end-requires c κs = sized (c .before .before)
 
 returns-6 : tie.Need-returns-6
-unfolding gameRows
+unfolding gameRowsBy
 returns-6 c =
     let e = c .before .before .first-end .ensures in
     let z = sized (c .before .before .before .before .before) in
@@ -179,7 +180,7 @@ add-refused-2 : tie.Need-add-refused-2
 add-refused-2 c = omega (arith, sized (c .before .before .before .before .before .before))
 
 returns-7 : tie.Need-returns-7
-unfolding gameRows
+unfolding gameRowsBy
 returns-7 c =
     let e = c .before .before .first-repeat .ensures in
     rw (c .refused7 .ensures)
@@ -190,13 +191,13 @@ first-lacking-requires : tie.Need-first-lacking-requires
 first-lacking-requires c κs = (sized (c .before .before .before .before .before .before), ends (c .before .before))
 
 returns-8 : tie.Need-returns-8
-unfolding gameRows
+unfolding gameRowsBy
 returns-8 c =
     let e = c .before .before .first-lacking .ensures in
     rw (c .refused8 .ensures) (ap (refused 8) e ∙ sym (clean7 (c .before .before .before) ∙ judge-hit _ _ _ (finds e (c .before .if9 .taken))))
 
 returns-9 : tie.Need-returns-9
-unfolding gameRows judge
+unfolding gameRowsBy judge
 returns-9 c = sym (clean8 c)
 
 -- nothing is asked

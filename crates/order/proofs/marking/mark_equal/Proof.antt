@@ -8,8 +8,8 @@ use lib.ListN.{length}
 use Rattle.theory.specs.Range.{tabulate}
 use Rattle.table.specs.Table.{vertexCount}
 use Rattle.table.specs.Verdict.{written}
-use Rattle.order.specs.Bytes.{bytes}
-use Rattle.order.specs.BytesLaws.{fill-none}
+use Rattle.pairs.specs.Marks.{bytes}
+use Rattle.pairs.specs.MarksLaws.{fill-none}
 use Rattle.order.specs.Clearing.{equalPairs}
 use Rattle.order.specs.ClearingLaws.{row-end}
 use Rattle.order.proofs.marking.mark_equal.Statement.{statement}

@@ -5,8 +5,8 @@ use mathlib.Core.Path.{_≡_}
 use Prim.Native.Nat.{_+_, _*_, _-_, _≤_, _<_}
 use lib.Arith.{digits-lt}
 use lib.ListN.{length, length-set}
-use Rattle.table.specs.Table.{vertexCount}
-use Rattle.order.specs.Clearing.{pairCount, equalPairs, RowWritten}
+use Rattle.table.specs.Table.{pairCount, vertexCount}
+use Rattle.order.specs.Clearing.{equalPairs, RowWritten}
 use Rattle.order.specs.ClearingLaws.{equal-of, row-start, row-next}
 use Rattle.order.proofs.marking.mark_row.Statement.{statement}
 use Rattle.order.proofs.marking.mark_row.Tie as tie

@@ -8,24 +8,25 @@ use lib.ListN.{length}
 use Rattle.theory.specs.Range.{count, tabulate}
 use Rattle.theory.specs.CountLaws.{count-le}
 use Rattle.theory.specs.Passes.{nextPass}
+use Rattle.table.specs.Limits.{vertexLimit}
 use Rattle.table.specs.Table.{vertexCount}
 use Rattle.table.specs.Verdict.{written}
-use Rattle.order.specs.Bytes.{bytes}
-use Rattle.order.specs.BytesLaws.{fill-none}
+use Rattle.pairs.specs.Marks.{bytes}
+use Rattle.pairs.specs.MarksLaws.{fill-none}
 use Rattle.order.specs.Clearing.{cleared, keptAt, clearedAt}
 use Rattle.order.specs.ClearingLaws.{row-end, count-end}
 use Rattle.order.proofs.marking.pass.Statement.{statement}
 use Rattle.order.proofs.marking.pass.Tie as tie
 
 abbrev Inv-loop : tie.InvT-loop
-Inv-loop game offsets targets marks spare₀ n cleared₀ v₀ spare cleared v =
+Inv-loop game starts targets marks spare₀ n cleared₀ v₀ spare cleared v =
     (v ≤ n)
     × (length spare ≡ length spare₀)
     × (cleared ≡ count (v * vertexCount game) (clearedAt game marks))
     × (spare ≡ written (bytes (tabulate (v * vertexCount game) (keptAt game marks))) spare₀)
 
 abbrev μ-loop : tie.MeasureT-loop
-μ-loop game offsets targets marks spare₀ n cleared₀ v₀ spare cleared v = n - v
+μ-loop game starts targets marks spare₀ n cleared₀ v₀ spare cleared v = n - v
 
 abbrev start : tie.At-loop Inv-loop μ-loop → tie.Start Inv-loop μ-loop
 start c = c .before .before .before .before .before .before .before
@@ -63,7 +64,7 @@ add-cleared c =
     let s = start (t .before) in
     let m = s .args in
     let w = s .pre .game .vertices in
-    let v : t .before .loop .v + 1 ≤ 256 = omega arith in
+    let v : t .before .loop .v + 1 ≤ vertexLimit = omega arith in
     omega (
       arith,
       total (c .before .before),

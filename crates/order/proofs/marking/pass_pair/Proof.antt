@@ -5,8 +5,9 @@ use borrow.Author.Tests.{eq-eqb, ne-eqb, not-true, not-false}
 use Prim.Native.Nat.{_<_}
 use lib.Arith.{digits-lt}
 use Rattle.theory.specs.Bools.{_&_, bit}
-use Rattle.order.specs.Bytes.{isMark}
-use Rattle.order.specs.Clearing.{pairCount, keeps, clears}
+use Rattle.pairs.specs.Marks.{isMark}
+use Rattle.table.specs.Table.{pairCount}
+use Rattle.order.specs.Clearing.{keeps, clears}
 use Rattle.order.proofs.marking.pass_pair.Statement.{statement}
 use Rattle.order.proofs.marking.pass_pair.Tie as tie
 

@@ -8,20 +8,20 @@ use Prim.Native.Nat.{ℕ, _+_, _*_, _-_, _≤_, _<_}
 use lib.Arith.{digits-lt}
 use lib.ListN.{length}
 use Rattle.theory.specs.CountLaws.{count-le}
-use Rattle.table.specs.Table.{vertexCount}
-use Rattle.order.specs.Clearing.{pairCount, clearedAt, PairDone, RowDone}
+use Rattle.table.specs.Table.{pairCount, vertexCount}
+use Rattle.order.specs.Clearing.{clearedAt, PairDone, RowDone}
 use Rattle.order.specs.ClearingLaws.{done-start, done-next}
 use Rattle.order.proofs.marking.pass_row.Statement.{statement}
 use Rattle.order.proofs.marking.pass_row.Tie as tie
 
 abbrev Inv-loop : tie.InvT-loop
-Inv-loop game offsets targets marks spare₀ v n row cleared₀ w₀ spare cleared w =
+Inv-loop game starts targets marks spare₀ v n row cleared₀ w₀ spare cleared w =
     (w ≤ n)
     × (length spare ≡ length spare₀)
     × RowDone game marks spare₀ spare v w cleared
 
 abbrev μ-loop : tie.MeasureT-loop
-μ-loop game offsets targets marks spare₀ v n row cleared₀ w₀ spare cleared w = n - w
+μ-loop game starts targets marks spare₀ v n row cleared₀ w₀ spare cleared w = n - w
 
 abbrev start : tie.At-loop Inv-loop μ-loop → tie.Start Inv-loop μ-loop
 start c = c .before .before .before .before .before .before .before

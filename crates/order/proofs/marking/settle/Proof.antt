@@ -7,14 +7,16 @@ use mathlib.Core.Path.{_≡_, refl, sym, _∙_}
 use Prim.Native.Nat.{_+_, _-_, _≤_}
 use lib.ListN.{length, drop}
 use Rattle.table.specs.Verdict.{written}
-use Rattle.order.specs.Bytes.{bytes}
-use Rattle.order.specs.Clearing.{Unsettled, pairCount, pairPasses, equalPairs, marksAfter}
+use Rattle.pairs.specs.Marks.{bytes}
+use Rattle.table.specs.Limits.{pairLimit}
+use Rattle.table.specs.Table.{pairCount}
+use Rattle.order.specs.Clearing.{Unsettled, pairPasses, equalPairs, marksAfter}
 use Rattle.order.specs.ClearingLaws.{unsettled-start, unsettled-more, pass-written, pass-cleared, order-count, start-beyond, start-holds, pass-beyond, holds-over, order-read, order-wrote}
 use Rattle.order.proofs.marking.settle.Statement.{statement}
 use Rattle.order.proofs.marking.settle.Tie as tie
 
 abbrev Inv-loop : tie.InvT-loop
-Inv-loop game offsets targets marks₀ spare₀ passes₀ marks spare passes =
+Inv-loop game starts targets marks₀ spare₀ passes₀ marks spare passes =
     Unsettled (pairCount game) (pairPasses game) (equalPairs game) passes
     × (length marks ≡ length marks₀)
     × (length spare ≡ length spare₀)
@@ -22,7 +24,7 @@ Inv-loop game offsets targets marks₀ spare₀ passes₀ marks spare passes =
     × (drop (pairCount game) spare ≡ drop (pairCount game) spare₀)
 
 abbrev μ-loop : tie.MeasureT-loop
-μ-loop game offsets targets marks₀ spare₀ passes₀ marks spare passes = pairCount game - passes
+μ-loop game starts targets marks₀ spare₀ passes₀ marks spare passes = pairCount game - passes
 
 abbrev start : tie.At-loop Inv-loop μ-loop → tie.Start Inv-loop μ-loop
 start c = c .before .before .before .before .before .before .before .before .before .before
@@ -38,7 +40,7 @@ more c =
     let a = head c .loop in
     unsettled-more _ _ _ (a .passes) (a .inv .0) (λ z. c .if1 .left (pass-cleared g (a .passes) _ _ _ _ _ (a .inv .3) (c .before .before .before .pass .ensures) ∙ z))
 
-room : (c : tie.Else1 Inv-loop μ-loop) → head c .loop .passes + 1 ≤ 65536
+room : (c : tie.Else1 Inv-loop μ-loop) → head c .loop .passes + 1 ≤ pairLimit
 room c = let w = start (head c) .pre .game .vertices in omega (arith, more c, mul-le-mul w w)
 
 mark-equal-requires : tie.Need-mark-equal-requires Inv-loop μ-loop
@@ -74,8 +76,8 @@ returns c =
     let a = l .loop in
     let z = sym (pass-cleared g (a .passes) _ _ _ _ _ (a .inv .3) (p .ensures)) ∙ c .if1 .taken in
     record {
-      marks = order-read g (a .passes) (a .inv .0) z _ _ _ (start-beyond g _ _ (l .before .before .before .mark-equal .ensures)) (a .inv .3);
-      spare = order-wrote g (a .passes) (a .inv .0) z _ _ _ (a .inv .4) (pass-written g (a .passes) _ _ _ _ _ (a .inv .3) (p .ensures));
+      marks-after = order-read g (a .passes) (a .inv .0) z _ _ _ (start-beyond g _ _ (l .before .before .before .mark-equal .ensures)) (a .inv .3);
+      spare-after = order-wrote g (a .passes) (a .inv .0) z _ _ _ (a .inv .4) (pass-written g (a .passes) _ _ _ _ _ (a .inv .3) (p .ensures));
       count = order-count g (a .passes) (a .inv .0) z;
     }
 
@@ -104,10 +106,10 @@ returns-2 c =
     let q = c .before .before .before .pass2 .ensures in
     let z = sym (pass-cleared g (k + 1) _ _ _ _ _ h q) ∙ c .if2 .taken in
     record {
-      marks =
+      marks-after =
           order-wrote g (k + 1) (more o) z _ _ _ (pass-beyond g k _ _ (a .inv .3) ∙ start-beyond g _ _ (l .before .before .before .mark-equal .ensures))
           (pass-written g (k + 1) _ _ _ _ _ h q);
-      spare = order-read g (k + 1) (more o) z _ _ _ (a .inv .4) h;
+      spare-after = order-read g (k + 1) (more o) z _ _ _ (a .inv .4) h;
       count = omega (arith, order-count g (k + 1) (more o) z);
     }
 

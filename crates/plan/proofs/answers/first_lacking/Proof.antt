@@ -1,49 +1,25 @@
 -- The edges of a well-formed game are indexed, over zeros.
 use borrow.Author.Needs.{needs}
 use native.Mathlib.Omega.{arith}
+use Prim.Native.Nat.{_+_}
 use Rattle.theory.specs.ListLaws.{zeros}
-use Rattle.table.specs.GroupingLaws.{edge-sources}
+use Rattle.table.specs.Limits.{vertexLimit}
 use Rattle.plan.proofs.answers.first_lacking.Statement.{statement}
 use Rattle.plan.proofs.answers.first_lacking.Tie as tie
 
-shared-slice-read-n : tie.Need-shared-slice-read-n
-shared-slice-read-n c = search needs
+abbrev start : tie.After-edge-targets → tie.Start
+start c = c .before .before .before .before .before .before
 
-cast-n : tie.Need-cast-n
-cast-n c = search needs
+slice-aggregate-of-edges : tie.Need-slice-aggregate-of-edges
+slice-aggregate-of-edges c = search needs
 
-shared-slice-read-m : tie.Need-shared-slice-read-m
-shared-slice-read-m c = search needs
+slice-aggregate-of-edges-2 : tie.Need-slice-aggregate-of-edges-2
+slice-aggregate-of-edges-2 c = search needs
 
-cast-m : tie.Need-cast-m
-cast-m c = search needs
-
-mul-index : tie.Need-mul-index
-mul-index c = search needs
-
-add-index : tie.Need-add-index
-add-index c = search needs
-
-mul-index-2 : tie.Need-mul-index-2
-mul-index-2 c = search needs
-
-add-index-2 : tie.Need-add-index-2
-add-index-2 c = search needs
-
-add-index-3 : tie.Need-add-index-3
-add-index-3 c = search needs
-
-slice-aggregate-index : tie.Need-slice-aggregate-index
-slice-aggregate-index c = search needs
-
-slice-aggregate-index-2 : tie.Need-slice-aggregate-index-2
-slice-aggregate-index-2 c = search needs
-
-index-requires : tie.Need-index-requires
-index-requires c κs =
-    let e = c .before .before .before .before .before .before .before .before in
-    let w = e .pre .0 .game in
-    (edge-sources w, (omega (arith, w .size), ((omega (arith, w .vertices), omega (arith, w .edges)), zeros 257)))
+of-edges-requires : tie.Need-of-edges-requires
+of-edges-requires c κs =
+    let well = start c .pre .0 .game in
+    (well, ((omega (arith, well .vertices), well .edges), zeros (vertexLimit + 1)))
 
 slice-aggregate-first-lacking-by : tie.Need-slice-aggregate-first-lacking-by
 slice-aggregate-first-lacking-by c = search needs
@@ -56,28 +32,20 @@ slice-aggregate-first-lacking-by-3 c = search needs
 
 first-lacking-by-requires : tie.Need-first-lacking-by-requires
 first-lacking-by-requires c κs =
-    let e = c .before .before .before .before .before .before .before .before .before .before .before .before .before .before in
-    (e .pre .0, ((e .pre .1, c .before .before .before .before .before .index .ensures), (omega arith, zeros 256)))
+    let indexed = c .before .before .before .before .before in
+    let s = start (indexed .before) in
+    (record { pass = s .pre .0; links = s .pre .1; edges = indexed .of-edges .ensures; room = omega arith }, zeros vertexLimit)
 
 returns : tie.Need-returns
-returns c = search needs
+returns c = c .before .first-lacking-by .ensures
 
 pub first-lacking-spec : {M : Type 1} → statement M
 first-lacking-spec =
     tie.close
     (tie.spec
-    shared-slice-read-n
-    cast-n
-    shared-slice-read-m
-    cast-m
-    mul-index
-    add-index
-    mul-index-2
-    add-index-2
-    add-index-3
-    slice-aggregate-index
-    slice-aggregate-index-2
-    index-requires
+    slice-aggregate-of-edges
+    slice-aggregate-of-edges-2
+    of-edges-requires
     slice-aggregate-first-lacking-by
     slice-aggregate-first-lacking-by-2
     slice-aggregate-first-lacking-by-3

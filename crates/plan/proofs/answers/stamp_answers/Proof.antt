@@ -1,58 +1,59 @@
 -- The targets of the group before t have their vertices stamped.
 use borrow.Author.Needs.{needs}
 use native.Mathlib.Omega.{arith}
-use Prim.Native.Nat.{_≤_, _<_, _-_, _+_}
+use Prim.Native.Nat.{ℕ, _≤_, _<_, _-_, _+_}
 use mathlib.Core.Path.{_≡_, refl}
+use mathlib.Core.List.{List}
 use lib.ListN.{length, getD, length-set}
+use Rattle.index.specs.IndexLaws.{indexed-size, indexed-order}
+use Rattle.links.specs.LinkIndexLaws.{Target, indexed-target}
 use Rattle.plan.specs.Stamps.{StampedTo}
 use Rattle.plan.specs.StampsLaws.{stamped-none, stamped-more, stamped-all}
-use Rattle.plan.specs.SearchLaws.{Target, graph-target}
 use Rattle.plan.proofs.answers.stamp_answers.Statement.{statement}
 use Rattle.plan.proofs.answers.stamp_answers.Tie as tie
 
+record Inv (plan starts targets stamps₀ : List ℕ) (i stamp : ℕ) (stamps : List ℕ) (t : ℕ) : Type 0 where
+  from : getD starts i 0 ≤ t
+  to : t ≤ getD starts (i + 1) 0
+  room : length stamps ≡ length stamps₀
+  stamped : StampedTo plan targets (getD starts i 0) t stamp stamps₀ stamps
+
 abbrev Inv-loop : tie.InvT-loop
-Inv-loop plan starts targets stamps₀ i stamp end t₀ stamps t = (t₀ ≤ t) × (t ≤ end) × (length stamps ≡ length stamps₀) × StampedTo plan targets t₀ t stamp stamps₀ stamps
+Inv-loop plan starts targets stamps₀ i stamp run t₀ stamps t = Inv plan starts targets stamps₀ i stamp stamps t
 
 abbrev μ-loop : tie.MeasureT-loop
-μ-loop plan starts targets stamps₀ i stamp end t₀ stamps t = end - t
+μ-loop plan starts targets stamps₀ i stamp run t₀ stamps t = run .end - t
 
-abbrev entry : tie.At-loop Inv-loop μ-loop → tie.Start Inv-loop μ-loop
-entry c = c .before .before .before .before .before .before .before
+abbrev start : tie.At-loop Inv-loop μ-loop → tie.Start Inv-loop μ-loop
+start c = c .before .before .before .before .before .before
 
-turn : (c : tie.In-loop Inv-loop μ-loop) → let e = entry (c .before) in Target (getD (e .args .plan .now) 0 0) (e .args .targets .now) (c .before .loop .t)
-turn c = let e = entry (c .before) in graph-target (e .pre .1) (e .args .i) (c .before .loop .t) (e .pre .0 .1) (c .before .loop .inv .0) (c .loop-test .taken)
+abbrev at : tie.Then1 Inv-loop μ-loop → tie.At-loop Inv-loop μ-loop
+at c = c .before .before
+
+within : (c : tie.Then1 Inv-loop μ-loop) → let e = start (at c) in at c .loop .t < getD (e .args .starts .now) (e .args .i + 1) 0
+within c = rw (at c .before .run-of .ensures) at (c .if1 .taken)
+
+turn : (c : tie.Then1 Inv-loop μ-loop) → let e = start (at c) in Target (getD (e .args .plan .now) 0 0) (e .args .targets .now) (at c .loop .t)
+turn c = let e = start (at c) in indexed-target (e .pre .1) (e .args .i) (at c .loop .t) (e .pre .0 .1) (at c .loop .inv .from) (within c)
 
 -- the vertex that a turn stamps
-below : (c : tie.After-vertex-of Inv-loop μ-loop) → c .vertex-of .result < length (c .before .before .before .loop .stamps)
+below : (c : tie.After-vertex-of Inv-loop μ-loop) → c .vertex-of .result < length (at (c .before .before) .loop .stamps)
 below c =
-    let e = entry (c .before .before .before) in
-    rw (c .before .before .before .loop .inv .2, c .vertex-of .ensures) (e .pre .0 .0 .vertices _ (turn (c .before .before) .below))
+    let t = c .before .before in
+    rw (at t .loop .inv .room, c .vertex-of .ensures) (start (at t) .pre .0 .0 .vertices _ (turn t .below))
 
-add-end : tie.Need-add-end Inv-loop μ-loop
-add-end c = search needs
-
-mul-end : tie.Need-mul-end Inv-loop μ-loop
-mul-end c = search needs
-
-shared-slice-read-end : tie.Need-shared-slice-read-end Inv-loop μ-loop
-shared-slice-read-end c = search needs
-
-cast-end : tie.Need-cast-end Inv-loop μ-loop
-cast-end c = omega (arith, c .shared-slice-known4 .given (c .before .before .before .before .before .args .i + 1))
-
-mul-t : tie.Need-mul-t Inv-loop μ-loop
-mul-t c = search needs
-
-shared-slice-read-t : tie.Need-shared-slice-read-t Inv-loop μ-loop
-shared-slice-read-t c = search needs
-
-cast-t : tie.Need-cast-t Inv-loop μ-loop
-cast-t c = omega (arith, c .shared-slice-known5 .given (c .before .before .before .before .before .before .args .i))
+run-of-requires : tie.Need-run-of-requires Inv-loop μ-loop
+run-of-requires c κs = let e = c .before .before .before .before in omega (arith, indexed-size (e .pre .1), e .pre .0 .1)
 
 loop-holds : tie.Need-loop-holds Inv-loop μ-loop
 loop-holds c =
-    let e = c .before .before .before .before .before .before in
-    (omega arith, e .pre .1 .order (e .args .i) (e .pre .0 .1), refl, stamped-none _ _ _ _ _)
+    let e = c .before .before .before .before .before in
+    rw (c .run-of .ensures) (record {
+      from = omega arith;
+      to = indexed-order (e .pre .1) (e .args .i) (e .pre .0 .1);
+      room = refl;
+      stamped = stamped-none _ _ _ _ _;
+    })
 
 mul-vertex-of : tie.Need-mul-vertex-of Inv-loop μ-loop
 mul-vertex-of c = omega (arith, turn c .inside)
@@ -61,10 +62,10 @@ shared-slice-read-vertex-of : tie.Need-shared-slice-read-vertex-of Inv-loop μ-l
 shared-slice-read-vertex-of c = turn (c .before) .inside
 
 cast-vertex-of : tie.Need-cast-vertex-of Inv-loop μ-loop
-cast-vertex-of c = omega (arith, turn (c .before) .below, entry (c .before .before) .pre .0 .0 .sized .positions)
+cast-vertex-of c = let t = c .before in omega (arith, turn t .below, start (at t) .pre .0 .0 .sized .positions)
 
 vertex-of-requires : tie.Need-vertex-of-requires Inv-loop μ-loop
-vertex-of-requires c κs = (entry (c .before .before) .pre .0 .0 .sized, turn (c .before) .below)
+vertex-of-requires c κs = let t = c .before in (start (at t) .pre .0 .0 .sized, turn t .below)
 
 mul-stamps : tie.Need-mul-stamps Inv-loop μ-loop
 mul-stamps c = omega (arith, below c)
@@ -80,20 +81,24 @@ loop-less c = search needs
 
 loop-again : tie.Need-loop-again Inv-loop μ-loop
 loop-again c =
-    let l = c .before .before .before .loop in (
-      omega (arith, l .inv .0),
-      omega (arith, c .before .before .loop-test .taken),
-      simp length-set (l .inv .2),
-      stamped-more _ _ _ _ _ _ _ (l .inv .0) (c .vertex-of .result) (c .vertex-of .ensures) (below c) (l .inv .3),
-    )
+    let t = c .before .before in
+    let i = at t .loop .inv in
+    record {
+      from = omega (arith, i .from);
+      to = omega (arith, within t);
+      room = simp length-set (i .room);
+      stamped = stamped-more _ _ _ _ _ _ _ (i .from) (c .vertex-of .result) (c .vertex-of .ensures) (below c) (i .stamped);
+    }
 
 same-length : tie.Need-same-length Inv-loop μ-loop
 same-length c = search needs
 
 returns : tie.Need-returns Inv-loop μ-loop
 returns c =
-    let l = c .before .loop in
-    stamped-all _ _ _ _ (l .t) _ _ _ (omega (arith, l .inv .1, c .loop-test .left)) (l .inv .3)
+    let a = c .before .before in
+    let e = start a .args in
+    let left : getD (e .starts .now) (e .i + 1) 0 ≤ a .loop .t = rw (a .before .run-of .ensures) at (c .if1 .left) in
+    stamped-all _ _ _ _ (a .loop .t) _ _ _ (omega (arith, a .loop .inv .to)) (a .loop .inv .stamped)
 
 pub stamp-answers-spec : {M : Type 1} → statement M
 stamp-answers-spec =
@@ -101,13 +106,7 @@ stamp-answers-spec =
     (tie.spec
     Inv-loop
     μ-loop
-    add-end
-    mul-end
-    shared-slice-read-end
-    cast-end
-    mul-t
-    shared-slice-read-t
-    cast-t
+    run-of-requires
     loop-holds
     mul-vertex-of
     shared-slice-read-vertex-of

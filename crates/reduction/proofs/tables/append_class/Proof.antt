@@ -1,10 +1,11 @@
--- A row has at most 256 targets, so it fits the array; as many sources are put beside them.
+-- A row has no more targets than there can be vertices, so it fits the array; as many sources are put beside them.
 use Prim.Native.Nat.{_≤_}
 use native.Mathlib.Omega.{arith}
+use Rattle.table.specs.Limits.{vertexLimit}
 use Rattle.table.specs.Table.{gameOf}
-use Rattle.reduction.specs.Rows.{gameBy}
-use Rattle.reduction.specs.PickedLaws.{length-picked}
-use Rattle.reduction.specs.NumberingLaws.{classes-few}
+use Rattle.class_edges.specs.Rows.{gameBy}
+use Rattle.class_edges.specs.PickedLaws.{length-picked}
+use Rattle.classes.specs.HoldingLaws.{classes-few}
 use Rattle.reduction.specs.EdgesLaws.{appended-row}
 use borrow.Author.Needs.{needs}
 use Rattle.reduction.proofs.tables.append_class.Statement.{statement}
@@ -13,7 +14,7 @@ use Rattle.reduction.proofs.tables.append_class.Tie as tie
 abbrev start : tie.After-row → tie.Start
 start c = c .before .before .before .before .before .before .before .before .before
 
-few : (s : tie.Start) → s .args .k ≤ 256
+few : (s : tie.Start) → s .args .k ≤ vertexLimit
 few s = omega (arith, s .pre .1 .0 .1, classes-few (s .args .game .now) (s .pre .0 .well))
 
 slice-aggregate-class-row : tie.Need-slice-aggregate-class-row

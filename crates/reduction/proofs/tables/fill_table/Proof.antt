@@ -1,75 +1,78 @@
--- The local arrays hold the representatives, the index and the edges of any well-formed game.
-use mathlib.Core.Path.{_≡_}
-use Prim.Native.Nat.{_≤_}
+-- The local arrays hold the representatives and the edges of any well-formed game.
+use mathlib.Core.Path.{_≡_, refl, _∙_}
+use mathlib.Core.List.{List}
+use Prim.Native.Nat.{ℕ, _≤_}
 use native.Mathlib.Omega.{arith}
-use Rattle.theory.specs.ListLaws.{zeros}
-use Rattle.table.specs.Table.{vertexCount, tableEdges, gameOf}
 use Rattle.theory.specs.Order.{order}
 use Rattle.theory.specs.QuotientLaws.{order-preorder}
 use Rattle.theory.specs.ClassLaws.{classCount-le}
-use Rattle.reduction.specs.Numbering.{Classed, classesIn, Represented}
-use Rattle.reduction.specs.NumberingLaws.{numbered-classed, numbered-represented, numbered-total}
-use Rattle.reduction.specs.EdgesLaws.{edges-few, table-done}
+use Rattle.table.specs.Table.{vertexCount, tableEdges, gameOf}
+use Rattle.classes.specs.Numbering.{Numbered, Classed, classesIn, Represented}
+use Rattle.classes.specs.NumberingLaws.{numbered-classed, numbered-represented, numbered-total}
+use Rattle.classes.specs.HoldingLaws.{ordered-preorder, ordered-words, ordered-numbered}
+use Rattle.reduction.specs.EdgesLaws.{edges-few, table-filled}
 use borrow.Author.Needs.{needs}
 use Rattle.reduction.proofs.tables.fill_table.Statement.{statement}
 use Rattle.reduction.proofs.tables.fill_table.Tie as tie
 
 abbrev start : tie.After-number-classes → tie.Start
-start c = c .before .before .before .before .before .before .before
+start c = c .before .before .before .before .before .before .before .before .before .before
 
-abbrev numbered : tie.After-build → tie.After-number-classes
-numbered c = c .before .before .before .before .before .before
+abbrev numbered-at : tie.After-list-edges → tie.After-number-classes
+numbered-at c = c .before .before .before .before .before .before .before .before
 
-abbrev built : tie.After-list-edges → tie.After-build
-built c = c .before .before .before .before .before .before .before .before .before
+-- the class words and the representatives that were written
+abbrev words-at : tie.After-number-classes → List ℕ
+words-at c = c .number-classes .last .1 .1 .0
 
--- the class words and the representatives
-classed : (c : tie.After-number-classes) → Classed (gameOf (start c .args .game .now)) (c .number-classes .last .1 .1 .0)
+abbrev reps-at : tie.After-number-classes → List ℕ
+reps-at c = c .number-classes .last .1 .1 .1 .0
+
+-- they are those of the order
+numbered : (c : tie.After-number-classes)
+    → let G = gameOf (start c .args .game .now) in Numbered (G .n) (order G) (G .n) (c .number-classes .result) (words-at c) (reps-at c)
+numbered c = ordered-numbered _ (start c .pre .0 .2) refl (c .number-classes .ensures .1)
+
+classed : (c : tie.After-number-classes) → let G = gameOf (start c .args .game .now) in Classed (G .n) (order G) (words-at c)
 unfolding gameOf
-classed c =
-    let s = start c in
-    numbered-classed _ _ _ _ (c .number-classes .ensures .1) (omega (arith, c .number-classes .kept .1 .1 .0, s .pre .1 .0))
+classed c = numbered-classed (numbered c) (omega (arith, c .number-classes .kept .1 .1 .0, start c .pre .1 .0))
 
-represented : (c : tie.After-number-classes) → Represented (gameOf (start c .args .game .now)) (c .number-classes .last .1 .1 .1 .0)
+represented : (c : tie.After-number-classes) → let G = gameOf (start c .args .game .now) in Represented (G .n) (order G) (reps-at c)
 unfolding gameOf
 represented c =
     let s = start c in
-    numbered-represented _ _ _ _ (c .number-classes .ensures .1) (omega (arith, c .number-classes .kept .1 .1 .1 .0, s .pre .0 .0 .vertices))
+    numbered-represented (numbered c) (order-preorder (gameOf (s .args .game .now))) (omega (arith, c .number-classes .kept .1 .1 .1 .0, s .pre .0 .0 .vertices))
 
 total : (c : tie.After-number-classes) → c .number-classes .result ≡ classesIn (gameOf (start c .args .game .now))
-unfolding gameOf
-total c = numbered-total _ _ _ _ (c .number-classes .ensures .1)
+total c = numbered-total (numbered c)
 
 -- no more classes than vertices, no more edges than the table has
 sizes : (c : tie.After-list-edges)
-    → let n = numbered (built c) in
+    → let n = numbered-at c in
     let g = start n .args .game .now in
     (n .number-classes .result ≤ vertexCount g) × (c .list-edges .result ≤ tableEdges g)
 unfolding gameOf
 sizes c =
-    let n = numbered (built c) in
+    let n = numbered-at c in
     let s = start n in
     let G = gameOf (s .args .game .now) in (
       omega (arith, total n, classCount-le (G .n) (order G) (order-preorder G)),
       omega (arith, c .list-edges .ensures .count, edges-few (s .args .game .now) (s .args .drop) (n .number-classes .result) (total n)),
     )
 
+shared-slice-read-n : tie.Need-shared-slice-read-n
+shared-slice-read-n c = search needs
+
+cast-n : tie.Need-cast-n
+cast-n c = search needs
+
 slice-aggregate-number-classes : tie.Need-slice-aggregate-number-classes
 slice-aggregate-number-classes c = search needs
 
 number-classes-requires : tie.Need-number-classes-requires
-number-classes-requires c κs = search needs
-
-slice-aggregate-build : tie.Need-slice-aggregate-build
-slice-aggregate-build c = search needs
-
-slice-aggregate-build-2 : tie.Need-slice-aggregate-build-2
-slice-aggregate-build-2 c = search needs
-
-build-requires : tie.Need-build-requires
-build-requires c κs =
-    let p = start (c .before .before .before .before .before) .pre .0 .0 in
-    (p, ((omega (arith, p .vertices), p .edges), zeros 257))
+number-classes-requires c κs =
+    let p = c .before .before .before .before .before .before .before .before .before .pre in
+    (ordered-preorder _ (p .0 .2) refl (p .0 .0), (p .1 .0, p .0 .0 .vertices))
 
 slice-aggregate-list-edges : tie.Need-slice-aggregate-list-edges
 slice-aggregate-list-edges c = search needs
@@ -80,18 +83,11 @@ slice-aggregate-list-edges-2 c = search needs
 slice-aggregate-list-edges-3 : tie.Need-slice-aggregate-list-edges-3
 slice-aggregate-list-edges-3 c = search needs
 
-slice-aggregate-list-edges-4 : tie.Need-slice-aggregate-list-edges-4
-slice-aggregate-list-edges-4 c = search needs
-
-slice-aggregate-list-edges-5 : tie.Need-slice-aggregate-list-edges-5
-slice-aggregate-list-edges-5 c = search needs
-
 list-edges-requires : tie.Need-list-edges-requires
 list-edges-requires c κs =
-    let b = c .before .before .before .before .before .before .before .before in
-    let n = numbered b in
+    let n = c .before .before .before .before .before .before .before in
     let p = start n .pre .0 in
-    (record { well = p .0; ordered = p .1; classed = classed n; represented = represented n; index = b .build .ensures }, (total n, (p .0 .edges, p .0 .edges)))
+    (record { well = p .0; ordered = p .2; classed = classed n; represented = represented n; index = p .1 }, (total n, (p .0 .edges, p .0 .edges)))
 
 slice-aggregate-write-table : tie.Need-slice-aggregate-write-table
 slice-aggregate-write-table c = search needs
@@ -105,7 +101,7 @@ slice-aggregate-write-table-3 c = search needs
 write-table-requires : tie.Need-write-table-requires
 write-table-requires c κs =
     let l = c .before .before .before .before .before .before in
-    let n = numbered (built l) in
+    let n = numbered-at l in
     let p = start n .pre in
     let z = sizes l in (
       (p .0 .0, represented n, total n),
@@ -127,25 +123,22 @@ returns : tie.Need-returns
 returns c =
     let w = c .before .before in
     let l = w .before .before .before .before .before .before .before in
-    let n = numbered (built l) in
+    let n = numbered-at l in
     let s = start n in
-    table-done (s .args .game .now) _ (s .args .drop) _ _ _ _ _ _ (s .pre .0 .0) (represented n) (total n) (l .list-edges .ensures) _ _ _ _
-    (n .number-classes .ensures .0) (w .write-table .ensures)
+    table-filled (s .args .game .now) _ (s .args .drop) _ _ _ _ _ _ (s .pre .0 .0) (represented n) (total n) (l .list-edges .ensures) _ _ _ _
+    (n .number-classes .ensures .0 ∙ rw (ordered-words (s .args .game .now) (s .pre .0 .2) refl)) (w .write-table .ensures)
 
 pub fill-table-spec : {M : Type 1} → statement M
 fill-table-spec =
     tie.close
     (tie.spec
+    shared-slice-read-n
+    cast-n
     slice-aggregate-number-classes
     number-classes-requires
-    slice-aggregate-build
-    slice-aggregate-build-2
-    build-requires
     slice-aggregate-list-edges
     slice-aggregate-list-edges-2
     slice-aggregate-list-edges-3
-    slice-aggregate-list-edges-4
-    slice-aggregate-list-edges-5
     list-edges-requires
     slice-aggregate-write-table
     slice-aggregate-write-table-2

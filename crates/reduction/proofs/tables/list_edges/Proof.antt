@@ -1,5 +1,5 @@
 -- Invariant: the edges of the classes before c are listed. They are at most the game's, so each row has room.
-use Rattle.reduction.specs.Rows.{picked, gameBy}
+use Rattle.class_edges.specs.Rows.{picked, gameBy}
 use mathlib.Core.Path.{_≡_}
 use Prim.Native.Nat.{_+_, _-_, _*_, _≤_}
 use native.Mathlib.Omega.{arith}
@@ -7,18 +7,18 @@ use lib.ListN.{length}
 use Rattle.theory.specs.Range.{pairsBelow, pairsOf}
 use Rattle.table.specs.Table.{gameOf, tableEdges}
 use Rattle.reduction.specs.Edges.{Appended}
-use Rattle.reduction.specs.PickedLaws.{pairs-row}
+use Rattle.class_edges.specs.PickedLaws.{pairs-row}
 use Rattle.reduction.specs.EdgesLaws.{appended-none, appended-join, rows-few}
 use borrow.Author.Needs.{needs}
 use Rattle.reduction.proofs.tables.list_edges.Statement.{statement}
 use Rattle.reduction.proofs.tables.list_edges.Tie as tie
 
 abbrev Inv-loop : tie.InvT-loop
-Inv-loop game marks classes reps offsets targets k drop sources₀ ends₀ e₀ c₀ sources ends e c =
+Inv-loop game marks classes reps starts targets k drop sources₀ ends₀ e₀ c₀ sources ends e c =
     (c ≤ k) × (length sources ≡ length sources₀) × (length ends ≡ length ends₀) × Appended (pairsBelow k (gameBy drop (gameOf game) .edge) (c * k)) 0 sources₀ sources ends₀ ends e
 
 abbrev μ-loop : tie.MeasureT-loop
-μ-loop game marks classes reps offsets targets k drop sources₀ ends₀ e₀ c₀ sources ends e c = k - c
+μ-loop game marks classes reps starts targets k drop sources₀ ends₀ e₀ c₀ sources ends e c = k - c
 
 abbrev start : tie.In-loop Inv-loop μ-loop → tie.Start Inv-loop μ-loop
 start c = c .before .before .before .before .before .before .before .before .before .before

@@ -4,9 +4,12 @@ use Prim.Native.Nat.{ℕ, _≤_, _<_}
 use native.Mathlib.Omega.{arith}
 use lib.ListN.{length, getD, length-set}
 use Rattle.theory.specs.ListLaws.{length-tabulate}
+use Rattle.theory.specs.QuotientLaws.{order-preorder}
+use Rattle.table.specs.Limits.{vertexLimit}
 use Rattle.table.specs.Table.{vertexCount, gameOf}
 use Rattle.reduction.specs.Edges.{tableBy}
-use Rattle.reduction.specs.NumberingLaws.{classes-few, represented-lt}
+use Rattle.classes.specs.NumberingLaws.{represented-lt}
+use Rattle.classes.specs.HoldingLaws.{classes-few}
 use Rattle.reduction.specs.EdgesLaws.{table-parts}
 use borrow.Author.Needs.{needs}
 use Rattle.reduction.proofs.tables.write_table.Statement.{statement}
@@ -15,13 +18,13 @@ use Rattle.reduction.proofs.tables.write_table.Tie as tie
 abbrev start : tie.After-shared-slice-known5 → tie.Start
 start c = c .before .before .before .before .before .before
 
-few : (s : tie.Start) → s .args .k ≤ 256
+few : (s : tie.Start) → s .args .k ≤ vertexLimit
 few s = omega (arith, s .pre .0 .2, classes-few (s .args .game .now) (s .pre .0 .0))
 
 -- a representative is a vertex
 vertex : (s : tie.Start) (i : ℕ) → i < s .args .k → getD (s .args .reps .now) i 0 < vertexCount (s .args .game .now)
 unfolding gameOf
-vertex s i h = represented-lt (gameOf (s .args .game .now)) (s .args .reps .now) (s .pre .0 .1) i (omega (arith, s .pre .0 .2)) .1
+vertex s i h = represented-lt (order-preorder (gameOf (s .args .game .now))) (s .pre .0 .1) i (omega (arith, s .pre .0 .2)) .1
 
 -- the output keeps its length
 kept1 : (c : tie.After-gather) → length (c .gather .last .0) ≡ length (start (c .before .before) .args .output .now)

@@ -1,6 +1,6 @@
 -- The reader refuses, or both calls accept, since their memory is enough.
 use native.Mathlib.Omega.{arith}
-use Rattle.report.specs.PartsLaws.{reported-refused, reported-accepted}
+use Rattle.report.specs.FindingsLaws.{reported-refused, reported-accepted}
 use borrow.Author.Needs.{needs}
 use Rattle.report.proofs.findings.find.Statement.{statement}
 use Rattle.report.proofs.findings.find.Tie as tie

@@ -3,7 +3,7 @@ use mathlib.Core.Path.{sym}
 use Prim.Native.Nat.{_≤_}
 use lib.ListN.{length}
 use lib.Seq.{length-take-le}
-use Rattle.report.specs.PartsLaws.{reported-same}
+use Rattle.report.specs.FindingsLaws.{reported-same}
 use Rattle.report.specs.WordsLaws.{decoded-inside, decoded-words}
 use borrow.Author.Needs.{needs}
 use Rattle.report.proofs.findings.find_from_bytes.Statement.{statement}

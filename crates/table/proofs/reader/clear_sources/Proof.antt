@@ -5,8 +5,8 @@ use native.Mathlib.Omega.{arith}
 use lib.ListN.{length, length-set}
 use borrow.Author.Needs.{needs}
 use Rattle.table.specs.Table.{sourceAt, tableEdges}
-use Rattle.table.specs.Parts.{Flagged}
-use Rattle.table.specs.PartsLaws.{flagged-none, flagged-more, source-word, source-lt, lacking-flags}
+use Rattle.table.specs.Flags.{Flagged}
+use Rattle.table.specs.FlagsLaws.{flagged-none, flagged-more, source-word, source-lt, lacking-flags}
 use Rattle.table.proofs.reader.clear_sources.Statement.{statement}
 use Rattle.table.proofs.reader.clear_sources.Tie as tie
 

@@ -6,7 +6,7 @@ use borrow.Author.Needs.{needs}
 use borrow.Author.Tests.{le-leb, lt-leb}
 use Rattle.theory.specs.Range.{first}
 use Rattle.theory.specs.RangeLaws.{first-step, first-hit, first-end}
-use Rattle.table.specs.Parts.{atLeast}
+use Rattle.table.specs.Flags.{atLeast}
 use Rattle.table.proofs.reader.first_at_least.Statement.{statement}
 use Rattle.table.proofs.reader.first_at_least.Tie as tie
 

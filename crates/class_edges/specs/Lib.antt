@@ -1,0 +1,5 @@
+pub mod LittleBrothers
+pub mod Rows
+pub mod RowsLaws
+pub mod PickedLaws
+pub mod LittleBrothersLaws

@@ -1,0 +1,85 @@
+-- Laws of the classes call: its promise at each way out. What its rows say is said for any counts, since the calls that write a table have
+-- these rows first.
+use mathlib.Core.Path.{_≡_, sym, _∙_}
+use mathlib.Core.List.{List, [], _∷_, append-nil}
+use Prim.Native.Nat.{ℕ}
+use lib.ListN.{length}
+use Rattle.theory.specs.Range.{tabulate}
+use Rattle.theory.specs.Reduction.{classCount, classNumber}
+use Rattle.table.specs.Table.{vertexCount}
+use Rattle.table.specs.Verdict.{Row, accepted, refused, judge, written}
+use Rattle.table.specs.VerdictLaws.{judge-clean, judge-accepted, judge-past, judge-stays, after-clean, after-refused, clean-append}
+use Rattle.table.specs.Reading.{gameRows, readAnswer, readingAnswer}
+use Rattle.table.specs.ReadingLaws.{reading-stays, well-clean}
+use Rattle.table.specs.WellFormed.{WellFormed}
+use Rattle.table.specs.declared.Refusal.{Refusal}
+use Rattle.table.specs.declared.Reading.the-variants.{Refused}
+use Rattle.pairs.specs.Marks.{relation}
+use Rattle.order.specs.Clearing.{OrderDone}
+use Rattle.order.specs.OrderCall.{orderBytes}
+use Rattle.classes.specs.ClassesCall.{memoryRows, memoryAnswer, classRows, classWords, classesAnswer, ClassesCall}
+use Rattle.classes.specs.HoldingLaws.{ordered-done, ordered-total, ordered-words}
+use Rattle.classes.specs.ClassesRules.{ClassesFit}
+use Rattle.classes.specs.ClassesRulesLaws.{classes-clean, clean-classes}
+use Rattle.classes.specs.declared.Memory.the-variants.{Enough, Short}
+
+module _ (game marks spare classes : List ℕ) where
+  abbrev rows : List Row
+  rows = classRows game marks spare classes
+
+  -- the rows of the memory behind those of the game
+  abbrev memory : List Row
+  memory = memoryRows (vertexCount game) (length marks) (length spare) (length classes)
+
+  pub memory-fits : WellFormed game → memoryAnswer Enough ≡ judge memory [] → ClassesFit game marks spare classes
+  unfolding classRows
+  memory-fits well e =
+      clean-classes game marks spare classes (clean-append (gameRows game) memory (well-clean game well) (judge-accepted memory [] [] (sym e) .0))
+
+  -- ---- what the rows say, whatever counts an acceptance has
+
+  module _ (counts : List ℕ) where
+    pub rows-handed : (f : Refusal) → readingAnswer (Refused f) ≡ readAnswer game → judge rows counts ≡ refused (f .number) (f .place)
+    unfolding classRows
+    rows-handed f e = reading-stays game f e memory counts
+
+    pub rows-short : WellFormed game → (f : Refusal) → memoryAnswer (Short f) ≡ judge memory [] → judge rows counts ≡ refused (f .number) (f .place)
+    unfolding classRows
+    rows-short well f e = judge-past (gameRows game) memory counts (well-clean game well) ∙ (rw (append-nil memory) at (judge-stays memory [] [] counts _ _ (sym e)))
+
+  -- ---- the call
+
+  classes-old : (k p : ℕ) → classesAnswer game marks spare classes ≡ refused k p → ClassesCall game marks spare classes (refused k p) marks spare classes
+  unfolding classesAnswer
+  classes-old k p e = record {
+    verdict = sym e;
+    marks-after = sym (after-refused rows _ (orderBytes game) marks e);
+    spare-after = sym (after-refused rows _ (orderBytes game) spare e);
+    classes-after = sym (after-refused rows _ (classWords game) classes e);
+  }
+
+  -- the reader's refusal is the call's
+  pub classes-handed : (f : Refusal) → readingAnswer (Refused f) ≡ readAnswer game
+      → ClassesCall game marks spare classes (refused (f .number) (f .place)) marks spare classes
+  unfolding classesAnswer
+  classes-handed f e = classes-old (f .number) (f .place) (rows-handed _ f e)
+
+  pub classes-short : WellFormed game → (f : Refusal) → memoryAnswer (Short f) ≡ judge memory []
+      → ClassesCall game marks spare classes (refused (f .number) (f .place)) marks spare classes
+  unfolding classesAnswer
+  classes-short well f e = classes-old (f .number) (f .place) (rows-short _ well f e)
+
+  -- the order is written, and then the classes of its marks
+  pub classes-done : ClassesFit game marks spare classes → (n passes k : ℕ) (marks′ spare′ classes′ : List ℕ) → n ≡ vertexCount game
+      → OrderDone game marks spare passes marks′ spare′ → k ≡ classCount n (relation n marks′)
+      → classes′ ≡ written (tabulate n (classNumber n (relation n marks′))) classes
+      → ClassesCall game marks spare classes (accepted (k ∷ [])) marks′ spare′ classes′
+  unfolding classesAnswer
+  classes-done f n passes k marks′ spare′ classes′ e o t w =
+      let clean = classes-clean game marks spare classes f in
+      let ordered = ordered-done (f .orderFits .marksFit) o in record {
+        verdict = rw (t ∙ ordered-total game ordered e) (sym (judge-clean rows _ clean));
+        marks-after = o .marks-after ∙ sym (after-clean rows (orderBytes game) marks clean);
+        spare-after = o .spare-after ∙ sym (after-clean rows (orderBytes game) spare clean);
+        classes-after = w ∙ rw (ordered-words game ordered e) (sym (after-clean rows (classWords game) classes clean));
+      }

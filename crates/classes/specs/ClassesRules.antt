@@ -1,0 +1,20 @@
+-- The classes call's table of refusals in terms of logic, and what an accepted call was lent.
+use mathlib.Core.List.{List, [], _∷_, _++_}
+use Prim.Native.Nat.{ℕ, _≤_}
+use lib.ListN.{length}
+use Rattle.table.specs.Table.{vertexCount}
+use Rattle.table.specs.Rules.{Rule, memoryRule}
+use Rattle.table.specs.ReadingRules.{gameRules}
+use Rattle.pairs.specs.Marks.{marksLength}
+use Rattle.order.specs.OrderRules.{OrderFits}
+
+-- 1 to 8, then 21 to 23
+abbrev pub classRules : List ℕ → List ℕ → List ℕ → List ℕ → List Rule
+classRules game marks spare classes =
+    let needed = marksLength (vertexCount game) in
+    gameRules game ++ (memoryRule 21 needed marks ∷ memoryRule 22 needed spare ∷ memoryRule 23 (vertexCount game) classes ∷ [])
+
+-- the game is well formed, and marks, spare and class words are long enough
+pub record ClassesFit (game marks spare classes : List ℕ) : Type 0 where
+  pub orderFits : OrderFits game marks spare
+  pub wordsFit : vertexCount game ≤ length classes

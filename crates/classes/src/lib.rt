@@ -1,0 +1,75 @@
+// The classes of a game table.
+pub mod numbering;
+
+use pairs::marks::length_for;
+use table::Reading;
+use table::Refusal;
+use table::refusal_of;
+ghost use mathlib.Core.Path.{_≡_};
+ghost use mathlib.Core.List.{[]};
+ghost use Prim.Native.Nat.{_≤_};
+ghost use Rattle.table.specs.Limits.{vertexLimit};
+ghost use Rattle.table.specs.Verdict.{judge};
+ghost use Rattle.classes.specs.ClassesCall.{memoryRows, memoryAnswer, classificationAnswer, ClassesCall};
+
+pub struct ClassCount {
+    pub classes: usize,
+}
+
+pub enum Classification {
+    Accepted(ClassCount),
+    Refused(Refusal),
+}
+
+// Whether the lent memory is long enough.
+pub enum Memory {
+    Enough,
+    Short(Refusal),
+}
+
+fn short(number: u32, place: usize) -> Memory
+    ensures { λ r. ⌜ r ≡ Memory.Short (record { number = number; place = place }) ⌝ }
+{
+    Memory::Short(Refusal { number, place })
+}
+
+// Judges the lengths of marks, spare and class words: 21 to 23. A part of the calls that write classes; no host calls it.
+pub fn judge_memory(n: usize, marks: usize, spare: usize, classes: usize) -> Memory
+    requires { ⌜ n ≤ vertexLimit ⌝ }
+    ensures { λ r. ⌜ memoryAnswer r ≡ judge (memoryRows n marks spare classes) [] ⌝ }
+{
+    let needed = length_for(n);
+    if marks < needed {
+        return short(21, needed);
+    }
+    if spare < needed {
+        return short(22, needed);
+    }
+    if classes < n {
+        return short(23, n);
+    }
+    Memory::Enough
+}
+
+// Judges the game and the memory, and writes the order into marks and spare, and the class of each vertex.
+pub fn write_classes(
+    game: &[u16],
+    marks: &mut [u8],
+    spare: &mut [u8],
+    classes: &mut [u16],
+) -> Classification
+    ensures { λ r. ⌜ ClassesCall (now (game .entry)) (now (marks .entry)) (now (spare .entry)) (now (classes .entry)) (classificationAnswer r) (now (marks .exit)) (now (spare .exit)) (now (classes .exit)) ⌝ }
+{
+    let reading = table::read(game);
+    let Reading::Accepted(sizes) = reading else {
+        return Classification::Refused(refusal_of(reading));
+    };
+    let n = sizes.vertices;
+    let memory = judge_memory(n, marks.len(), spare.len(), classes.len());
+    if let Memory::Short(refusal) = memory {
+        return Classification::Refused(refusal);
+    }
+    order::fill_order(game, marks, spare);
+    let k = numbering::fill_classes(marks, n, classes);
+    Classification::Accepted(ClassCount { classes: k })
+}

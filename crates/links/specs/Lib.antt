@@ -1,0 +1,9 @@
+pub mod PlanTable
+pub mod PlanTableLaws
+pub mod Refusals
+pub mod PlanFormed
+pub mod PlanFormedLaws
+pub mod Edges
+pub mod EdgesLaws
+pub mod LinkIndex
+pub mod LinkIndexLaws

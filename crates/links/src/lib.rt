@@ -1,0 +1,147 @@
+// The words of a plan: refusals 12 to 14, and an index of its links. Parts of the plan acceptor; no host calls these.
+use table::flags::flag_edges;
+use table::limits::LINKS;
+use table::limits::PAIRS;
+use table::limits::POSITIONS;
+ghost use mathlib.Core.Path.{_≡_};
+ghost use mathlib.Core.Bool.{cond};
+ghost use Prim.Native.Nat.{ℕ, _+_, _≤_, _<_};
+ghost use lib.Dec.{ltb};
+ghost use lib.ListN.{length, getD};
+ghost use Rattle.theory.specs.Range.{first};
+ghost use Rattle.table.specs.Limits.{vertexLimit, positionLimit, pairLimit};
+ghost use Rattle.table.specs.Table.{vertexCount};
+ghost use Rattle.table.specs.WellFormed.{WellFormed};
+ghost use Rattle.links.specs.PlanTable.{positionCount, linkCount, vertexAt, linkSource, linkTarget};
+ghost use Rattle.links.specs.Refusals.{badSize, firstBeyond, firstStray};
+ghost use Rattle.links.specs.PlanFormed.{PlanSized, PlanFormed};
+ghost use Rattle.links.specs.Edges.{straysBy};
+ghost use Rattle.links.specs.LinkIndex.{LinkIndex};
+
+// 12: under 2 words, p or l out of limits, or length not 2 + p + 2l.
+pub fn bad_size(plan: &[u16]) -> bool
+    ensures { λ r. ⌜ r ≡ badSize (now (plan .entry)) ⌝ }
+{
+    let len = plan.len();
+    if len < 2 {
+        return true;
+    }
+    let p = plan[0] as usize;
+    let l = plan[1] as usize;
+    if p == 0 {
+        return true;
+    }
+    if POSITIONS < p {
+        return true;
+    }
+    if LINKS < l {
+        return true;
+    }
+    len != 2 + p + 2 * l
+}
+
+// The limit of word k: n for the vertex of a position, p for a link end.
+fn limit(k: usize, p: usize, n: usize) -> usize
+    requires { ⌜ p ≤ positionLimit ⌝ }
+    ensures { λ r. ⌜ r ≡ cond (ltb k (2 + p)) n p ⌝ }
+{
+    if k < 2 + p { n } else { p }
+}
+
+// 13: the first word that isn't below its limit; the plan's length where there is none.
+pub fn first_beyond(plan: &[u16], n: usize) -> usize
+    requires { ⌜ PlanSized (now plan) ⌝ }
+    ensures { λ r. ⌜ r ≡ firstBeyond n (now (plan .entry)) ⌝ }
+{
+    let p = plan[0] as usize;
+    let mut k = 2;
+    while k < plan.len() {
+        if limit(k, p, n) <= plan[k] as usize {
+            return k;
+        }
+        k += 1;
+    }
+    k
+}
+
+// The cast of a word, in a function of its own: that it keeps the value is shown here once, for the three reads below.
+fn wide(word: u16) -> usize
+    ensures { λ r. ⌜ r ≡ word ⌝ }
+{
+    word as usize
+}
+
+// The vertex of position i.
+pub fn vertex_of(plan: &[u16], i: usize) -> usize
+    requires { ⌜ PlanSized (now plan) × (i < positionCount (now plan)) ⌝ }
+    ensures { λ r. ⌜ r ≡ vertexAt (now (plan .entry)) i ⌝ }
+{
+    wide(plan[2 + i])
+}
+
+fn source_of(plan: &[u16], k: usize) -> usize
+    requires { ⌜ PlanSized (now plan) × (k < linkCount (now plan)) ⌝ }
+    ensures { λ r. ⌜ r ≡ linkSource (now (plan .entry)) k ⌝ }
+{
+    let p = plan[0] as usize;
+    wide(plan[2 + p + k])
+}
+
+fn target_of(plan: &[u16], k: usize) -> usize
+    requires { ⌜ PlanSized (now plan) × (k < linkCount (now plan)) ⌝ }
+    ensures { λ r. ⌜ r ≡ linkTarget (now (plan .entry)) k ⌝ }
+{
+    let p = plan[0] as usize;
+    let l = plan[1] as usize;
+    wide(plan[2 + p + l + k])
+}
+
+// Whether link k follows no edge: one look at the matrix of edges.
+fn strays(edges: &[u8], plan: &[u16], n: usize, k: usize) -> bool
+    requires { ⌜ PlanFormed n (now plan) × (n ≤ vertexLimit) × (k < linkCount (now plan)) × (pairLimit ≤ length (now edges)) ⌝ }
+    ensures { λ r. ⌜ r ≡ straysBy (now (edges .entry)) n (now (plan .entry)) k ⌝ }
+{
+    let v = vertex_of(plan, source_of(plan, k));
+    let x = vertex_of(plan, target_of(plan, k));
+    edges[v * n + x] == 0
+}
+
+fn first_straying(edges: &[u8], plan: &[u16], n: usize) -> usize
+    requires { ⌜ PlanFormed n (now plan) × (n ≤ vertexLimit) × (pairLimit ≤ length (now edges)) ⌝ }
+    ensures { λ r. ⌜ r ≡ first (straysBy (now (edges .entry)) n (now (plan .entry))) 0 (linkCount (now (plan .entry))) ⌝ }
+{
+    let l = plan[1] as usize;
+    let mut k = 0;
+    while k < l {
+        if strays(edges, plan, n, k) {
+            return k;
+        }
+        k += 1;
+    }
+    k
+}
+
+// 14: the first link along no edge; the number of links where there is none.
+pub fn first_stray(game: &[u16], plan: &[u16]) -> usize
+    requires { ⌜ WellFormed (now game) × PlanFormed (vertexCount (now game)) (now plan) ⌝ }
+    ensures { λ r. ⌜ r ≡ firstStray (now (game .entry)) (now (plan .entry)) ⌝ }
+{
+    let n = game[0] as usize;
+    let m = game[1] as usize;
+    let mut edges = [0u8; PAIRS];
+    flag_edges(game, n, m, &mut edges);
+    first_straying(&edges, plan, n)
+}
+
+// The index of a plan's links, written over zeros.
+pub fn index_links(plan: &[u16], starts: &mut [u16], targets: &mut [u16])
+    requires { ⌜ ((n : ℕ) × PlanFormed n (now plan)) ⌝ }
+    requires { ⌜ (positionCount (now plan) < length (now starts)) × (linkCount (now plan) ≤ length (now targets)) ⌝ }
+    requires { ⌜ ((i : ℕ) → getD (now starts) i 0 ≡ 0) ⌝ }
+    ensures { λ r. ⌜ LinkIndex (now (plan .entry)) (now (starts .exit)) (now (targets .exit)) ⌝ }
+{
+    let p = plan[0] as usize;
+    let l = plan[1] as usize;
+    let sources = 2 + p;
+    index::build(plan, sources, sources + l, l, p, starts, targets);
+}

@@ -1,0 +1,5 @@
+pub mod Marks
+pub mod MarksLaws
+pub mod Search
+pub mod PairLaws
+pub mod Ready

@@ -1,0 +1,35 @@
+-- The relation acceptor's table of refusals in terms of logic, and what it passes.
+use mathlib.Core.List.{List, [], _∷_, _++_}
+use Prim.Native.Nat.{ℕ, _*_, _/_, _%_, _≤_, _<_}
+use lib.ListN.{length, getD}
+use Rattle.theory.specs.Game.{even}
+use Rattle.theory.specs.Simulation.{PassesTest, DirectSimulation}
+use Rattle.table.specs.Table.{vertexCount, pairCount, gameOf}
+use Rattle.table.specs.Rules.{Rule, memoryRule, firstSuch}
+use Rattle.table.specs.ReadingRules.{gameRules}
+use Rattle.table.specs.WellFormed.{WellFormed}
+use Rattle.pairs.specs.Marks.{marksLength, Marked}
+
+-- it is marked, and has unequal priorities or fails the test
+pub record Fails (g marks : List ℕ) (v w : ℕ) : Type 0 where
+  pub marked : Marked (vertexCount g) marks v w
+  pub failing : ¬ PassesTest even (gameOf g) (gameOf g) (Marked (vertexCount g) marks) v w
+
+-- 1 to 8, 21, 9, 10; pair (v, w) is number v × n + w
+abbrev pub relationRules : List ℕ → List ℕ → List Rule
+relationRules g marks =
+    let n = vertexCount g in
+    gameRules g
+    ++ (
+    memoryRule 21 (marksLength n) marks
+    ∷ firstSuch 9 (λ i. 1 < getD marks i 0) 0 (n * n) (λ i. i)
+    ∷ firstSuch 10 (λ i. Fails g marks (i / n) (i % n)) 0 (n * n) (λ i. i)
+    ∷ []
+    )
+
+-- a well-formed table, with marks of 0 and 1 that form a direct simulation
+pub record RelationPasses (g marks : List ℕ) : Type 0 where
+  pub game : WellFormed g
+  pub fits : marksLength (vertexCount g) ≤ length marks
+  pub low : (i : ℕ) → i < pairCount g → getD marks i 0 ≤ 1
+  pub simulation : DirectSimulation (gameOf g) (gameOf g) (Marked (vertexCount g) marks)

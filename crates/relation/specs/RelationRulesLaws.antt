@@ -1,0 +1,175 @@
+-- Laws of the relation acceptor: it refuses k at p exactly as document 01's table says, passes exactly the direct simulations, and all
+-- that it passes lies in the written order.
+use mathlib.Core.Path.{_≡_, refl, sym, subst, subst₂}
+use mathlib.Core.Logic.{_↔_, inl, inr}
+use mathlib.Core.Bool.{Bool, false, So}
+use mathlib.Core.List.{List, []}
+use Prim.Native.Nat.{ℕ, _+_, _*_, _/_, _%_, _≤_, _<_}
+use native.Mathlib.Omega.{arith}
+use native.Mathlib.Nat.{div-add-mod'}
+use lib.Arith.{digits-lt, digits-div, digits-mod}
+use lib.Dec.{ltb}
+use lib.ListN.{length, getD}
+use borrow.Author.Tests.{eqb-true, eq-eqb, ltb-true, ltb-false, lt-ltb, le-ltb}
+use Rattle.theory.specs.Bools.{_&_}
+use Rattle.theory.specs.BoolsLaws.{clash, decide, So-not, and-in, and-out, not-in, not-out, bit-le}
+use Rattle.theory.specs.RangeLaws.{none-found, found-none}
+use Rattle.theory.specs.CountLaws.{row-lt, col-lt}
+use Rattle.theory.specs.Passes.{relOf}
+use Rattle.theory.specs.Game.{even}
+use Rattle.theory.specs.Simulation.{PassesTest, Below}
+use Rattle.theory.specs.SimulationLaws.{moves-mono}
+use Rattle.theory.specs.Order.{equalPriority, test, order}
+use Rattle.theory.specs.OrderLaws.{passes-in, passes-out}
+use Rattle.table.specs.Table.{vertexCount, pairCount, gameOf}
+use Rattle.table.specs.TableLaws.{game-n}
+use Rattle.table.specs.Verdict.{accepted, refused}
+use Rattle.table.specs.VerdictLaws.{judge-clean, judge-accepted, clean-append, clean-split}
+use Rattle.table.specs.Reading.{gameRows}
+use Rattle.table.specs.ReadingLaws.{rows-render, well-clean, clean-well}
+use Rattle.table.specs.Rules.{FirstRule, Rendered, none, next}
+use Rattle.table.specs.RulesLaws.{memory-renders, renders-first, refused-by, rendered-append}
+use Rattle.table.specs.WellFormed.{WellFormed}
+use Rattle.pairs.specs.Marks.{marksLength, relation, Marked, firstHigh}
+use Rattle.pairs.specs.MarksLaws.{marked-in, marked-out}
+use Rattle.order.specs.OrderCall.{OrderCall}
+use Rattle.order.specs.OrderRulesLaws.{order-accepted, length-marks, written-marks, marked-below, below-marked}
+use Rattle.relation.specs.RelationCall.{fails, firstFailing, relationRows, relationAnswer}
+use Rattle.relation.specs.RelationRules.{Fails, relationRules, RelationPasses}
+
+-- ---- the test as a Bool and as a type
+
+module _ (g marks : List ℕ) where
+  -- the computed test of a pair is the test
+  abbrev pub passesTest : ℕ → ℕ → Bool
+  passesTest v w = equalPriority (gameOf g) (gameOf g) v w & test even (gameOf g) (gameOf g) (relation (vertexCount g) marks) v w
+
+  test-out : (v w : ℕ) → So (passesTest v w) → PassesTest even (gameOf g) (gameOf g) (Marked (vertexCount g) marks) v w
+  test-out v w t =
+      let a = and-out t in
+      let p = passes-out even (gameOf g) (gameOf g) (relation (vertexCount g) marks) v w (a .0) (a .1) in
+      record { equal = p .equal; moves = moves-mono _ _ _ _ _ _ (λ x y s u. marked-out (vertexCount g) marks x y) (p .moves) }
+
+  test-in : (v w : ℕ) → PassesTest even (gameOf g) (gameOf g) (Marked (vertexCount g) marks) v w → So (passesTest v w)
+  test-in v w p =
+      let q =
+      passes-in even (gameOf g) (gameOf g) (relation (vertexCount g) marks) v w
+      (record { equal = p .equal; moves = moves-mono _ _ _ _ _ _ (λ x y s u. marked-in (vertexCount g) marks x y) (p .moves) }) in
+      and-in (q .0) (q .1)
+
+  fails-is : (v w : ℕ) → So (fails g marks v w) ↔ Fails g marks v w
+  unfolding fails
+  fails-is v w = (
+    λ t. let a = and-out t in record { marked = marked-out (vertexCount g) marks v w (a .0); failing = λ p. clash (test-in v w p) (not-out (a .1)) },
+    λ f. and-in (marked-in (vertexCount g) marks v w (f .marked)) (not-in (So-not (λ t. f .failing (test-out v w t)))),
+  )
+
+-- ---- refused exactly by the table
+
+relation-rows-render : (g marks : List ℕ) → Rendered (relationRows g marks) (relationRules g marks)
+unfolding relationRows firstHigh firstFailing
+relation-rows-render g marks =
+    let n = vertexCount g in
+    rendered-append (rows-render g)
+    (next (memory-renders 21 _ marks)
+    (next
+    (renders-first 9 (λ i. ltb 1 (getD marks i 0)) (λ i. 1 < getD marks i 0) 0 (n * n) (λ i. i) (omega arith)
+    (λ i. (ltb-true 1 (getD marks i 0), lt-ltb 1 (getD marks i 0))))
+    (next
+    (renders-first 10 (λ i. fails g marks (i / n) (i % n)) (λ i. Fails g marks (i / n) (i % n)) 0 (n * n) (λ i. i) (omega arith)
+    (λ i. fails-is g marks (i / n) (i % n)))
+    none)))
+
+pub relation-refused : (g marks : List ℕ) (k p : ℕ) → (relationAnswer g marks ≡ refused k p) ↔ FirstRule (relationRules g marks) k p
+unfolding relationAnswer
+relation-refused g marks = refused-by _ (relation-rows-render g marks) refl
+
+-- ---- accepted exactly if the marked pairs form a direct simulation
+
+module _ (g marks : List ℕ) where
+  pub relation-accepted : relationAnswer g marks ≡ accepted [] → RelationPasses g marks
+  unfolding relationAnswer relationRows firstHigh firstFailing
+  relation-accepted e =
+      let n = vertexCount g in
+      let c = clean-split (gameRows g) _ (judge-accepted _ [] [] e .0) in
+      record {
+        game = clean-well g (c .0);
+        fits = ltb-false (length marks) (n * n) (c .1 .0);
+        low = λ i h. ltb-false 1 (getD marks i 0) (none-found _ (n * n) (c .1 .1 .0) i h);
+        simulation = λ v w hv hw m.
+            let hv′ = rw (game-n g) at hv in
+            let hw′ = rw (game-n g) at hw in
+            let f : fails g marks v w ≡ false =
+            subst₂ (λ (x y : ℕ). fails g marks x y ≡ false) (digits-div v hw′) (digits-mod v hw′)
+            (none-found _ (n * n) (c .1 .1 .1 .0) (v * n + w) (digits-lt hv′ hw′)) in
+            elim (decide (passesTest g marks v w)) [
+              | inl t ↦ test-out g marks v w t
+              | inr t ↦ clash (fails-is g marks v w .1 (record { marked = m; failing = λ p. clash (test-in g marks v w p) t })) f
+            ];
+      }
+
+  pub relation-accepts : RelationPasses g marks → relationAnswer g marks ≡ accepted []
+  unfolding relationAnswer relationRows firstHigh firstFailing
+  relation-accepts r =
+      let n = vertexCount g in
+      judge-clean _ []
+      (clean-append (gameRows g) _ (well-clean g (r .game)) (
+        le-ltb (length marks) (n * n) (r .fits),
+        (
+          found-none _ (n * n) (λ i h. le-ltb 1 (getD marks i 0) (r .low i h)),
+          (
+            found-none _ (n * n)
+                (λ i h. So-not (λ t.
+                let f = fails-is g marks (i / n) (i % n) .0 t in
+                f .failing (r .simulation (i / n) (i % n) (rw (game-n g) (row-lt n n i h)) (rw (game-n g) (col-lt n n i h)) (f .marked)))),
+            tt,
+          ),
+        ),
+      ))
+
+  -- ---- all that is passed lies in the written order
+
+  pub passed-below : relationAnswer g marks ≡ accepted [] → (v w : ℕ) → Marked (vertexCount g) marks v w → Below even (gameOf g) (gameOf g) v w
+  passed-below e v w m = record { relation = Marked (vertexCount g) marks; simulation = relation-accepted e .simulation; holds = m }
+
+  pub passed-written : relationAnswer g marks ≡ accepted [] → (marks₀ spare counts marks′ spare′ : List ℕ) → OrderCall g marks₀ spare (accepted counts) marks′ spare′
+      → (v w : ℕ) → v < vertexCount g → w < vertexCount g → Marked (vertexCount g) marks v w → Marked (vertexCount g) marks′ v w
+  passed-written e marks₀ spare counts marks′ spare′ call v w hv hw m = below-marked g marks₀ spare counts marks′ spare′ call v w hv hw (passed-below e v w m)
+
+  -- ---- the empty relation passes
+
+  pub empty-passes : WellFormed g → marksLength (vertexCount g) ≤ length marks → ((i : ℕ) → i < pairCount g → getD marks i 0 ≡ 0)
+      → relationAnswer g marks ≡ accepted []
+  empty-passes well fit zero = relation-accepts (record {
+    game = well;
+    fits = fit;
+    low = λ i h. omega (arith, zero i h);
+    simulation = λ v w hv hw m. absurd (omega (arith, m, zero (v * vertexCount g + w) (digits-lt (rw (game-n g) at hv) (rw (game-n g) at hw))));
+  })
+
+-- ---- the written order passes
+
+module _ (g marks spare counts marks′ spare′ : List ℕ) (call : OrderCall g marks spare (accepted counts) marks′ spare′) where
+  pub written-passes : relationAnswer g marks′ ≡ accepted []
+  written-passes =
+      let n = vertexCount g in
+      let f = order-accepted g marks spare counts (sym (call .verdict)) .0 in
+      relation-accepts g marks′ (record {
+        game = f .game;
+        fits = omega (arith, f .marksFit, length-marks g marks spare counts marks′ spare′ call);
+        low = λ i h.
+            subst (λ (k : ℕ). getD marks′ k 0 ≤ 1) (div-add-mod' i n)
+            (rw (written-marks g marks spare counts marks′ spare′ call (i / n) (i % n) (row-lt n n i h) (col-lt n n i h)) (bit-le _));
+        simulation = λ v w hv hw m.
+            let b = marked-below g marks spare counts marks′ spare′ call v w (rw (game-n g) at hv) (rw (game-n g) at hw) m in
+            let q = b .simulation v w hv hw (b .holds) in
+            record {
+              equal = q .equal;
+              moves =
+                  moves-mono _ _ _ _ _ _
+                  (λ x y s t r.
+                  below-marked g marks spare counts marks′ spare′ call x y (rw (game-n g) at (s .inside)) (rw (game-n g) at (t .inside))
+                  (record { relation = b .relation; simulation = b .simulation; holds = r }))
+                  (q .moves);
+            };
+      })

@@ -1,0 +1,80 @@
+// The search for the first pair in row order that fails. A part of the acceptor; no host calls it.
+use index::of_edges;
+use pairs::marks::is_marked;
+use pairs::test::pair_passes;
+use pairs::test::same_priority;
+use table::limits::EDGES;
+use table::limits::VERTEX_STARTS;
+ghost use mathlib.Core.Path.{_≡_};
+ghost use Prim.Native.Nat.{_+_, _*_, _≤_};
+ghost use lib.ListN.{length};
+ghost use Rattle.table.specs.Table.{vertexCount};
+ghost use Rattle.table.specs.WellFormed.{WellFormed};
+ghost use Rattle.index.specs.Index.{EdgeIndex};
+ghost use Rattle.pairs.specs.Marks.{marksLength};
+ghost use Rattle.pairs.specs.Ready.{PairReady};
+ghost use Rattle.relation.specs.RelationCall.{fails, firstFailing};
+
+// A pair of vertices.
+pub struct Pair {
+    pub v: usize,
+    pub w: usize,
+}
+
+// Whether the pair is marked, and has unequal priorities or fails the test.
+fn pair_fails(
+    game: &[u16],
+    starts: &[u16],
+    targets: &[u16],
+    marks: &[u8],
+    v: usize,
+    w: usize,
+) -> bool
+    requires { ⌜ PairReady (now game) (now starts) (now targets) (now marks) v w ⌝ }
+    ensures { λ r. ⌜ r ≡ fails (now (game .entry)) (now (marks .entry)) v w ⌝ }
+{
+    if !is_marked(marks, game[0] as usize, v, w) {
+        return false;
+    }
+    if !same_priority(game, v, w) {
+        return true;
+    }
+    !pair_passes(game, starts, targets, marks, v, w)
+}
+
+// The first pair in row order that fails, or (n, 0).
+fn first_failing(game: &[u16], starts: &[u16], targets: &[u16], marks: &[u8]) -> Pair
+    requires { ⌜ WellFormed (now game) ⌝ }
+    requires { ⌜ EdgeIndex (now game) (now starts) (now targets) ⌝ }
+    requires { ⌜ marksLength (vertexCount (now game)) ≤ length (now marks) ⌝ }
+    ensures { λ r. ⌜ r .v * vertexCount (now (game .entry)) + r .w ≡ firstFailing (now (game .entry)) (now (marks .entry)) ⌝ }
+{
+    let n = game[0] as usize;
+    let mut v = 0;
+    let failing = 'rows: loop {
+        if v >= n {
+            break 'rows Pair { v, w: 0 };
+        }
+        let mut w = 0;
+        while w < n {
+            if pair_fails(game, starts, targets, marks, v, w) {
+                break 'rows Pair { v, w };
+            }
+            w += 1;
+        }
+        v += 1;
+    };
+    failing
+}
+
+// The same, over an index of the edges in local arrays of 8,706 bytes.
+pub fn failing_pair(game: &[u16], marks: &[u8]) -> Pair
+    requires { ⌜ WellFormed (now game) ⌝ }
+    requires { ⌜ marksLength (vertexCount (now game)) ≤ length (now marks) ⌝ }
+    ensures { λ r. ⌜ r .v * vertexCount (now (game .entry)) + r .w ≡ firstFailing (now (game .entry)) (now (marks .entry)) ⌝ }
+{
+    let mut starts = [0u16; VERTEX_STARTS];
+    let mut targets = [0u16; EDGES];
+    of_edges(game, &mut starts, &mut targets);
+    first_failing(game, &starts, &targets, marks)
+}

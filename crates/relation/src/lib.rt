@@ -1,0 +1,39 @@
+// The acceptor of relations.
+mod failing;
+
+use pairs::marks::first_high;
+use pairs::marks::length_for;
+use table::Acceptance;
+use table::NoCounts;
+use table::Reading;
+use table::acceptor::refused;
+use table::refusal_of;
+ghost use mathlib.Core.Path.{_≡_};
+ghost use Rattle.table.specs.Acceptance.{acceptanceAnswer};
+ghost use Rattle.relation.specs.RelationCall.{relationAnswer};
+
+// Judges the game and the marks: accepted if the marked pairs form a direct simulation.
+pub fn accept_relation(game: &[u16], marks: &[u8]) -> Acceptance
+    ensures { λ r. ⌜ acceptanceAnswer r ≡ relationAnswer (now (game .entry)) (now (marks .entry)) ⌝ }
+{
+    let reading = table::read(game);
+    let Reading::Accepted(sizes) = reading else {
+        return Acceptance::Refused(refusal_of(reading));
+    };
+    let n = sizes.vertices;
+    let needed = length_for(n);
+    if marks.len() < needed {
+        return refused(21, needed);
+    }
+    let pairs = n * n;
+    let high = first_high(marks, pairs);
+    if high < pairs {
+        return refused(9, high);
+    }
+    let failing = failing::failing_pair(game, marks);
+    let place = failing.v * n + failing.w;
+    if place < pairs {
+        return refused(10, place);
+    }
+    Acceptance::Accepted(NoCounts {})
+}

@@ -1,0 +1,23 @@
+-- Document 01's limits. The code has them as constants of `table::limits`.
+use Prim.Native.Nat.{ℕ, _+_, _*_}
+
+-- vertices and edges of a game, positions and links of a plan
+abbrev pub vertexLimit : ℕ
+vertexLimit = 256
+
+abbrev pub edgeLimit : ℕ
+edgeLimit = 4096
+
+abbrev pub positionLimit : ℕ
+positionLimit = 4096
+
+abbrev pub linkLimit : ℕ
+linkLimit = 16384
+
+-- pairs of vertices
+abbrev pub pairLimit : ℕ
+pairLimit = vertexLimit * vertexLimit
+
+-- words of a game table
+abbrev pub tableLimit : ℕ
+tableLimit = 2 + 2 * vertexLimit + 2 * edgeLimit

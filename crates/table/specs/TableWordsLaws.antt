@@ -1,0 +1,171 @@
+-- The reader accepts the table of a game that fits, and the table stands for that game.
+use mathlib.Core.Path.{_≡_, refl, sym, ap, ap₂, _∙_}
+use mathlib.Core.List.{List, _∷_, _++_, map}
+use Prim.Native.Nat.{ℕ, suc, _+_, _*_, _≤_, _<_}
+use native.Mathlib.Omega.{arith}
+use lib.ListN.{length, getD, length-append, length-map, List·getD-append, List·getD-map}
+use lib.Seq.{getD-append-add}
+use borrow.Author.Tests.{eqb-true, eq-eqb}
+use Rattle.theory.specs.BoolsLaws.{So-ext, and-in, and-out}
+use Rattle.theory.specs.Range.{tabulate, pairsOf}
+use Rattle.theory.specs.RangeLaws.{any-in, any-out}
+use Rattle.theory.specs.ListLaws.{length-tabulate, getD-tabulate}
+use Rattle.theory.specs.Game.{Player, even, odd, Game, Succ, Total, edgeCount}
+use Rattle.theory.specs.LinkLaws.{linked-at, linked-find, pairsOf-in, pairsOf-out, pairsOf-single, length-pairsBelow}
+use Rattle.theory.specs.Agreement.{Agree}
+use Rattle.table.specs.Limits.{vertexLimit, edgeLimit}
+use Rattle.table.specs.Table.{vertexCount, tableEdges, priorityAt, ownerAt, sourceAt, targetAt, tableLength, playerOf, isEdge, gameOf}
+use Rattle.table.specs.WellFormed.{WellFormed}
+use Rattle.table.specs.TableWords.{ownerWord, tableWords, Lists}
+
+-- ---- owners as words
+
+owner-le : (a : Player) → ownerWord a ≤ 1
+unfolding ownerWord
+owner-le even = omega arith
+owner-le odd = omega arith
+
+player-owner : (a : Player) → playerOf (ownerWord a) ≡ a
+unfolding ownerWord playerOf
+player-owner even = refl
+player-owner odd = refl
+
+-- ---- words by place
+
+past-sizes : (n m : ℕ) (ws : List ℕ) (i : ℕ) → getD (n ∷ m ∷ ws) (2 + i) 0 ≡ getD ws i 0
+past-sizes n m ws i = let e : 2 + i ≡ suc (suc i) = omega arith in rw e
+
+past : (us vs : List ℕ) (n i : ℕ) → length us ≡ n → getD (us ++ vs) (n + i) 0 ≡ getD vs i 0
+past us vs n i e = rw (← e) (getD-append-add us vs i 0)
+
+module _ (K : Game) (es : List (ℕ × ℕ)) where
+  abbrev P : List ℕ
+  P = tabulate (K .n) (K .priority)
+
+  abbrev O : List ℕ
+  O = tabulate (K .n) (λ c. ownerWord (K .owner c))
+
+  abbrev S : List ℕ
+  S = map (λ (e : ℕ × ℕ). e .0) es
+
+  abbrev U : List ℕ
+  U = map (λ (e : ℕ × ℕ). e .1) es
+
+  abbrev table : List ℕ
+  table = tableWords K es
+
+  vertices-is : vertexCount table ≡ K .n
+  unfolding tableWords
+  vertices-is = refl
+
+  edges-is : tableEdges table ≡ length es
+  unfolding tableWords
+  edges-is = refl
+
+  pub length-tableWords : length table ≡ tableLength (K .n) (length es)
+  unfolding tableWords
+  length-tableWords =
+      simp (length-append, length-map, length-tabulate {A = ℕ} (K .n) (K .priority), length-tabulate {A = ℕ} (K .n) (λ c. ownerWord (K .owner c))) (omega arith)
+
+  priority-is : (v : ℕ) → v < K .n → priorityAt table v ≡ K .priority v
+  unfolding tableWords
+  priority-is v h =
+      past-sizes (K .n) (length es) (P ++ (O ++ (S ++ U))) v
+      ∙ List·getD-append P (O ++ (S ++ U)) 0 v (omega (arith, length-tabulate (K .n) (K .priority)))
+      ∙ getD-tabulate (K .n) (K .priority) 0 v h
+
+  -- behind the priorities
+  past-priorities : (i : ℕ) → getD table (2 + (K .n + i)) 0 ≡ getD (O ++ (S ++ U)) i 0
+  unfolding tableWords
+  past-priorities i = past-sizes (K .n) (length es) (P ++ (O ++ (S ++ U))) (K .n + i) ∙ past P (O ++ (S ++ U)) (K .n) i (length-tabulate (K .n) (K .priority))
+
+  -- behind the owners
+  past-owners : (i : ℕ) → getD table (2 + (K .n + (K .n + i))) 0 ≡ getD (S ++ U) i 0
+  past-owners i = past-priorities (K .n + i) ∙ past O (S ++ U) (K .n) i (length-tabulate (K .n) (λ c. ownerWord (K .owner c)))
+
+  owner-is : (v : ℕ) → v < K .n → ownerAt table v ≡ ownerWord (K .owner v)
+  owner-is v h =
+      ap (λ (i : ℕ). getD table i 0) (omega (arith, vertices-is))
+      ∙ past-priorities v
+      ∙ List·getD-append O (S ++ U) 0 v (omega (arith, length-tabulate (K .n) (λ c. ownerWord (K .owner c))))
+      ∙ getD-tabulate (K .n) (λ c. ownerWord (K .owner c)) 0 v h
+
+  source-is : (j : ℕ) → j < length es → sourceAt table j ≡ getD es j (0, 0) .0
+  source-is j h =
+      ap (λ (i : ℕ). getD table i 0) (omega (arith, vertices-is))
+      ∙ past-owners j
+      ∙ List·getD-append S U 0 j (omega (arith, length-map es (λ (e : ℕ × ℕ). e .0)))
+      ∙ List·getD-map (λ (e : ℕ × ℕ). e .0) es j (0, 0)
+
+  target-is : (j : ℕ) → j < length es → targetAt table j ≡ getD es j (0, 0) .1
+  target-is j h =
+      ap (λ (i : ℕ). getD table i 0) (omega (arith, vertices-is, edges-is))
+      ∙ past-owners (length es + j)
+      ∙ past S U (length es) j (length-map es (λ (e : ℕ × ℕ). e .0))
+      ∙ List·getD-map (λ (e : ℕ × ℕ). e .1) es j (0, 0)
+
+  -- ---- the table of a game that fits, with its edges listed
+
+  module _ (lists : Lists K es) where
+    ends : (j : ℕ) → j < length es → (getD es j (0, 0) .0 < K .n) × Succ K (getD es j (0, 0) .0) (getD es j (0, 0) .1)
+    ends j h = lists .edges _ _ .0 (linked-at es j h)
+
+    -- an edge of K's has its number
+    number : (c d : ℕ) → c < K .n → Succ K c d → (j : ℕ) × (j < length es) × (sourceAt table j ≡ c) × (targetAt table j ≡ d)
+    number c d h s =
+        let (j, l, e) = linked-find es c d (lists .edges c d .1 (h, s)) in
+        (j, l, source-is j l ∙ ap (λ (x : ℕ × ℕ). x .0) e, target-is j l ∙ ap (λ (x : ℕ × ℕ). x .1) e)
+
+    pub tableWords-well : 0 < K .n → K .n ≤ vertexLimit → length es ≤ edgeLimit → Total K → WellFormed table
+    tableWords-well some few fit total = record {
+      some = omega (arith, vertices-is);
+      vertices = omega (arith, vertices-is);
+      edges = omega (arith, edges-is);
+      size = omega (arith, length-tableWords, vertices-is, edges-is);
+      owners = λ v h. let l : v < K .n = omega (arith, vertices-is) in rw (owner-is v l) (owner-le (K .owner v));
+      sources = λ j h. let l : j < length es = omega (arith, edges-is) in omega (arith, source-is j l, vertices-is, ends j l .0);
+      targets = λ j h. let l : j < length es = omega (arith, edges-is) in omega (arith, target-is j l, vertices-is, ends j l .1 .inside);
+      distinct = λ i j l h e f.
+          let hj : j < length es = omega (arith, edges-is) in
+          let hi : i < length es = omega arith in
+          lists .single i j l hj
+          (ap₂ {C = ℕ × ℕ} (λ x y. (x, y)) (sym (source-is i hi) ∙ e ∙ source-is j hj) (sym (target-is i hi) ∙ f ∙ target-is j hj));
+      total = λ v h.
+          let l : v < K .n = omega (arith, vertices-is) in
+          let t = total v l in
+          let (j, hj, e, f) = number v (t .0) l (t .1) in
+          (j, omega (arith, edges-is), e);
+    }
+
+    pub tableWords-agree : Agree (gameOf table) K
+    unfolding gameOf isEdge
+    tableWords-agree = record {
+      size = vertices-is;
+      priority = λ v h. priority-is v (rw vertices-is at h);
+      owner = λ v h. ap playerOf (owner-is v (rw vertices-is at h)) ∙ player-owner (K .owner v);
+      edge = λ v w h k. So-ext
+          (λ t.
+          let r = any-out t in
+          let q = and-out (r .2) in
+          let l : r .0 < length es = omega (arith, edges-is, r .1) in
+          let e : getD es (r .0) (0, 0) .0 ≡ v = sym (source-is (r .0) l) ∙ eqb-true _ _ (q .0) in
+          let f : getD es (r .0) (0, 0) .1 ≡ w = sym (target-is (r .0) l) ∙ eqb-true _ _ (q .1) in
+          rw (e, f) at (ends (r .0) l .1 .along))
+          (λ t.
+          let (j, hj, e, f) = number v w (rw vertices-is at h) (record { inside = rw vertices-is at k; along = t }) in
+          any-in _ _ j (omega (arith, edges-is)) (and-in (eq-eqb _ _ e) (eq-eqb _ _ f)));
+    }
+
+-- the ascending list is one
+pub pairsOf-lists : (K : Game) → Lists K (pairsOf (K .n) (K .edge))
+pairsOf-lists K = record {
+  edges = λ c d. (
+    λ t. let p = pairsOf-out (K .n) (K .edge) c d t in (p .0, record { inside = p .1; along = p .2 }),
+    λ s. pairsOf-in (K .n) (K .edge) c d (s .0) (s .1 .inside) (s .1 .along),
+  );
+  single = pairsOf-single (K .n) (K .edge);
+}
+
+pub length-edges : (K : Game) → length (pairsOf (K .n) (K .edge)) ≡ edgeCount K
+unfolding pairsOf edgeCount
+length-edges K = length-pairsBelow (K .n) (K .edge) (K .n * K .n)

@@ -1,0 +1,43 @@
+// Words put into a buffer from a place on. No host calls these.
+ghost use mathlib.Core.Path.{_≡_};
+ghost use Prim.Native.Nat.{ℕ, _+_, _<_, _≤_};
+ghost use lib.ListN.{length, getD};
+ghost use Rattle.theory.specs.Range.{tabulate};
+ghost use Rattle.table.specs.Placing.{placed};
+
+// Puts `count` times the same word.
+pub fn fill(words: &mut [u16], at: usize, count: usize, value: u16)
+    requires { ⌜ at + count ≤ length (now words) ⌝ }
+    ensures { λ r. ⌜ now (words .exit) ≡ placed at (tabulate count (λ i. value)) (now (words .entry)) ⌝ }
+{
+    let mut i = 0;
+    while i < count {
+        words[at + i] = value;
+        i += 1;
+    }
+}
+
+// Puts the first `count` words of another buffer.
+pub fn copy(words: &mut [u16], at: usize, from: &[u16], count: usize)
+    requires { ⌜ (at + count ≤ length (now words)) × (count ≤ length (now from)) ⌝ }
+    ensures { λ r. ⌜ now (words .exit) ≡ placed at (tabulate count (λ i. getD (now (from .entry)) i 0)) (now (words .entry)) ⌝ }
+{
+    let mut j = 0;
+    while j < count {
+        words[at + j] = from[j];
+        j += 1;
+    }
+}
+
+// Puts, for each of the first `count` picks, the word of another buffer that stands that far from `start`.
+pub fn gather(words: &mut [u16], at: usize, from: &[u16], start: usize, picks: &[u16], count: usize)
+    requires { ⌜ (at + count ≤ length (now words)) × (count ≤ length (now picks)) ⌝ }
+    requires { ⌜ ((i : ℕ) → i < count → start + getD (now picks) i 0 < length (now from)) ⌝ }
+    ensures { λ r. ⌜ now (words .exit) ≡ placed at (tabulate count (λ i. getD (now (from .entry)) (start + getD (now (picks .entry)) i 0) 0)) (now (words .entry)) ⌝ }
+{
+    let mut c = 0;
+    while c < count {
+        words[at + c] = from[start + picks[c] as usize];
+        c += 1;
+    }
+}
