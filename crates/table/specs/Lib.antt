@@ -14,6 +14,7 @@ pub mod KindLaws
 pub mod Flags
 pub mod FlagsLaws
 pub mod Acceptance
+pub mod ColumnsLaws
 pub mod TableWords
 pub mod TableWordsLaws
 pub mod ListsLaws

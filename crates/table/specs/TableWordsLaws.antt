@@ -1,10 +1,9 @@
 -- The reader accepts the table of a game that fits, and the table stands for that game.
 use mathlib.Core.Path.{_≡_, refl, sym, ap, ap₂, _∙_}
-use mathlib.Core.List.{List, _∷_, _++_, map}
-use Prim.Native.Nat.{ℕ, suc, _+_, _*_, _≤_, _<_}
+use mathlib.Core.List.{List, map}
+use Prim.Native.Nat.{ℕ, _*_, _≤_, _<_}
 use native.Mathlib.Omega.{arith}
-use lib.ListN.{length, getD, length-append, length-map, List·getD-append, List·getD-map}
-use lib.Seq.{getD-append-add}
+use lib.ListN.{length, getD, length-map, List·getD-map}
 use borrow.Author.Tests.{eqb-true, eq-eqb}
 use Rattle.theory.specs.BoolsLaws.{So-ext, and-in, and-out}
 use Rattle.theory.specs.Range.{tabulate, pairsOf}
@@ -16,6 +15,7 @@ use Rattle.theory.specs.Agreement.{Agree}
 use Rattle.table.specs.Limits.{vertexLimit, edgeLimit}
 use Rattle.table.specs.Table.{vertexCount, tableEdges, priorityAt, ownerAt, sourceAt, targetAt, tableLength, playerOf, isEdge, gameOf}
 use Rattle.table.specs.WellFormed.{WellFormed}
+use Rattle.table.specs.ColumnsLaws.{Columns, length-columns, priority-column, owner-column, source-column, target-column}
 use Rattle.table.specs.TableWords.{ownerWord, tableWords, Lists}
 
 -- ---- owners as words
@@ -32,27 +32,18 @@ player-owner odd = refl
 
 -- ---- words by place
 
-past-sizes : (n m : ℕ) (ws : List ℕ) (i : ℕ) → getD (n ∷ m ∷ ws) (2 + i) 0 ≡ getD ws i 0
-past-sizes n m ws i = let e : 2 + i ≡ suc (suc i) = omega arith in rw e
-
-past : (us vs : List ℕ) (n i : ℕ) → length us ≡ n → getD (us ++ vs) (n + i) 0 ≡ getD vs i 0
-past us vs n i e = rw (← e) (getD-append-add us vs i 0)
-
 module _ (K : Game) (es : List (ℕ × ℕ)) where
-  abbrev P : List ℕ
-  P = tabulate (K .n) (K .priority)
-
-  abbrev O : List ℕ
-  O = tabulate (K .n) (λ c. ownerWord (K .owner c))
-
-  abbrev S : List ℕ
-  S = map (λ (e : ℕ × ℕ). e .0) es
-
-  abbrev U : List ℕ
-  U = map (λ (e : ℕ × ℕ). e .1) es
-
   abbrev table : List ℕ
   table = tableWords K es
+
+  game-columns : Columns (K .n) (length es) (tabulate (K .n) (K .priority)) (tabulate (K .n) (λ c. ownerWord (K .owner c)))
+      (map (λ (e : ℕ × ℕ). e .0) es) (map (λ (e : ℕ × ℕ). e .1) es)
+  game-columns = record {
+    priorities = length-tabulate (K .n) (K .priority);
+    owners = length-tabulate (K .n) (λ c. ownerWord (K .owner c));
+    sources = length-map es (λ (e : ℕ × ℕ). e .0);
+    targets = length-map es (λ (e : ℕ × ℕ). e .1);
+  }
 
   vertices-is : vertexCount table ≡ K .n
   unfolding tableWords
@@ -64,45 +55,23 @@ module _ (K : Game) (es : List (ℕ × ℕ)) where
 
   pub length-tableWords : length table ≡ tableLength (K .n) (length es)
   unfolding tableWords
-  length-tableWords =
-      simp (length-append, length-map, length-tabulate {A = ℕ} (K .n) (K .priority), length-tabulate {A = ℕ} (K .n) (λ c. ownerWord (K .owner c))) (omega arith)
+  length-tableWords = length-columns game-columns
 
   priority-is : (v : ℕ) → v < K .n → priorityAt table v ≡ K .priority v
   unfolding tableWords
-  priority-is v h =
-      past-sizes (K .n) (length es) (P ++ (O ++ (S ++ U))) v
-      ∙ List·getD-append P (O ++ (S ++ U)) 0 v (omega (arith, length-tabulate (K .n) (K .priority)))
-      ∙ getD-tabulate (K .n) (K .priority) 0 v h
-
-  -- behind the priorities
-  past-priorities : (i : ℕ) → getD table (2 + (K .n + i)) 0 ≡ getD (O ++ (S ++ U)) i 0
-  unfolding tableWords
-  past-priorities i = past-sizes (K .n) (length es) (P ++ (O ++ (S ++ U))) (K .n + i) ∙ past P (O ++ (S ++ U)) (K .n) i (length-tabulate (K .n) (K .priority))
-
-  -- behind the owners
-  past-owners : (i : ℕ) → getD table (2 + (K .n + (K .n + i))) 0 ≡ getD (S ++ U) i 0
-  past-owners i = past-priorities (K .n + i) ∙ past O (S ++ U) (K .n) i (length-tabulate (K .n) (λ c. ownerWord (K .owner c)))
+  priority-is v h = priority-column game-columns v h ∙ getD-tabulate (K .n) (K .priority) 0 v h
 
   owner-is : (v : ℕ) → v < K .n → ownerAt table v ≡ ownerWord (K .owner v)
-  owner-is v h =
-      ap (λ (i : ℕ). getD table i 0) (omega (arith, vertices-is))
-      ∙ past-priorities v
-      ∙ List·getD-append O (S ++ U) 0 v (omega (arith, length-tabulate (K .n) (λ c. ownerWord (K .owner c))))
-      ∙ getD-tabulate (K .n) (λ c. ownerWord (K .owner c)) 0 v h
+  unfolding tableWords
+  owner-is v h = owner-column game-columns v h ∙ getD-tabulate (K .n) (λ c. ownerWord (K .owner c)) 0 v h
 
   source-is : (j : ℕ) → j < length es → sourceAt table j ≡ getD es j (0, 0) .0
-  source-is j h =
-      ap (λ (i : ℕ). getD table i 0) (omega (arith, vertices-is))
-      ∙ past-owners j
-      ∙ List·getD-append S U 0 j (omega (arith, length-map es (λ (e : ℕ × ℕ). e .0)))
-      ∙ List·getD-map (λ (e : ℕ × ℕ). e .0) es j (0, 0)
+  unfolding tableWords
+  source-is j h = source-column game-columns j h ∙ List·getD-map (λ (e : ℕ × ℕ). e .0) es j (0, 0)
 
   target-is : (j : ℕ) → j < length es → targetAt table j ≡ getD es j (0, 0) .1
-  target-is j h =
-      ap (λ (i : ℕ). getD table i 0) (omega (arith, vertices-is, edges-is))
-      ∙ past-owners (length es + j)
-      ∙ past S U (length es) j (length-map es (λ (e : ℕ × ℕ). e .0))
-      ∙ List·getD-map (λ (e : ℕ × ℕ). e .1) es j (0, 0)
+  unfolding tableWords
+  target-is j h = target-column game-columns j h ∙ List·getD-map (λ (e : ℕ × ℕ). e .1) es j (0, 0)
 
   -- ---- the table of a game that fits, with its edges listed
 
