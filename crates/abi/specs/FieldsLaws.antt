@@ -17,7 +17,6 @@ use Rattle.table.specs.ReadingLaws.{reading-accepted, clean-well}
 use Rattle.table.specs.TableLaws.{edges-listed}
 use Rattle.table.specs.declared.Reading.{Reading}
 use Rattle.table.specs.declared.Reading.the-variants.{Accepted, Refused}
-use Rattle.table.specs.ListsLaws.{lists-length}
 use Rattle.classes.specs.ClassesCall.{classRows, classTotal, classesAnswer, classificationAnswer, ClassesCall}
 use Rattle.classes.specs.declared.Classification.{Classification}
 use Rattle.reduction.specs.TableCall.{tableRows, tabulationAnswer, TableCall}
@@ -66,9 +65,9 @@ unfolding tableRows gameOf
 tabulation-small K size edges game marks spare classes output (Tabulation.Accepted counts) marks′ spare′ classes′ output′ call =
     let a = judge-accepted (tableRows game marks spare classes output) _ _ (sym (call .verdict)) in
     let well = classes-well game marks spare classes (clean-split (classRows game marks spare classes) _ (a .0) .0) in
-    let listed = lists-length (K (gameOf game)) (call .edges) (call .listed) in (
+    (
       omega (arith, first-count (a .1), total-le game, well .vertices),
       omega (arith, second-count (a .1), size (gameOf game), well .vertices),
-      omega (arith, third-count (a .1), listed, edges (gameOf game), edges-listed game, well .edges),
+      omega (arith, third-count (a .1), edges (gameOf game), edges-listed game, well .edges),
     )
 tabulation-small K size edges game marks spare classes output (Tabulation.Refused refusal) marks′ spare′ classes′ output′ call = tt

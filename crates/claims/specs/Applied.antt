@@ -4,7 +4,6 @@ use mathlib.Core.List.{List, [], _∷_}
 use Prim.Native.Nat.{ℕ}
 use native.Mathlib.Omega.{arith}
 use lib.ListN.{replicate}
-use Rattle.theory.specs.Range.{pairsOf}
 use Rattle.theory.specs.Game.{even, odd}
 use Rattle.theory.specs.Plan.{Plan, Wins, Won}
 use Rattle.theory.specs.PlanTestLaws.{surely-wins}
@@ -17,7 +16,6 @@ use Rattle.table.specs.VerdictLaws.{judge-accepted}
 use Rattle.table.specs.Reading.{repeatsEarlier, lacksEdge, firstOwner, firstEnd, firstRepeat, firstLacking, gameRowsBy}
 use Rattle.pairs.specs.Marks.{bytes}
 use Rattle.table.specs.TableWords.{ownerWord, tableWords}
-use Rattle.table.specs.TableWordsLaws.{pairsOf-lists}
 use Rattle.order.specs.OrderCall.{orderRows}
 use Rattle.classes.specs.ClassesCall.{classRows, classTotal, classWords}
 use Rattle.reduction.specs.TableCall.{tableRows, TableCall}
@@ -59,8 +57,6 @@ answerD = accepted (5 ∷ 5 ∷ 6 ∷ [])
 pub callD : TableCall reduced gameD (replicate 36 9) (replicate 36 9) (replicate 6 9) (replicate 30 9) answerD marksD marksD classesD outputD
 unfolding compute gameOf playerOf isEdge judge written after gameRowsBy firstOwner firstEnd firstRepeat firstLacking repeatsEarlier lacksEdge bytes ownerWord tableWords classRows tableRows classTotal classWords
 callD = record {
-  edges = pairsOf (reduced (gameOf gameD) .n) (reduced (gameOf gameD) .edge);
-  listed = pairsOf-lists (reduced (gameOf gameD));
   verdict = refl;
   marks-after = refl;
   spare-after = refl;

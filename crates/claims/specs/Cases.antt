@@ -3,20 +3,18 @@ use mathlib.Core.Path.{_≡_}
 use mathlib.Core.Logic.{_↔_}
 use mathlib.Core.List.{List, [], _∷_}
 use Prim.Native.Nat.{ℕ}
-use lib.ListN.{length, replicate}
+use lib.ListN.{replicate}
 use Rattle.theory.specs.Game.{Game}
 use Rattle.theory.specs.Reduction.{quotient, reduced}
-use Rattle.table.specs.Table.{vertexCount, tableEdges, tableLength, gameOf}
-use Rattle.table.specs.TableWords.{tableWords}
+use Rattle.table.specs.Table.{vertexCount, tableEdges, tableLength}
 use Rattle.table.specs.Verdict.{Row, Answer, accepted, refused, judge, after}
 use Rattle.table.specs.Reading.{readAnswer}
 use Rattle.pairs.specs.Marks.{marksLength}
 use Rattle.order.specs.OrderCall.{orderRows, orderAnswer, orderBytes, OrderCall}
 use Rattle.relation.specs.RelationCall.{relationAnswer}
 use Rattle.plan.specs.Acceptance.{planAnswer}
-use Rattle.classes.specs.ClassesCall.{classRows, classTotal, classWords, classesAnswer, ClassesCall}
-use Rattle.reduction.specs.TableCall.{tableRows, TableCall}
-use Rattle.reduction.specs.Edges.{ascending}
+use Rattle.classes.specs.ClassesCall.{classRows, classWords, classesAnswer, ClassesCall}
+use Rattle.reduction.specs.TableCall.{tableRows, tableCounts, classTable, TableCall}
 
 -- a call of the host, with its input; what it writes into is as long as needed, and old words are 7
 pub data Call : Type 0 where
@@ -55,7 +53,6 @@ lentOutput game = replicate (tableLength (vertexCount game) (tableEdges game)) 7
 
 -- ---- what the calls promise, by the records of their contracts
 
--- as to a table, with its edges ascending: document 01 leaves their order free, and so does the promise
 pub data Promised : Call → Outcome → Type 0 where
   reads : {game : List ℕ} {a : Answer} → a ≡ readAnswer game → Promised (read game) (answered a [])
   orders : {game marks spare : List ℕ} {a : Answer} → OrderCall game (lentMarks game) (lentMarks game) a marks spare
@@ -66,8 +63,8 @@ pub data Promised : Call → Outcome → Type 0 where
       → ClassesCall game (lentMarks game) (lentMarks game) (lentClasses game) a marks spare classes
       → Promised (writeClasses game) (answered a (marks ∷ spare ∷ classes ∷ []))
   tabulates : {K : Game → Game} {game marks spare classes output : List ℕ} {a : Answer}
-      → (call : TableCall K game (lentMarks game) (lentMarks game) (lentClasses game) (lentOutput game) a marks spare classes output)
-      → call .edges ≡ ascending (K (gameOf game)) → Promised (writeTable K game) (answered a (marks ∷ spare ∷ classes ∷ output ∷ []))
+      → TableCall K game (lentMarks game) (lentMarks game) (lentClasses game) (lentOutput game) a marks spare classes output
+      → Promised (writeTable K game) (answered a (marks ∷ spare ∷ classes ∷ output ∷ []))
   judges-plan : {game plan : List ℕ} {player : ℕ} {a : Answer} → a ≡ planAnswer game player plan
       → Promised (acceptPlan game player plan) (answered a [])
 
@@ -88,12 +85,10 @@ outcome (writeClasses game) =
     answered (classesAnswer game (lentMarks game) (lentMarks game) (lentClasses game))
     (ordered rows game ∷ ordered rows game ∷ after rows (classWords game) (lentClasses game) ∷ [])
 outcome (writeTable K game) =
-    let es = ascending (K (gameOf game)) in
-    let counts = classTotal game ∷ K (gameOf game) .n ∷ length es ∷ [] in
     let rows = tableRows game (lentMarks game) (lentMarks game) (lentClasses game) (lentOutput game) in
-    answered (judge rows counts)
+    answered (judge rows (tableCounts K game))
     (ordered rows game ∷ ordered rows game ∷ after rows (classWords game) (lentClasses game)
-    ∷ after rows (tableWords (K (gameOf game)) es) (lentOutput game) ∷ [])
+    ∷ after rows (classTable K game) (lentOutput game) ∷ [])
 outcome (acceptPlan game player plan) = answered (planAnswer game player plan) []
 
 pub record Case : Type 0 where

@@ -3,15 +3,12 @@
 use mathlib.Core.Path.{_≡_, refl, sym, ap, subst, _∙_}
 use mathlib.Core.List.{List, [], _∷_, map}
 use Prim.Native.Nat.{ℕ}
-use lib.ListN.{length}
 use Rattle.theory.specs.Game.{Game}
 use Rattle.theory.specs.Compute.{compute}
 use Rattle.table.specs.Table.{gameOf, playerOf, isEdge}
 use Rattle.table.specs.Verdict.{Answer, judge, written, after}
 use Rattle.table.specs.Reading.{repeatsEarlier, lacksEdge, firstOwner, firstEnd, firstRepeat, firstLacking, gameRowsBy, readAnswer}
 use Rattle.table.specs.TableWords.{ownerWord, tableWords}
-use Rattle.table.specs.TableWordsLaws.{pairsOf-lists, length-edges}
-use Rattle.table.specs.ListsLaws.{lists-length}
 use Rattle.pairs.specs.Marks.{bytes, isMark, relation, firstHigh}
 use Rattle.order.specs.OrderCall.{orderRows, orderAnswer, OrderCall}
 use Rattle.relation.specs.RelationCall.{fails, firstFailing, relationRows, relationAnswer}
@@ -21,7 +18,6 @@ use Rattle.returns.specs.Returns.{reaches, returns, positionPriority, returnsWr
 use Rattle.plan.specs.Acceptance.{answers, lacksLink, firstLackingLink, planRows, planAnswer}
 use Rattle.classes.specs.ClassesCall.{classRows, classTotal, classWords, classesAnswer, ClassesCall}
 use Rattle.reduction.specs.TableCall.{tableRows, TableCall}
-use Rattle.reduction.specs.Edges.{ascending}
 use Rattle.claims.specs.Cases.{Call, Outcome, answered, lentMarks, lentClasses, lentOutput, Promised, outcome, Case, cases, AllHold}
 use Rattle.claims.specs.Cases.Call.{read, writeOrder, acceptRelation, writeClasses, writeTable, acceptPlan}
 
@@ -36,30 +32,17 @@ pub classes-promised : {game marks spare classes : List ℕ} {a : Answer}
     → answered a (marks ∷ spare ∷ classes ∷ []) ≡ outcome (writeClasses game)
 classes-promised call = rw (call .marks-after, call .spare-after, call .classes-after, call .verdict)
 
-module _ {K : Game → Game} {game marks spare classes output : List ℕ} {a : Answer}
-    (call : TableCall K game (lentMarks game) (lentMarks game) (lentClasses game) (lentOutput game) a marks spare classes output) where
-  abbrev es : List (ℕ × ℕ)
-  es = ascending (K (gameOf game))
-
-  -- in whatever order the edges stand: all but the output, which differs from the computed one in that order alone (`output-after`)
-  pub table-promised : answered a
-      (marks ∷ spare ∷ classes
-      ∷ after (tableRows game (lentMarks game) (lentMarks game) (lentClasses game) (lentOutput game)) (tableWords (K (gameOf game)) es) (lentOutput game) ∷ [])
-      ≡ outcome (writeTable K game)
-  table-promised =
-      let l : length (call .edges) ≡ length es = lists-length (K (gameOf game)) (call .edges) (call .listed) ∙ sym (length-edges (K (gameOf game))) in
-      rw (call .marks-after, call .spare-after, call .classes-after, call .verdict, l)
-
-  -- in ascending order: the output as well
-  pub table-ascending : call .edges ≡ es → answered a (marks ∷ spare ∷ classes ∷ output ∷ []) ≡ outcome (writeTable K game)
-  table-ascending e = rw (call .output-after, e) table-promised
+pub table-promised : {K : Game → Game} {game marks spare classes output : List ℕ} {a : Answer}
+    → TableCall K game (lentMarks game) (lentMarks game) (lentClasses game) (lentOutput game) a marks spare classes output
+    → answered a (marks ∷ spare ∷ classes ∷ output ∷ []) ≡ outcome (writeTable K game)
+table-promised call = rw (call .marks-after, call .spare-after, call .classes-after, call .output-after, call .verdict)
 
 pub promised-outcome : (c : Call) (o : Outcome) → Promised c o → o ≡ outcome c
 promised-outcome c o (Promised.reads e) = ap (λ (a : Answer). answered a []) e
 promised-outcome c o (Promised.orders call) = order-promised call
 promised-outcome c o (Promised.judges-relation e) = ap (λ (a : Answer). answered a []) e
 promised-outcome c o (Promised.classifies call) = classes-promised call
-promised-outcome c o (Promised.tabulates call e) = table-ascending call e
+promised-outcome c o (Promised.tabulates call) = table-promised call
 promised-outcome c o (Promised.judges-plan e) = ap (λ (a : Answer). answered a []) e
 
 pub outcome-promised : (c : Call) → Promised c (outcome c)
@@ -67,15 +50,8 @@ outcome-promised (read game) = Promised.reads refl
 outcome-promised (writeOrder game) = Promised.orders (record { verdict = refl; marks-after = refl; spare-after = refl })
 outcome-promised (acceptRelation game relation) = Promised.judges-relation refl
 outcome-promised (writeClasses game) = Promised.classifies (record { verdict = refl; marks-after = refl; spare-after = refl; classes-after = refl })
-outcome-promised (writeTable K game) = Promised.tabulates (record {
-  edges = ascending (K (gameOf game));
-  listed = pairsOf-lists (K (gameOf game));
-  verdict = refl;
-  marks-after = refl;
-  spare-after = refl;
-  classes-after = refl;
-  output-after = refl;
-}) refl
+outcome-promised (writeTable K game) =
+    Promised.tabulates (record { verdict = refl; marks-after = refl; spare-after = refl; classes-after = refl; output-after = refl })
 outcome-promised (acceptPlan game player plan) = Promised.judges-plan refl
 
 -- ---- the table

@@ -1,6 +1,6 @@
 -- Demand 3 about what the promises name: tables that the reader accepts, the order and the classes that an accepted call leaves, relations
 -- that the acceptor passes, and written tables. Hypotheses are only: a call passed its rows, a mark is 1, a vertex is below n, a plan wins.
-use mathlib.Core.Path.{_≡_, sym, _∙_}
+use mathlib.Core.Path.{_≡_, refl, sym, ap₂, _∙_}
 use mathlib.Core.Logic.{_↔_}
 use mathlib.Core.Bool.{So}
 use mathlib.Core.List.{List, [], _∷_}
@@ -9,9 +9,10 @@ use native.Mathlib.Omega.{arith}
 use lib.ListN.{length, getD}
 use lib.Seq.{take-at}
 use Rattle.theory.specs.Bools.{bit}
+use Rattle.theory.specs.Range.{Before}
 use Rattle.theory.specs.BoolsLaws.{bit-in, bit-out}
 use Rattle.theory.specs.ListLaws.{length-tabulate, getD-tabulate}
-use Rattle.theory.specs.Game.{Player, even, odd, Game}
+use Rattle.theory.specs.Game.{Player, even, odd, Game, Succ, edgeCount}
 use Rattle.theory.specs.Order.{order}
 use Rattle.theory.specs.OrderLaws.{order-in}
 use Rattle.theory.specs.Plan.{Won}
@@ -21,16 +22,15 @@ use Rattle.theory.specs.SizeLaws.{quotient-size, reduced-size, quotient-edges, 
 use Rattle.theory.specs.KeptWinners as games
 use Rattle.theory.specs.AgreementLaws.{agree-winner, agree-sym}
 use Rattle.table.specs.Limits.{vertexLimit, edgeLimit}
-use Rattle.table.specs.Table.{vertexCount, tableEdges, tableLength, gameOf}
+use Rattle.table.specs.Table.{vertexCount, tableEdges, sourceAt, targetAt, tableLength, gameOf}
 use Rattle.table.specs.Verdict.{Row, Answer, accepted, Clean, written}
 use Rattle.table.specs.VerdictLaws.{judge-accepted, after-clean, getD-written}
 use Rattle.table.specs.Reading.{readAnswer}
 use Rattle.table.specs.ReadingLaws.{read-accepts}
 use Rattle.table.specs.WellFormed.{WellFormed}
 use Rattle.table.specs.TableLaws.{edges-listed, game-total}
-use Rattle.table.specs.TableWords.{tableWords}
-use Rattle.table.specs.TableWordsLaws.{length-tableWords, tableWords-well, tableWords-agree}
-use Rattle.table.specs.ListsLaws.{lists-length}
+use Rattle.table.specs.TableWords.{edgesOf, tableWords}
+use Rattle.table.specs.TableWordsLaws.{length-tableWords, source-is, target-is, tableWords-edge, tableWords-well, tableWords-agree, edgesOf-lists, edgesOf-ascend, length-edgesOf}
 use Rattle.pairs.specs.Marks.{Marked}
 use Rattle.order.specs.OrderCall.{orderRows, orderBytes, OrderCall}
 use Rattle.order.specs.OrderRulesLaws.{written-byte}
@@ -128,12 +128,18 @@ module _ {K : Game → Game} (faithful : Faithful K)
 
   record Counts : Type 0 where
     vertices : K G .n ≡ n
-    edges : length (call .edges) ≡ e
+    edges : edgeCount (K G) ≡ e
+
+  abbrev es : List (ℕ × ℕ)
+  es = edgesOf (K G)
 
   counts : Counts
   counts =
       let a = judge-accepted (tableRows game marks spare classes output) _ _ (sym (call .verdict) ∙ accepts) in
       record { vertices = cc (a .1); edges = cc (a .1) }
+
+  edges-are : length es ≡ e
+  edges-are = length-edgesOf (K G) ∙ counts .edges
 
   passed : Clean (tableRows game marks spare classes output)
   passed = judge-accepted (tableRows game marks spare classes output) _ _ (sym (call .verdict) ∙ accepts) .0
@@ -141,11 +147,11 @@ module _ {K : Game → Game} (faithful : Faithful K)
   well : WellFormed game
   well = table-accepted call _ accepts .0 .classesFit .orderFits .game
 
-  table-is : writtenTable n e output′ ≡ tableWords (K G) (call .edges)
+  table-is : writtenTable n e output′ ≡ tableWords (K G) es
   unfolding written
   table-is =
-      rw (call .output-after, after-clean (tableRows game marks spare classes output) (tableWords (K G) (call .edges)) output passed)
-      (take-at (tableWords (K G) (call .edges)) _ (tableLength n e) (length-tableWords (K G) (call .edges) ∙ rw (counts .vertices, counts .edges)))
+      rw (call .output-after, after-clean (tableRows game marks spare classes output) (tableWords (K G) es) output passed)
+      (take-at (tableWords (K G) es) _ (tableLength n e) (length-tableWords (K G) es ∙ ap₂ {C = ℕ} tableLength (counts .vertices) edges-are))
 
   vertex : (v : ℕ) → v < vertexCount game → v < G .n
   unfolding gameOf
@@ -157,27 +163,49 @@ module _ {K : Game → Game} (faithful : Faithful K)
 
   -- it has at most the game's m edges
   pub table-edges : e ≤ tableEdges game
-  table-edges = omega (arith, counts .edges, lists-length (K G) (call .edges) (call .listed), faithful .edges G, edges-listed game)
+  table-edges = omega (arith, counts .edges, faithful .edges G, edges-listed game)
 
-  fits : length (call .edges) ≤ edgeLimit
-  fits = omega (arith, counts .edges, table-edges, well .edges)
+  fits : length es ≤ edgeLimit
+  fits = omega (arith, edges-are, table-edges, well .edges)
 
   table-well : WellFormed (writtenTable n e output′)
   table-well =
       rw table-is
-      (tableWords-well (K G) (call .edges) (call .listed) (omega (arith, faithful .class G 0 (vertex 0 (well .some)))) few fits
+      (tableWords-well (K G) es (edgesOf-lists (K G)) (omega (arith, faithful .class G 0 (vertex 0 (well .some)))) few fits
       (faithful .total G (game-total game well)))
 
   -- the reader accepts the written table
   pub table-read : readAnswer (writtenTable n e output′) ≡ accepted (n ∷ e ∷ [])
   unfolding tableWords
-  table-read = read-accepts (writtenTable n e output′) table-well ∙ rw (table-is, counts .vertices, counts .edges)
+  table-read = read-accepts (writtenTable n e output′) table-well ∙ rw table-is (ap₂ {C = Answer} (λ x y. accepted (x ∷ y ∷ [])) (counts .vertices) edges-are)
+
+  -- its edges are exactly those of K ..
+  pub table-edge : (c d : ℕ) → So (gameOf (writtenTable n e output′) .edge c d) ↔ ((c < n) × Succ (K G) c d)
+  table-edge c d =
+      let agree = tableWords-edge (K G) es (edgesOf-lists (K G)) c d in
+      rw (table-is, ← counts .vertices) agree
+
+  -- .. and stand by source, ascending, then by target, ascending: so each stands there once, and the table is determined whole
+  pub table-ascends : (i j : ℕ) → i < j → j < e → let t = writtenTable n e output′ in Before (sourceAt t i, targetAt t i) (sourceAt t j, targetAt t j)
+  table-ascends i j h l =
+      let m : j < length es = omega (arith, edges-are) in
+      let k : i < length es = omega arith in
+      rw (table-is, source-is (K G) es i k, target-is (K G) es i k, source-is (K G) es j m, target-is (K G) es j m) (edgesOf-ascend (K G) i j h m)
 
   -- "Each player has a winning plan from a vertex exactly when that player has one from its class in the reduced game."
   pub table-winner : (a : Player) (v : ℕ) → v < vertexCount game → Won a (gameOf game) v ↔ Won a (gameOf (writtenTable n e output′)) (getD classes′ v 0)
   table-winner a v h =
       let there = faithful .winner G a v (vertex v h) in
       let back =
-      agree-winner a (K G) (gameOf (tableWords (K G) (call .edges))) (agree-sym (tableWords-agree (K G) (call .edges) (call .listed))) (classOf G v)
+      agree-winner a (K G) (gameOf (tableWords (K G) es)) (agree-sym (tableWords-agree (K G) es (edgesOf-lists (K G)))) (classOf G v)
       (faithful .class G v (vertex v h)) in
       rw (table-is, class-word (table-leaves-classes call) passed v h) (λ w. back .0 (there .0 w), λ w. there .1 (back .1 w))
+
+-- "Two engineers print the reduced game of the same model": whatever was in the buffers, and however long they were, the tables are one
+module _ {K : Game → Game} (faithful : Faithful K) {game : List ℕ}
+    {marks spare classes output marks′ spare′ classes′ output′ : List ℕ} {k n e : ℕ}
+    (call : TableCall K game marks spare classes output (accepted (k ∷ n ∷ e ∷ [])) marks′ spare′ classes′ output′)
+    {marks₂ spare₂ classes₂ output₂ marks₂′ spare₂′ classes₂′ output₂′ : List ℕ} {k₂ n₂ e₂ : ℕ}
+    (call₂ : TableCall K game marks₂ spare₂ classes₂ output₂ (accepted (k₂ ∷ n₂ ∷ e₂ ∷ [])) marks₂′ spare₂′ classes₂′ output₂′) where
+  pub one-table : writtenTable n e output′ ≡ writtenTable n₂ e₂ output₂′
+  one-table = table-is faithful call k n e refl ∙ sym (table-is faithful call₂ k₂ n₂ e₂ refl)

@@ -4,14 +4,14 @@ use mathlib.Core.Path.{_≡_}
 use mathlib.Core.List.{List, _∷_, _++_, map}
 use Prim.Native.Nat.{ℕ, _+_}
 use lib.ListN.{length, getD}
-use Rattle.theory.specs.Range.{tabulate, pairsOf}
-use Rattle.theory.specs.Game.{Game}
+use Rattle.theory.specs.Range.{tabulate}
+use Rattle.theory.specs.Game.{Game, edgeCount}
 use Rattle.table.specs.Table.{vertexCount, gameOf}
-use Rattle.table.specs.TableWords.{tableWords}
 use Rattle.table.specs.Placing.{placed}
 use Rattle.table.specs.Verdict.{written}
 use Rattle.order.specs.Clearing.{OrderDone}
 use Rattle.classes.specs.ClassesCall.{classTotal, classWords}
+use Rattle.reduction.specs.TableCall.{classTable}
 use Rattle.reduction.specs.declared.TableCounts.{TableCounts}
 
 abbrev pub sourcesOf : List (ℕ × ℕ) → List ℕ
@@ -35,17 +35,13 @@ tableBy game reps k sources targets e =
 
 -- ---- what is written once the game and the memory are judged
 
--- the edges of a game, ascending
-abbrev pub ascending : Game → List (ℕ × ℕ)
-ascending K = pairsOf (K .n) (K .edge)
-
--- the classes and the table of K, with the edges ascending
+-- the classes and the table of K
 pub record TableFilled (K : Game → Game) (game classes output : List ℕ) (counts : TableCounts) (classes′ output′ : List ℕ) : Type 0 where
   pub class-count : counts .classes ≡ classTotal game
   pub vertex-count : counts .vertices ≡ K (gameOf game) .n
-  pub edge-count : counts .edges ≡ length (ascending (K (gameOf game)))
+  pub edge-count : counts .edges ≡ edgeCount (K (gameOf game))
   pub classes-after : classes′ ≡ written (classWords game) classes
-  pub output-after : output′ ≡ written (tableWords (K (gameOf game)) (ascending (K (gameOf game)))) output
+  pub output-after : output′ ≡ written (classTable K game) output
 
 -- and the order
 pub record TableDone (K : Game → Game) (game marks spare classes output : List ℕ) (counts : TableCounts) (marks′ spare′ classes′ output′ : List ℕ) : Type 0 where

@@ -21,8 +21,8 @@ use Rattle.table.specs.TableLaws.{edges-listed}
 use Rattle.table.specs.Verdict.{written}
 use Rattle.table.specs.VerdictLaws.{getD-written}
 use Rattle.table.specs.WellFormed.{WellFormed}
-use Rattle.table.specs.TableWords.{ownerWord, tableWords}
-use Rattle.table.specs.TableWordsLaws.{length-edges}
+use Rattle.table.specs.TableWords.{ownerWord, edgesOf, tableWords}
+use Rattle.table.specs.TableWordsLaws.{length-edgesOf}
 use Rattle.classes.specs.ClassesCall.{classTotal, classWords}
 use Rattle.classes.specs.HoldingLaws.{tabulate-ext}
 use Rattle.table.specs.Placing.{placed}
@@ -94,7 +94,7 @@ module _ (game : List ℕ) (drop : Bool) (k : ℕ) (e : k ≡ classesIn (gameOf 
   pub edges-few : length (pairsOf k E) ≤ tableEdges game
   edges-few =
       let n = ap (λ (n : ℕ). length (pairsOf n E)) (e ∙ sym (gameBy-n drop (gameOf game))) in
-      omega (arith, n, length-edges (gameBy drop (gameOf game)), gameBy-edges drop (gameOf game), edges-listed game)
+      omega (arith, n, length-edgesOf (gameBy drop (gameOf game)), gameBy-edges drop (gameOf game), edges-listed game)
 
   -- the rows up to c
   pub rows-few : (c : ℕ) → c < k → length (pairsBelow k E (c * k)) + length (picked k (E c)) ≤ tableEdges game
@@ -169,7 +169,7 @@ module _ (game reps : List ℕ) (drop : Bool) (k e : ℕ) (s s′ t t′ : List 
   size : k ≡ K .n
   size = total ∙ sym (gameBy-n drop (gameOf game))
 
-  edges-size : es ≡ pairsOf (K .n) (K .edge)
+  edges-size : es ≡ edgesOf K
   edges-size = ap (λ (n : ℕ). pairsOf n (K .edge)) size
 
   priorities : tabulate k (λ c. getD game (2 + getD reps c 0) 0) ≡ tabulate (K .n) (K .priority)
@@ -187,14 +187,14 @@ module _ (game reps : List ℕ) (drop : Bool) (k e : ℕ) (s s′ t t′ : List 
       (owner-word (ownerAt game (representative (vertexCount game) (order (gameOf game)) c)) (well .owners _ (rep-lt (gameOf game) c l))))
       ∙ ap (λ (n : ℕ). tabulate n (λ c. ownerWord (K .owner c))) size
 
-  table-words : tableBy game reps k s′ t′ e ≡ tableWords K (pairsOf (K .n) (K .edge))
+  table-words : tableBy game reps k s′ t′ e ≡ tableWords K (edgesOf K)
   unfolding tableBy tableWords
   table-words =
       let n : e ≡ length es = omega (arith, appended .count) in
-      let m : e ≡ length (pairsOf (K .n) (K .edge)) = n ∙ ap length edges-size in
-      let a : tabulate e (λ i. getD s′ i 0) ≡ map (λ x. x .0) (pairsOf (K .n) (K .edge)) =
+      let m : e ≡ length (edgesOf K) = n ∙ ap length edges-size in
+      let a : tabulate e (λ i. getD s′ i 0) ≡ map (λ x. x .0) (edgesOf K) =
       read-back e (sourcesOf es) s s′ (n ∙ sym (length-map es (λ x. x .0))) (appended .sources-after) ∙ ap sourcesOf edges-size in
-      let b : tabulate e (λ i. getD t′ i 0) ≡ map (λ x. x .1) (pairsOf (K .n) (K .edge)) =
+      let b : tabulate e (λ i. getD t′ i 0) ≡ map (λ x. x .1) (edgesOf K) =
       read-back e (targetsOf es) t t′ (n ∙ sym (length-map es (λ x. x .1))) (appended .targets-after) ∙ ap targetsOf edges-size in
       cc (size, m, priorities, owners, a, b)
 
@@ -204,7 +204,7 @@ module _ (game reps : List ℕ) (drop : Bool) (k e : ℕ) (s s′ t t′ : List 
   table-filled classes output classes′ output′ p q = record {
     class-count = unfold classTotal gameOf in total;
     vertex-count = size;
-    edge-count = omega (arith, appended .count) ∙ ap length edges-size;
+    edge-count = omega (arith, appended .count) ∙ ap length edges-size ∙ length-edgesOf K;
     classes-after = p;
     output-after = q ∙ ap (λ (ws : List ℕ). written ws output) table-words;
   }

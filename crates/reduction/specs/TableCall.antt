@@ -2,10 +2,9 @@
 use mathlib.Core.Path.{_≡_}
 use mathlib.Core.List.{List, [], _∷_, _++_}
 use Prim.Native.Nat.{ℕ}
-use lib.ListN.{length}
-use Rattle.theory.specs.Game.{Game}
+use Rattle.theory.specs.Game.{Game, edgeCount}
 use Rattle.table.specs.Table.{vertexCount, tableEdges, tableLength, gameOf}
-use Rattle.table.specs.TableWords.{tableWords, Lists}
+use Rattle.table.specs.TableWords.{edgesOf, tableWords}
 use Rattle.table.specs.Verdict.{Row, memoryRow, Answer, accepted, refused, judge, after}
 use Rattle.order.specs.OrderCall.{orderBytes}
 use Rattle.classes.specs.ClassesCall.{classRows, classTotal, classWords}
@@ -21,12 +20,18 @@ abbrev pub tabulationAnswer : Tabulation → Answer
 tabulationAnswer (Tabulation.Accepted c) = accepted (c .classes ∷ c .vertices ∷ c .edges ∷ [])
 tabulationAnswer (Tabulation.Refused f) = refused (f .number) (f .place)
 
--- The promise of a call that writes the game K of classes: the verdict, and every lent word. The edges of the table stand in some order.
+-- accepted with the class count and the vertices and edges of K
+abbrev pub tableCounts : (Game → Game) → List ℕ → List ℕ
+tableCounts K game = classTotal game ∷ K (gameOf game) .n ∷ edgeCount (K (gameOf game)) ∷ []
+
+-- the table of the game K of classes, its edges by source, ascending, then by target, ascending
+abbrev pub classTable : (Game → Game) → List ℕ → List ℕ
+classTable K game = tableWords (K (gameOf game)) (edgesOf (K (gameOf game)))
+
+-- the promise of a call that writes the game K of classes: the verdict, and every lent word
 pub record TableCall (K : Game → Game) (game marks spare classes output : List ℕ) (answer : Answer) (marks′ spare′ classes′ output′ : List ℕ) : Type 0 where
-  pub edges : List (ℕ × ℕ)
-  pub listed : Lists (K (gameOf game)) edges
-  pub verdict : answer ≡ judge (tableRows game marks spare classes output) (classTotal game ∷ K (gameOf game) .n ∷ length edges ∷ [])
+  pub verdict : answer ≡ judge (tableRows game marks spare classes output) (tableCounts K game)
   pub marks-after : marks′ ≡ after (tableRows game marks spare classes output) (orderBytes game) marks
   pub spare-after : spare′ ≡ after (tableRows game marks spare classes output) (orderBytes game) spare
   pub classes-after : classes′ ≡ after (tableRows game marks spare classes output) (classWords game) classes
-  pub output-after : output′ ≡ after (tableRows game marks spare classes output) (tableWords (K (gameOf game)) edges) output
+  pub output-after : output′ ≡ after (tableRows game marks spare classes output) (classTable K game) output

@@ -5,9 +5,7 @@ use Prim.Native.Nat.{ℕ, _<_}
 use lib.ListN.{length}
 use borrow.Author.Tests.{lt-ltb}
 use Rattle.theory.specs.Game.{Game}
-use Rattle.table.specs.Table.{vertexCount, tableEdges, tableLength, gameOf}
-use Rattle.table.specs.TableWords.{tableWords}
-use Rattle.table.specs.TableWordsLaws.{pairsOf-lists}
+use Rattle.table.specs.Table.{vertexCount, tableEdges, tableLength}
 use Rattle.table.specs.Verdict.{Row, memoryRow, accepted, refused, judge}
 use Rattle.table.specs.VerdictLaws.{judge-hit, judge-clean, judge-past, judge-stays, after-clean, after-refused}
 use Rattle.table.specs.Reading.{readAnswer, readingAnswer, refusalOf}
@@ -18,15 +16,15 @@ use Rattle.table.specs.declared.Refusal.{Refusal}
 use Rattle.table.specs.declared.Reading.{Reading}
 use Rattle.table.specs.declared.Reading.the-variants.{Accepted, Refused}
 use Rattle.order.specs.OrderCall.{orderBytes}
-use Rattle.classes.specs.ClassesCall.{memoryRows, memoryAnswer, classRows, classTotal, classWords}
+use Rattle.classes.specs.ClassesCall.{memoryRows, memoryAnswer, classRows, classWords}
 use Rattle.classes.specs.ClassesCallLaws.{rows-handed, rows-short}
 use Rattle.classes.specs.ClassesRules.{ClassesFit}
 use Rattle.classes.specs.ClassesRulesLaws.{classes-clean}
 use Rattle.classes.specs.declared.Memory.the-variants.{Short}
-use Rattle.reduction.specs.TableCall.{tableRows, TableCall}
+use Rattle.reduction.specs.TableCall.{tableRows, tableCounts, classTable, TableCall}
 use Rattle.reduction.specs.TableRules.{TableFits}
 use Rattle.reduction.specs.TableRulesLaws.{table-clean}
-use Rattle.reduction.specs.Edges.{ascending, TableDone}
+use Rattle.reduction.specs.Edges.{TableDone}
 use Rattle.reduction.specs.declared.TableCounts.{TableCounts}
 
 -- the reader accepted
@@ -41,20 +39,15 @@ module _ (K : Game → Game) (game marks spare classes output : List ℕ) where
   needed = tableLength (vertexCount game) (tableEdges game)
 
   abbrev counts : List ℕ
-  counts = classTotal game ∷ K (gameOf game) .n ∷ length (ascending (K (gameOf game))) ∷ []
-
-  abbrev stated : List ℕ
-  stated = tableWords (K (gameOf game)) (ascending (K (gameOf game)))
+  counts = tableCounts K game
 
   table-old : (k p : ℕ) → judge rows counts ≡ refused k p → TableCall K game marks spare classes output (refused k p) marks spare classes output
   table-old k p e = record {
-    edges = ascending (K (gameOf game));
-    listed = pairsOf-lists (K (gameOf game));
     verdict = sym e;
     marks-after = sym (after-refused rows counts (orderBytes game) marks e);
     spare-after = sym (after-refused rows counts (orderBytes game) spare e);
     classes-after = sym (after-refused rows counts (classWords game) classes e);
-    output-after = sym (after-refused rows counts stated output e);
+    output-after = sym (after-refused rows counts (classTable K game) output e);
   }
 
   -- a refusal by the rows of the classes call stands
@@ -88,11 +81,9 @@ module _ (K : Game → Game) (game marks spare classes output : List ℕ) where
   table-written f c marks′ spare′ classes′ output′ d =
       let clean = table-clean game marks spare classes output f in
       let t = d .table in record {
-        edges = ascending (K (gameOf game));
-        listed = pairsOf-lists (K (gameOf game));
         verdict = rw (t .class-count, t .vertex-count, t .edge-count) (sym (judge-clean rows counts clean));
         marks-after = d .order .marks-after ∙ sym (after-clean rows (orderBytes game) marks clean);
         spare-after = d .order .spare-after ∙ sym (after-clean rows (orderBytes game) spare clean);
         classes-after = t .classes-after ∙ sym (after-clean rows (classWords game) classes clean);
-        output-after = t .output-after ∙ sym (after-clean rows stated output clean);
+        output-after = t .output-after ∙ sym (after-clean rows (classTable K game) output clean);
       }

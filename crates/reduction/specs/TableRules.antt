@@ -1,11 +1,9 @@
--- The table of refusals of the calls that write a table, in terms of logic; what an accepted call was lent, and its counts.
+-- The table of refusals of the calls that write a table, in terms of logic, and what an accepted call was lent.
 use mathlib.Core.List.{List, [], _∷_, _++_}
 use Prim.Native.Nat.{ℕ, _≤_}
 use lib.ListN.{length}
-use Rattle.theory.specs.Game.{Game, edgeCount}
-use Rattle.table.specs.Table.{vertexCount, tableEdges, tableLength, gameOf}
+use Rattle.table.specs.Table.{vertexCount, tableEdges, tableLength}
 use Rattle.table.specs.Rules.{Rule, memoryRule}
-use Rattle.classes.specs.ClassesCall.{classTotal}
 use Rattle.classes.specs.ClassesRules.{classRules, ClassesFit}
 
 -- the rules of the classes call, and 24, which goes by the input's sizes
@@ -17,7 +15,3 @@ tableRules game marks spare classes output =
 pub record TableFits (game marks spare classes output : List ℕ) : Type 0 where
   pub classesFit : ClassesFit game marks spare classes
   pub outputFit : tableLength (vertexCount game) (tableEdges game) ≤ length output
-
--- the counts of an accepted call: the classes, and the vertices and edges of the table of K
-abbrev pub tableCounts : (Game → Game) → List ℕ → List ℕ
-tableCounts K game = classTotal game ∷ K (gameOf game) .n ∷ edgeCount (K (gameOf game)) ∷ []

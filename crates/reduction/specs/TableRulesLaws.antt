@@ -7,9 +7,6 @@ use Prim.Native.Nat.{ℕ}
 use lib.ListN.{length}
 use borrow.Author.Tests.{ltb-false, le-ltb}
 use Rattle.theory.specs.Game.{Game}
-use Rattle.table.specs.Table.{gameOf}
-use Rattle.table.specs.TableWords.{tableWords}
-use Rattle.table.specs.ListsLaws.{lists-length}
 use Rattle.table.specs.Verdict.{Row, Answer, accepted, refused, judge, Clean}
 use Rattle.table.specs.VerdictLaws.{judge-clean, judge-accepted, after-refused, clean-append, clean-split}
 use Rattle.table.specs.Rules.{FirstRule, Rendered, none, next}
@@ -17,8 +14,8 @@ use Rattle.table.specs.RulesLaws.{memory-renders, refused-by, rendered-append}
 use Rattle.order.specs.OrderCall.{orderBytes}
 use Rattle.classes.specs.ClassesCall.{classRows, classWords}
 use Rattle.classes.specs.ClassesRulesLaws.{class-rows-render, classes-clean, clean-classes}
-use Rattle.reduction.specs.TableCall.{tableRows, TableCall}
-use Rattle.reduction.specs.TableRules.{tableRules, TableFits, tableCounts}
+use Rattle.reduction.specs.TableCall.{tableRows, tableCounts, classTable, TableCall}
+use Rattle.reduction.specs.TableRules.{tableRules, TableFits}
 
 -- ---- the rows render the rules, and are clean exactly if the game is well formed and the memory fits
 
@@ -46,26 +43,22 @@ module _ {K : Game → Game} {game marks spare classes output : List ℕ} {answe
   abbrev rows : List Row
   rows = tableRows game marks spare classes output
 
-  -- however the edges are listed
-  table-verdict : answer ≡ judge rows (tableCounts K game)
-  table-verdict = rw (← lists-length (K (gameOf game)) (call .edges) (call .listed)) (call .verdict)
-
   pub table-refused : (k p : ℕ) → (answer ≡ refused k p) ↔ FirstRule (tableRules game marks spare classes output) k p
-  table-refused = refused-by (tableCounts K game) (table-rows-render game marks spare classes output) table-verdict
+  table-refused = refused-by (tableCounts K game) (table-rows-render game marks spare classes output) (call .verdict)
 
   pub table-accepted : (counts : List ℕ) → answer ≡ accepted counts → TableFits game marks spare classes output × (counts ≡ tableCounts K game)
   table-accepted counts e =
-      let a = judge-accepted rows _ counts (sym table-verdict ∙ e) in
+      let a = judge-accepted rows _ counts (sym (call .verdict) ∙ e) in
       (clean-table game marks spare classes output (a .0), sym (a .1))
 
   pub table-accepts : TableFits game marks spare classes output → answer ≡ accepted (tableCounts K game)
-  table-accepts f = table-verdict ∙ judge-clean _ _ (table-clean game marks spare classes output f)
+  table-accepts f = call .verdict ∙ judge-clean _ _ (table-clean game marks spare classes output f)
 
   pub table-refused-old : (k p : ℕ) → answer ≡ refused k p → (marks′ ≡ marks) × (spare′ ≡ spare) × (classes′ ≡ classes) × (output′ ≡ output)
   table-refused-old k p e =
-      let v = sym table-verdict ∙ e in (
+      let v = sym (call .verdict) ∙ e in (
         call .marks-after ∙ after-refused rows _ (orderBytes game) marks v,
         call .spare-after ∙ after-refused rows _ (orderBytes game) spare v,
         call .classes-after ∙ after-refused rows _ (classWords game) classes v,
-        call .output-after ∙ after-refused rows _ (tableWords (K (gameOf game)) (call .edges)) output v,
+        call .output-after ∙ after-refused rows _ (classTable K game) output v,
       )

@@ -17,6 +17,5 @@ pub mod Acceptance
 pub mod ColumnsLaws
 pub mod TableWords
 pub mod TableWordsLaws
-pub mod ListsLaws
 pub mod Placing
 pub mod PlacingLaws

@@ -1,22 +1,24 @@
 -- The reader accepts the table of a game that fits, and the table stands for that game.
 use mathlib.Core.Path.{_≡_, refl, sym, ap, ap₂, _∙_}
+use mathlib.Core.Logic.{_↔_}
+use mathlib.Core.Bool.{So}
 use mathlib.Core.List.{List, map}
 use Prim.Native.Nat.{ℕ, _*_, _≤_, _<_}
 use native.Mathlib.Omega.{arith}
 use lib.ListN.{length, getD, length-map, List·getD-map}
 use borrow.Author.Tests.{eqb-true, eq-eqb}
 use Rattle.theory.specs.BoolsLaws.{So-ext, and-in, and-out}
-use Rattle.theory.specs.Range.{tabulate, pairsOf}
+use Rattle.theory.specs.Range.{tabulate, pairsOf, Before}
 use Rattle.theory.specs.RangeLaws.{any-in, any-out}
 use Rattle.theory.specs.ListLaws.{length-tabulate, getD-tabulate}
 use Rattle.theory.specs.Game.{Player, even, odd, Game, Succ, Total, edgeCount}
-use Rattle.theory.specs.LinkLaws.{linked-at, linked-find, pairsOf-in, pairsOf-out, pairsOf-single, length-pairsBelow}
+use Rattle.theory.specs.LinkLaws.{linked-at, linked-find, pairsOf-in, pairsOf-out, pairsOf-single, pairsOf-ascend, length-pairsBelow}
 use Rattle.theory.specs.Agreement.{Agree}
 use Rattle.table.specs.Limits.{vertexLimit, edgeLimit}
 use Rattle.table.specs.Table.{vertexCount, tableEdges, priorityAt, ownerAt, sourceAt, targetAt, tableLength, playerOf, isEdge, gameOf}
 use Rattle.table.specs.WellFormed.{WellFormed}
 use Rattle.table.specs.ColumnsLaws.{Columns, length-columns, priority-column, owner-column, source-column, target-column}
-use Rattle.table.specs.TableWords.{ownerWord, tableWords, Lists}
+use Rattle.table.specs.TableWords.{ownerWord, edgesOf, tableWords, Lists}
 
 -- ---- owners as words
 
@@ -65,11 +67,11 @@ module _ (K : Game) (es : List (ℕ × ℕ)) where
   unfolding tableWords
   owner-is v h = owner-column game-columns v h ∙ getD-tabulate (K .n) (λ c. ownerWord (K .owner c)) 0 v h
 
-  source-is : (j : ℕ) → j < length es → sourceAt table j ≡ getD es j (0, 0) .0
+  pub source-is : (j : ℕ) → j < length es → sourceAt table j ≡ getD es j (0, 0) .0
   unfolding tableWords
   source-is j h = source-column game-columns j h ∙ List·getD-map (λ (e : ℕ × ℕ). e .0) es j (0, 0)
 
-  target-is : (j : ℕ) → j < length es → targetAt table j ≡ getD es j (0, 0) .1
+  pub target-is : (j : ℕ) → j < length es → targetAt table j ≡ getD es j (0, 0) .1
   unfolding tableWords
   target-is j h = target-column game-columns j h ∙ List·getD-map (λ (e : ℕ × ℕ). e .1) es j (0, 0)
 
@@ -106,28 +108,36 @@ module _ (K : Game) (es : List (ℕ × ℕ)) where
           (j, omega (arith, edges-is), e);
     }
 
-    pub tableWords-agree : Agree (gameOf table) K
+    -- its edges are exactly those of K
+    pub tableWords-edge : (c d : ℕ) → So (gameOf table .edge c d) ↔ ((c < K .n) × Succ K c d)
     unfolding gameOf isEdge
+    tableWords-edge c d = (
+      λ t.
+          let r = any-out t in
+          let q = and-out (r .2) in
+          let l : r .0 < length es = omega (arith, edges-is, r .1) in
+          let e : getD es (r .0) (0, 0) .0 ≡ c = sym (source-is (r .0) l) ∙ eqb-true _ _ (q .0) in
+          let f : getD es (r .0) (0, 0) .1 ≡ d = sym (target-is (r .0) l) ∙ eqb-true _ _ (q .1) in
+          rw (e, f) at (ends (r .0) l),
+      λ s.
+          let (j, hj, e, f) = number c d (s .0) (s .1) in
+          any-in _ _ j (omega (arith, edges-is)) (and-in (eq-eqb _ _ e) (eq-eqb _ _ f)),
+    )
+
+    pub tableWords-agree : Agree (gameOf table) K
+    unfolding gameOf
     tableWords-agree = record {
       size = vertices-is;
       priority = λ v h. priority-is v (rw vertices-is at h);
       owner = λ v h. ap playerOf (owner-is v (rw vertices-is at h)) ∙ player-owner (K .owner v);
       edge = λ v w h k. So-ext
-          (λ t.
-          let r = any-out t in
-          let q = and-out (r .2) in
-          let l : r .0 < length es = omega (arith, edges-is, r .1) in
-          let e : getD es (r .0) (0, 0) .0 ≡ v = sym (source-is (r .0) l) ∙ eqb-true _ _ (q .0) in
-          let f : getD es (r .0) (0, 0) .1 ≡ w = sym (target-is (r .0) l) ∙ eqb-true _ _ (q .1) in
-          rw (e, f) at (ends (r .0) l .1 .along))
-          (λ t.
-          let (j, hj, e, f) = number v w (rw vertices-is at h) (record { inside = rw vertices-is at k; along = t }) in
-          any-in _ _ j (omega (arith, edges-is)) (and-in (eq-eqb _ _ e) (eq-eqb _ _ f)));
+          (λ t. tableWords-edge v w .0 t .1 .along)
+          (λ t. tableWords-edge v w .1 (rw vertices-is at h, record { inside = rw vertices-is at k; along = t }));
     }
 
--- the ascending list is one
-pub pairsOf-lists : (K : Game) → Lists K (pairsOf (K .n) (K .edge))
-pairsOf-lists K = record {
+-- the ascending list is one, and it ascends
+pub edgesOf-lists : (K : Game) → Lists K (edgesOf K)
+edgesOf-lists K = record {
   edges = λ c d. (
     λ t. let p = pairsOf-out (K .n) (K .edge) c d t in (p .0, record { inside = p .1; along = p .2 }),
     λ s. pairsOf-in (K .n) (K .edge) c d (s .0) (s .1 .inside) (s .1 .along),
@@ -135,6 +145,9 @@ pairsOf-lists K = record {
   single = pairsOf-single (K .n) (K .edge);
 }
 
-pub length-edges : (K : Game) → length (pairsOf (K .n) (K .edge)) ≡ edgeCount K
+pub edgesOf-ascend : (K : Game) (i j : ℕ) → i < j → j < length (edgesOf K) → Before (getD (edgesOf K) i (0, 0)) (getD (edgesOf K) j (0, 0))
+edgesOf-ascend K = pairsOf-ascend (K .n) (K .edge)
+
+pub length-edgesOf : (K : Game) → length (edgesOf K) ≡ edgeCount K
 unfolding pairsOf edgeCount
-length-edges K = length-pairsBelow (K .n) (K .edge) (K .n * K .n)
+length-edgesOf K = length-pairsBelow (K .n) (K .edge) (K .n * K .n)

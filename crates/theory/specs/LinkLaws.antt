@@ -1,10 +1,10 @@
 -- Laws of lists of links.
-use mathlib.Core.Path.{_≡_, refl, sym, ap₂, _∙_, subst, subst₂}
+use mathlib.Core.Path.{_≡_, refl, sym, ap, ap₂, _∙_, subst, subst₂}
 use mathlib.Core.Logic.{_⊎_, inl, inr}
 use mathlib.Core.Bool.{Bool, true, false, cond, So, false≢true}
 use mathlib.Core.List.{List, [], _∷_, _++_, append-nil}
 use Prim.Native.Nat.{ℕ, zero, suc, _+_, _*_, _/_, _%_, _<_}
-use native.Mathlib.Nat.{not-suc-le-zero, le-of-suc-le-suc}
+use native.Mathlib.Nat.{not-suc-le-zero, le-of-suc-le-suc, suc-mul, mod-lt, div-add-mod', div-lt-iff-lt-mul}
 use native.Mathlib.Decide.{decLt}
 use native.Mathlib.Omega.{arith}
 use lib.Dec.{eqb}
@@ -14,7 +14,7 @@ use lib.Arith.{digits-lt, digits-div, digits-mod}
 use borrow.Author.Tests.{eqb-true, eq-eqb}
 use Rattle.theory.specs.Bools.{_&_, bit}
 use Rattle.theory.specs.BoolsLaws.{and-in, and-out, or-left, or-right, or-out}
-use Rattle.theory.specs.Range.{count, pairsBelow, pairsOf}
+use Rattle.theory.specs.Range.{count, Before, pairsBelow, pairsOf}
 use Rattle.theory.specs.RangeLaws.{below-suc}
 use Rattle.theory.specs.CountLaws.{row-lt, col-lt, pair-ext}
 use Rattle.theory.specs.Plan.{linked}
@@ -73,15 +73,34 @@ linked-find (l ∷ ls) i j t = elim (or-out t) [
 abbrev pub Single : List (ℕ × ℕ) → Type 0
 Single ls = (i j : ℕ) → i < j → j < length ls → getD ls i (0, 0) ≡ getD ls j (0, 0) → ⊥
 
-pub single-snoc : (ls : List (ℕ × ℕ)) (x : ℕ × ℕ) → Single ls → (So (linked ls (x .0) (x .1)) → ⊥) → Single (ls ++ (x ∷ []))
-single-snoc ls x once new i j h l e =
+-- each link stands before the next
+abbrev pub Ascending : List (ℕ × ℕ) → Type 0
+Ascending ls = (i j : ℕ) → i < j → j < length ls → Before (getD ls i (0, 0)) (getD ls j (0, 0))
+
+before-apart : {x y : ℕ × ℕ} → Before x y → x ≡ y → ⊥
+before-apart {x} {y} (inl l) e = let q = ap (λ (z : ℕ × ℕ). z .0) e in omega arith
+before-apart {x} {y} (inr l) e = let q = ap (λ (z : ℕ × ℕ). z .1) e in omega (arith, l .1)
+
+ascending-snoc : (ls : List (ℕ × ℕ)) (x : ℕ × ℕ) → Ascending ls → ((i : ℕ) → i < length ls → Before (getD ls i (0, 0)) x) → Ascending (ls ++ (x ∷ []))
+ascending-snoc ls x up last i j h l =
+    let old : (k : ℕ) → k < length ls → getD (ls ++ (x ∷ [])) k (0, 0) ≡ getD ls k (0, 0) = λ k b. List·getD-append ls (x ∷ []) (0, 0) k b in
     elim (decLt j (length ls)) [
-      | yes b ↦ once i j h b (sym (List·getD-append ls (x ∷ []) (0, 0) i (omega arith)) ∙ e ∙ List·getD-append ls (x ∷ []) (0, 0) j b)
+      | yes b ↦ rw (old i (omega arith), old j b) (up i j h b)
       | no b ↦ (
           let q : j ≡ length ls = omega (arith, length-append ls (x ∷ [])) in
-          let f : getD ls i (0, 0) ≡ x = sym (List·getD-append ls (x ∷ []) (0, 0) i (omega arith)) ∙ e ∙ rw q (getD-append-seam ls x [] (0, 0)) in
-          new (subst (λ (y : ℕ × ℕ). So (linked ls (y .0) (y .1))) f (linked-at ls i (omega arith))))
+          let e : getD (ls ++ (x ∷ [])) j (0, 0) ≡ x = rw q (getD-append-seam ls x [] (0, 0)) in
+          rw (old i (omega arith), e) (last i (omega arith)))
     ]
+
+-- numbers ascend as their digits do
+digits-before : (n i k : ℕ) → 0 < n → i < k → Before (i / n, i % n) (k / n, k % n)
+digits-before n i k h l = elim (decLt (i / n) (k / n)) [
+  | yes m ↦ inl m
+  | no m ↦ (
+      let c : i / n < suc (k / n) = div-lt-iff-lt-mul h .1 (rw (suc-mul (k / n) n) (omega (arith, div-add-mod' k n, mod-lt k h))) in
+      let e : i / n ≡ k / n = omega arith in
+      inr (e, omega (arith, div-add-mod' i n, div-add-mod' k n, ap (λ (q : ℕ). q * n) e)))
+]
 
 -- ---- the list of a relation's pairs
 
@@ -130,22 +149,27 @@ module _ (n : ℕ) (r : ℕ → ℕ → Bool) where
       let p = pairsBelow-out (n * n) i j t in
       (rw (p .row) at (row-lt n n (p .number) (p .inside)), rw (p .column) at (col-lt n n (p .number) (p .inside)), p .holds)
 
-  -- each pair stands there a single time: the next one is no earlier one
-  pairsBelow-single : (k : ℕ) → Single (pairsBelow n r k)
+  -- the pairs ascend: the next one is after all earlier ones
+  pairsBelow-ascend : 0 < n → (k : ℕ) → Ascending (pairsBelow n r k)
   unfolding pairsBelow
-  pairsBelow-single zero = λ i j h l e. not-suc-le-zero l
-  pairsBelow-single (suc k) = go (r (k / n) (k % n)) (pairsBelow-single k)
+  pairsBelow-ascend some zero = λ i j h l. absurd (not-suc-le-zero l)
+  pairsBelow-ascend some (suc k) = go (r (k / n) (k % n)) (pairsBelow-ascend some k)
     where
-      go : (b : Bool) → Single (pairsBelow n r k) → Single (pairsBelow n r k ++ cond b ((k / n, k % n) ∷ []) [])
-      go true once = single-snoc (pairsBelow n r k) (k / n, k % n) once (λ t.
-          let p = pairsBelow-out k (k / n) (k % n) t in
-          let e = pair-ext n (p .number) k (p .row) (p .column) in
-          omega (arith, p .inside))
-      go false once = rw (append-nil (pairsBelow n r k)) once
+      go : (b : Bool) → Ascending (pairsBelow n r k) → Ascending (pairsBelow n r k ++ cond b ((k / n, k % n) ∷ []) [])
+      go true up = ascending-snoc (pairsBelow n r k) (k / n, k % n) up (λ i h.
+          let p = pairsBelow-out k _ _ (linked-at (pairsBelow n r k) i h) in
+          subst₂ (λ (x y : ℕ). Before (x, y) (k / n, k % n)) (p .row) (p .column) (digits-before n (p .number) k some (p .inside)))
+      go false up = rw (append-nil (pairsBelow n r k)) up
 
-  pub pairsOf-single : Single (pairsOf n r)
+  pub pairsOf-ascend : Ascending (pairsOf n r)
   unfolding pairsOf
-  pairsOf-single = pairsBelow-single (n * n)
+  pairsOf-ascend i j h l =
+      let p = pairsOf-out _ _ (linked-at (pairsBelow n r (n * n)) j l) in
+      pairsBelow-ascend (omega (arith, p .0)) (n * n) i j h l
+
+  -- so each stands there a single time
+  pub pairsOf-single : Single (pairsOf n r)
+  pairsOf-single i j h l e = before-apart (pairsOf-ascend i j h l) e
 
   -- and there are as many as the relation holds
   pub length-pairsBelow : (k : ℕ) → length (pairsBelow n r k) ≡ count k (λ i. r (i / n) (i % n))

@@ -1,7 +1,9 @@
 -- Bounded "each", "some", "the first", "how many" and "the c-th"; the sum and the list of a function's values, and of a relation's pairs.
+use mathlib.Core.Path.{_≡_}
+use mathlib.Core.Logic.{_⊎_}
 use mathlib.Core.Bool.{Bool, true, false, cond}
 use mathlib.Core.List.{List, [], _∷_, _++_}
-use Prim.Native.Nat.{ℕ, zero, suc, _+_, _-_, _*_, _/_, _%_}
+use Prim.Native.Nat.{ℕ, zero, suc, _+_, _-_, _*_, _/_, _%_, _<_}
 use lib.Dec.{ltb, leb}
 use Rattle.theory.specs.Bools.{_&_, _or_, bit}
 
@@ -47,6 +49,10 @@ nth (suc n) p c = let r = nth n p c in cond (ltb c (count n p)) r n
 unfoldable pub tabulate : {A : Type 0} → ℕ → (ℕ → A) → List A
 tabulate zero f = []
 tabulate (suc n) f = f zero ∷ tabulate n (λ i. f (suc i))
+
+-- one pair before another: by the first number, then by the second
+abbrev pub Before : ℕ × ℕ → ℕ × ℕ → Type 0
+Before x y = (x .0 < y .0) ⊎ ((x .0 ≡ y .0) × (x .1 < y .1))
 
 -- the pairs of a relation among the first k of (0, 0), (0, 1), .., (n - 1, n - 1)
 unfoldable pub pairsBelow : ℕ → (ℕ → ℕ → Bool) → ℕ → List (ℕ × ℕ)
