@@ -130,14 +130,15 @@ pub fn classes(
 
 /// Writes order and classes as [`classes`] does, and the table of the quotient game into the output:
 /// a vertex for each class, and an edge from C to D if every member of C has a successor in D.
-/// Gives the table's size, whose vertices are the classes. The sequence of its edges is left open.
+/// The edges are listed by source class, then by target class, ascending: the game alone decides
+/// every word of the table. Gives the table's size, whose vertices are the classes.
 ///
 /// ```
 /// let game = [3, 3, 0, 1, 0, 0, 0, 1, 0, 1, 2, 1, 1, 1];
 /// let (mut marks, mut spare, mut classes, mut output) = ([0; 9], [0; 9], [0; 3], [0; 14]);
 /// let size = raskjomi::quotient(&game, &mut marks, &mut spare, &mut classes, &mut output)?;
 /// assert_eq!((size.vertices, size.edges), (2, 2));
-/// assert_eq!(output[..6], [2, 2, 0, 1, 0, 0]);
+/// assert_eq!(output[..size.words()], [2, 2, 0, 1, 0, 0, 0, 1, 1, 1]);
 /// # Ok::<(), raskjomi::Refusal>(())
 /// ```
 pub fn quotient(
@@ -151,8 +152,8 @@ pub fn quotient(
 }
 
 /// Writes as [`quotient`] does, but the reduced game: the quotient without its edges to little
-/// brothers, which its player has no use for. The winner from each vertex is the winner from the
-/// vertex's class in the reduced game.
+/// brothers, which its player has no use for. The edges are listed in the same order. The winner
+/// from each vertex is the winner from the vertex's class in the reduced game.
 ///
 /// ```
 /// // Vertex 0 is Even's and has edges to 1 and 2; 1 is below 2, so the edge to 1 goes.
@@ -160,6 +161,8 @@ pub fn quotient(
 /// let (mut marks, mut spare, mut classes, mut output) = ([0; 25], [0; 25], [0; 5], [0; 26]);
 /// let size = raskjomi::reduce(&game, &mut marks, &mut spare, &mut classes, &mut output)?;
 /// assert_eq!((size.vertices, size.edges), (5, 6));
+/// assert_eq!(output[..12], [5, 6, 2, 0, 0, 1, 4, 0, 0, 0, 0, 0]);
+/// assert_eq!(output[12..size.words()], [0, 1, 2, 2, 3, 4, 2, 3, 3, 4, 3, 4]);
 /// # Ok::<(), raskjomi::Refusal>(())
 /// ```
 pub fn reduce(

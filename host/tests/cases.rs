@@ -1,19 +1,19 @@
 //! The program `cases` prints a line for each of its cases: a name, then the verdict, and after a call
 //! that writes also the lent memory. The oracle, on the same input, gives the same text.
 
+#[path = "../oracle/tests/games/mod.rs"]
+mod games;
+
 mod common;
 
 use common::root;
+use games::{B, C, D};
 use oracle::{Answer, Memory, Oracle, Trap};
 use std::fmt::Display;
 use std::fs;
 
 const P1: [u16; 6] = [1, 1, 1, 1, 0, 0];
 const LACKING: [u16; 4] = [1, 0, 0, 0];
-const B: [u16; 14] = [3, 3, 0, 1, 0, 0, 0, 1, 0, 1, 2, 1, 1, 1];
-const C: [u16; 26] = [5, 7, 2, 0, 0, 1, 4, 0, 0, 0, 0, 0, 0, 0, 1, 2, 2, 3, 4, 1, 2, 3, 3, 4, 3, 4];
-const D: [u16; 30] =
-    [6, 8, 2, 0, 0, 1, 4, 2, 0, 0, 0, 0, 0, 0, 0, 0, 1, 2, 2, 3, 4, 5, 1, 2, 3, 3, 4, 3, 4, 2];
 /// 0 is Even's and 1 is Odd's, and both go to 2 and to 3, whose priorities differ.
 const MIXED_OWNERS: [u16; 22] = [4, 6, 0, 0, 1, 2, 0, 1, 0, 0, 0, 0, 1, 1, 2, 3, 2, 3, 2, 3, 2, 3];
 

@@ -6,7 +6,6 @@ mod baseline;
 mod measure;
 mod rows;
 
-use generator::sort_edges;
 use raskjomi::exports::{self, RaskjomiAnswer};
 use rows::{Row, Work};
 use std::time::Duration;
@@ -54,8 +53,6 @@ fn reduce_figures(game: Vec<u16>) -> Figures {
     let mut memory = Memory::for_game(&game);
     let [library, baseline] = [LIBRARY, BASELINE].map(|side| {
         let answer = memory.reduce(side, &game);
-        // The sequence of edges is free.
-        sort_edges(&mut memory.output);
         (answer, memory.clone())
     });
     assert!(library == baseline, "library and baseline differ");

@@ -18,4 +18,4 @@ pub use plans::{largest_plan, strategy_plan, unfolded, Plan};
 pub use relations::relation;
 pub use sample::{any_game, bent_plan, old_bytes, old_words};
 pub use solver::{solve, Solution};
-pub use table::{sort_edges, Table};
+pub use table::Table;

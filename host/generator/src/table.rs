@@ -85,17 +85,3 @@ impl Table {
         self
     }
 }
-
-/// Puts the edges of the table at the start of the words into ascending sequence, if there is a whole
-/// table. Repeats stay.
-pub fn sort_edges(words: &mut [u16]) {
-    let [n, m, ..] = *words else { return };
-    let (first, count) = (2 + 2 * n as usize, m as usize);
-    let Some(ends) = words.get_mut(first..first + 2 * count) else { return };
-    let (sources, targets) = ends.split_at_mut(count);
-    let mut edges: Vec<(u16, u16)> = sources.iter().copied().zip(targets.iter().copied()).collect();
-    edges.sort();
-    for (i, edge) in edges.into_iter().enumerate() {
-        (sources[i], targets[i]) = edge;
-    }
-}

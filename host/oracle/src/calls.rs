@@ -162,6 +162,7 @@ impl Oracle {
         if wanted == Output::Reduced {
             table = self.reduced_of(&table, &classes, &order);
         }
+        table = self.listed(&table);
         refuse_if(after.output.len() < table.words(), 24, table.words())?;
         self.write(&mut after.output, &table.table());
         *memory = after;

@@ -80,4 +80,24 @@ impl Oracle {
         let kept = quotient.edges.iter().copied().filter(|&(c, d)| !dropped(c, d));
         Game::new(quotient.priority.clone(), quotient.owner.clone(), kept.collect())
     }
+
+    /// The game of classes as its table lists it: by source class, then by target class, ascending.
+    pub fn listed(&self, game: &Game) -> Game {
+        let mut edges = Vec::new();
+        for (c, successors) in game.successors.iter().enumerate() {
+            let mut targets: Vec<usize> =
+                (0..game.n()).filter(|d| successors.contains(d)).collect();
+            if self.falls_for(Trap::TargetsDescending) {
+                targets.reverse();
+            }
+            if self.falls_for(Trap::LastTargetMissing) && targets.len() > 1 {
+                targets.pop();
+            }
+            edges.extend(targets.into_iter().map(|d| (c, d)));
+        }
+        if self.falls_for(Trap::TargetBeforeSource) {
+            edges.sort_by_key(|&(c, d)| (d, c));
+        }
+        Game::new(game.priority.clone(), game.owner.clone(), edges)
+    }
 }

@@ -59,6 +59,12 @@ pub enum Trap {
     LowestMemberDecides,
     /// The output's length is checked against the result, not the input.
     OutputByResult,
+    /// The edges of a class are listed by descending target.
+    TargetsDescending,
+    /// Edges are listed by target before source.
+    TargetBeforeSource,
+    /// The last edge of a class that has several is missing.
+    LastTargetMissing,
 
     /// Only positions that can be reached from position 0 are judged.
     ReachableOnly,
@@ -83,7 +89,7 @@ pub enum Trap {
 
 impl Trap {
     /// Every trap, those of document 01 first.
-    pub const ALL: [Trap; 35] = [
+    pub const ALL: [Trap; 38] = [
         Trap::SomeMemberHasEdge,
         Trap::LittleBrothersByProse,
         Trap::MixedRowsExchanged,
@@ -110,6 +116,9 @@ impl Trap {
         Trap::OwnerOfHighest,
         Trap::LowestMemberDecides,
         Trap::OutputByResult,
+        Trap::TargetsDescending,
+        Trap::TargetBeforeSource,
+        Trap::LastTargetMissing,
         Trap::ReachableOnly,
         Trap::OneAnswerEnough,
         Trap::LinkEndsTogether,

@@ -1,34 +1,18 @@
 //! The games of document 01, P1 to P14 among them, and the limits.
 
+mod games;
+
+use games::{B, C, D, TABLES};
 use oracle::{Answer, Memory, Oracle};
-
-const B: [u16; 14] = [3, 3, 0, 1, 0, 0, 0, 1, 0, 1, 2, 1, 1, 1];
-const EDGES_OF_C: [(u16, u16); 7] = [(0, 1), (0, 2), (1, 3), (2, 3), (2, 4), (3, 3), (4, 4)];
-
-fn table(priorities: &[u16], owners: &[u16], edges: &[(u16, u16)]) -> Vec<u16> {
-    let mut words = vec![priorities.len() as u16, edges.len() as u16];
-    words.extend(priorities.iter().chain(owners));
-    words.extend(edges.iter().map(|edge| edge.0));
-    words.extend(edges.iter().map(|edge| edge.1));
-    words
-}
-
-fn c() -> Vec<u16> {
-    table(&[2, 0, 0, 1, 4], &[0; 5], &EDGES_OF_C)
-}
-
-/// C with a vertex 5 of priority 2, Even's, with an edge to 2.
-fn d() -> Vec<u16> {
-    let edges = [&EDGES_OF_C[..], &[(5, 2)]].concat();
-    table(&[2, 0, 0, 1, 4, 2], &[0; 6], &edges)
-}
 
 /// A game of n vertices, each with the first m / n vertices as successors.
 fn regular(n: usize, m: usize) -> Vec<u16> {
     let degree = m / n;
-    let edges: Vec<(u16, u16)> =
-        (0..m).map(|i| ((i / degree) as u16, (i % degree) as u16)).collect();
-    table(&vec![0; n], &vec![0; n], &edges)
+    let mut words = vec![n as u16, m as u16];
+    words.extend(vec![0; 2 * n]);
+    words.extend((0..m).map(|i| (i / degree) as u16));
+    words.extend((0..m).map(|i| (i % degree) as u16));
+    words
 }
 
 fn refused(number: u32, place: usize) -> Answer {
@@ -45,20 +29,16 @@ fn memory_for(game: &[u16]) -> Memory {
     }
 }
 
-/// The edges of an output table of k vertices and e edges, sorted.
-fn edges(output: &[u16]) -> Vec<(u16, u16)> {
-    let (k, e) = (output[0] as usize, output[1] as usize);
-    let ends = &output[2 + 2 * k..2 + 2 * k + 2 * e];
-    let mut edges: Vec<(u16, u16)> = (0..e).map(|i| (ends[i], ends[e + i])).collect();
-    edges.sort();
-    edges
-}
-
-/// The reduced game's edges.
-fn reduced_edges(game: &[u16]) -> Vec<(u16, u16)> {
-    let mut memory = memory_for(game);
-    assert_eq!(Oracle::exact().reduce(game, &mut memory).number, 0);
-    edges(&memory.output)
+/// The words of quotient and reduced table; those beyond are old.
+fn tables(game: &[u16]) -> [Vec<u16>; 2] {
+    [Oracle::quotient, Oracle::reduce].map(|write| {
+        let mut memory = memory_for(game);
+        let answer = write(&Oracle::exact(), game, &mut memory);
+        assert_eq!(answer.number, 0);
+        let words = 2 + 2 * answer.vertices as usize + 2 * answer.edges as usize;
+        assert!(memory.output.split_off(words).iter().all(|&word| word == 7));
+        memory.output
+    })
 }
 
 #[test]
@@ -99,50 +79,47 @@ fn p8_game_b() {
     let answer = Oracle::exact().reduce(&B, &mut memory);
     assert_eq!(answer, Answer { classes: 2, vertices: 2, edges: 2, ..Answer::default() });
     assert_eq!(memory.marks, [1, 0, 1, 0, 1, 0, 1, 0, 1]);
-    assert_eq!(memory.output[..6], [2, 2, 0, 1, 0, 0]);
-    assert_eq!(edges(&memory.output), [(0, 1), (1, 1)]);
-    assert_eq!(memory.output[10..], [7; 4]);
+    assert_eq!(memory.output, [2, 2, 0, 1, 0, 0, 0, 1, 1, 1, 7, 7, 7, 7]);
 }
 
 #[test]
-fn p9_and_p10_game_c() {
-    let mut game = c();
-    let mut memory = memory_for(&game);
-    assert_eq!(Oracle::exact().order(&game, &mut memory).passes, 2);
+fn p9_game_c() {
+    let mut memory = memory_for(&C);
+    assert_eq!(Oracle::exact().order(&C, &mut memory).passes, 2);
     assert_eq!((memory.marks[5 + 2], memory.marks[2 * 5 + 1]), (1, 0));
-    let quotient = Oracle::exact().quotient(&game, &mut memory);
+    let quotient = Oracle::exact().quotient(&C, &mut memory);
     assert_eq!((quotient.classes, quotient.edges), (5, 7));
-    let mut kept = EDGES_OF_C.to_vec();
-    kept.remove(0);
-    assert_eq!(reduced_edges(&game), kept);
-    game[2 + 5] = 1;
-    let mut kept = EDGES_OF_C.to_vec();
-    kept.remove(1);
-    assert_eq!(reduced_edges(&game), kept);
+}
+
+#[test]
+fn p8_to_p10_and_d_word_by_word() {
+    for (game, quotient, reduced) in TABLES {
+        assert_eq!(tables(game), [quotient, reduced]);
+    }
 }
 
 #[test]
 fn p11_relation_of_one_pair() {
-    let mut memory = memory_for(&c());
+    let mut memory = memory_for(&C);
     memory.marks.fill(0);
-    assert_eq!(Oracle::exact().accept_relation(&c(), &memory), Answer::default());
+    assert_eq!(Oracle::exact().accept_relation(&C, &memory), Answer::default());
     memory.marks[2 * 5 + 1] = 1;
-    assert_eq!(Oracle::exact().accept_relation(&c(), &memory), refused(10, 11));
+    assert_eq!(Oracle::exact().accept_relation(&C, &memory), refused(10, 11));
 }
 
 #[test]
 fn p12_to_p14_plans() {
     let plan = [3, 3, 0, 2, 4, 0, 1, 2, 1, 2, 2];
-    assert_eq!(Oracle::exact().accept_plan(&c(), 0, &plan), Answer::default());
-    assert_eq!(Oracle::exact().accept_plan(&c(), 1, &plan), refused(15, 0));
+    assert_eq!(Oracle::exact().accept_plan(&C, 0, &plan), Answer::default());
+    assert_eq!(Oracle::exact().accept_plan(&C, 1, &plan), refused(15, 0));
     let one = [1, 1, 1, 1, 0, 0];
     assert_eq!(Oracle::exact().accept_plan(&one, 0, &[1, 1, 0, 0, 0]), refused(16, 0));
 }
 
 #[test]
 fn game_d() {
-    let mut memory = memory_for(&d());
-    let answer = Oracle::exact().quotient(&d(), &mut memory);
+    let mut memory = memory_for(&D);
+    let answer = Oracle::exact().quotient(&D, &mut memory);
     assert_eq!(memory.classes, [0, 1, 2, 3, 4, 0]);
     assert_eq!(answer, Answer { classes: 5, vertices: 5, edges: 6, ..Answer::default() });
 }

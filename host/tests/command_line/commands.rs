@@ -1,6 +1,7 @@
 //! Each command and each output form.
 
 use crate::common::root;
+use crate::games::{B, C, D, TABLES};
 use crate::run::{bytes, file, numbers, run, run_on, shipped, words};
 use oracle::{Memory, Oracle};
 use std::process::Command;
@@ -24,6 +25,11 @@ fn expected(command: &str, name: &str) -> Memory {
     assert_eq!(answer.number, 0);
     memory.output.truncate(2 + 2 * answer.vertices as usize + 2 * answer.edges as usize);
     memory
+}
+
+#[test]
+fn shipped_games_are_the_documents() {
+    assert_eq!(["b.txt", "c.txt", "d.txt"].map(shipped), [&B[..], &C, &D]);
 }
 
 #[test]
@@ -103,14 +109,29 @@ fn tables_in_each_form() {
             assert_eq!(sizes(from_text), sizes(from_binary), "both forms are read back");
         }
     }
-    assert_eq!(numbers(&run(&["quotient", "games/d.txt"]).text())[..2], [5, 6]);
-    let c = shipped("c.txt");
-    let reduced = numbers(&run(&["reduce", "games/c.txt"]).text());
-    assert_eq!(reduced[..2], [5, 6]);
-    assert_eq!(reduced[2..12], c[2..12], "priorities and owners");
-    assert_eq!(reduced[12..], [0, 1, 2, 2, 3, 4, 2, 3, 3, 4, 3, 4], "all edges but 0 to 1");
+    for (game, quotient, reduced) in TABLES {
+        let write = |command| words(&run_on(&[command, "--as", "words"], &bytes(game)).bytes());
+        assert_eq!(["quotient", "reduce"].map(write), [quotient, reduced]);
+    }
     let dot = run(&["reduce", "games/d.txt", "--as", "dot"]).text();
     assert_eq!(dot, run(&["dot", "games/d.txt", "--reduced"]).text());
+}
+
+#[test]
+fn edges_by_source_then_target() {
+    // Each vertex has a priority of its own, and the edges come by descending source and target.
+    let game = b"3 6 / 0 1 2 / 0 0 0 / 2 2 1 1 0 0 / 1 0 2 1 2 0";
+    let listed = "# sources of the edges\n0 0 1 1 2 2\n# targets of the edges\n0 2 1 2 0 1\n";
+    for command in ["quotient", "reduce"] {
+        let text = run_on(&[command], game).text();
+        assert!(text.ends_with(listed), "{text}");
+        let dot = run_on(&[command, "--as", "dot"], game).text();
+        let edges: Vec<&str> = dot.lines().filter(|line| line.contains("->")).collect();
+        let expected = ["0 -> 0", "0 -> 2", "1 -> 1", "1 -> 2", "2 -> 0", "2 -> 1"];
+        assert_eq!(edges, expected.map(|edge| format!("  {edge};")));
+        let help = run(&[command, "--help"]).text().replace('\n', " ");
+        assert!(help.contains("edges are listed by source, then by target, ascending"), "{help}");
+    }
 }
 
 #[test]

@@ -2,6 +2,8 @@
 
 #[path = "../common/mod.rs"]
 mod common;
+#[path = "../../oracle/tests/games/mod.rs"]
+mod games;
 
 mod commands;
 mod errors;

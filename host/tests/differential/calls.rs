@@ -1,6 +1,5 @@
 //! One call, made of the library and of the oracle.
 
-use generator::sort_edges;
 use oracle::{Answer, Memory, Oracle};
 use raskjomi::exports::{self, RaskjomiAnswer};
 use raskjomi::{Refusal, Size};
@@ -84,7 +83,7 @@ impl Case {
             Call::Reduce => oracle.reduce(game, &mut memory),
             Call::AcceptPlan => oracle.accept_plan(game, self.player, &self.plan),
         };
-        sorted(self.call, Outcome { answer, memory })
+        Outcome { answer, memory }
     }
 
     /// The outcome by the library's export. Lent memory stands between guards, which the call may
@@ -111,7 +110,7 @@ impl Case {
             classes: classes.content(),
             output: output.content(),
         };
-        sorted(self.call, Outcome { answer: plain(answer), memory })
+        Outcome { answer: plain(answer), memory }
     }
 
     /// The counts that the safe function hands on, or its refusal, as an answer.
@@ -147,15 +146,6 @@ impl Case {
 fn plain(answer: RaskjomiAnswer) -> Answer {
     let RaskjomiAnswer { number, passes, classes, vertices, edges, place } = answer;
     Answer { number, passes, classes, vertices, edges, place }
-}
-
-/// The outcome with the edges of its written table in ascending sequence, which is left free.
-/// Since repeats stay, equal outcomes have each edge as often.
-fn sorted(call: Call, mut outcome: Outcome) -> Outcome {
-    if outcome.answer.number == 0 && matches!(call, Call::Quotient | Call::Reduce) {
-        sort_edges(&mut outcome.memory.output);
-    }
-    outcome
 }
 
 /// A buffer inside a larger one whose ends must stay as they are.

@@ -8,6 +8,7 @@ mod agreement;
 mod calls;
 mod limits;
 mod samples;
+mod tables;
 mod threads;
 mod traps;
 mod winners;

@@ -3,7 +3,7 @@
 use crate::failure::Failure;
 use crate::input::{Input, Unit};
 use crate::locate::game_refused;
-use crate::table::{sort_edges, Table};
+use crate::table::Table;
 use raskjomi::{Refusal, Size};
 
 /// A game that the reader accepts.
@@ -18,7 +18,7 @@ pub struct Order {
     pub passes: u32,
 }
 
-/// The class of each vertex, and a table of the classes with its edges sorted.
+/// The class of each vertex, and a table of the classes.
 pub struct Merged {
     pub classes: Vec<u16>,
     words: Vec<u16>,
@@ -71,7 +71,6 @@ impl Game {
         let (mut marks, mut spare) = self.marks();
         let (mut classes, mut words) = (vec![0; self.size.vertices], vec![0; self.size.words()]);
         self.told(write(&self.input.numbers, &mut marks, &mut spare, &mut classes, &mut words))?;
-        sort_edges(&mut words);
         Ok(Merged { classes, words })
     }
 

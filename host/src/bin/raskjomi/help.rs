@@ -44,8 +44,9 @@ const MORE: &str =
      builds what has changed; all of it takes 2 to 3 minutes on two idle cores.";
 
 /// The output of the commands that write a game.
-const TABLES: &str = "Text and words are game tables, which every command reads. Dot: a picture \
-                      of it, with the members of each class.";
+const TABLES: &str = "Text and words are game tables, which every command reads. The edges are \
+                      listed by source, then by target, ascending. Dot: a picture of the game, \
+                      with the members of each class.";
 
 /// The commands, in the sequence of the help.
 pub const COMMANDS: [Command; 9] = [

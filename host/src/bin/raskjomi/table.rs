@@ -49,15 +49,3 @@ impl<'a> Table<'a> {
         sources.iter().copied().zip(targets.iter().copied())
     }
 }
-
-/// Puts the edges of a table into ascending sequence; the library leaves theirs open.
-pub fn sort_edges(words: &mut [u16]) {
-    let table = Table::new(words);
-    let (first, count) = (2 + 2 * table.n(), table.m());
-    let mut edges: Vec<(u16, u16)> = table.edges().collect();
-    edges.sort();
-    for (i, (source, target)) in edges.into_iter().enumerate() {
-        words[first + i] = source;
-        words[first + count + i] = target;
-    }
-}
