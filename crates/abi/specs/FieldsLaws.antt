@@ -64,8 +64,7 @@ pub tabulation-small : (K : Game → Game) → ((g : Game) → K g .n ≤ g .n) 
 unfolding tableRows gameOf
 tabulation-small K size edges game marks spare classes output (Tabulation.Accepted counts) marks′ spare′ classes′ output′ call =
     let a = judge-accepted (tableRows game marks spare classes output) _ _ (sym (call .verdict)) in
-    let well = classes-well game marks spare classes (clean-split (classRows game marks spare classes) _ (a .0) .0) in
-    (
+    let well = classes-well game marks spare classes (clean-split (classRows game marks spare classes) _ (a .0) .0) in (
       omega (arith, first-count (a .1), total-le game, well .vertices),
       omega (arith, second-count (a .1), size (gameOf game), well .vertices),
       omega (arith, third-count (a .1), edges (gameOf game), edges-listed game, well .edges),
