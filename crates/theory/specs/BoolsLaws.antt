@@ -2,7 +2,7 @@
 use mathlib.Core.Path.{_≡_, refl, sym, _∙_}
 use mathlib.Core.Logic.{_⊎_, inl, inr}
 use mathlib.Core.Bool.{Bool, true, false, not, So, cond, true≢false, false≢true}
-use Prim.Native.Nat.{_≤_, _<_, zero-le}
+use Prim.Native.Nat.{_+_, _≤_, _<_, zero-le}
 use native.Mathlib.Nat.{le-refl}
 use native.Mathlib.Omega.{arith}
 use lib.Dec.{eqb, leb}
@@ -127,6 +127,12 @@ pub bit-not : (b : Bool) → cond b 0 1 ≡ bit (not b)
 unfolding bit
 bit-not true = refl
 bit-not false = refl
+
+-- one more, unless it was there
+pub bit-add : (b : Bool) → bit (b or true) ≡ bit b + bit (not b)
+unfolding bit _or_
+bit-add true = refl
+bit-add false = refl
 
 -- read back
 pub bit-is-one : (b : Bool) → eqb (bit b) 1 ≡ b

@@ -10,8 +10,8 @@ use native.Mathlib.Omega.{arith}
 use lib.Arith.{digits-div, digits-mod}
 use lib.Dec.{eqb, ltb}
 use borrow.Author.Tests.{eqb-true, eq-eqb, ne-eqb, ltb-true, ltb-false, lt-ltb, le-ltb}
-use Rattle.theory.specs.Bools.{_&_, bit}
-use Rattle.theory.specs.BoolsLaws.{decide, clash, So-ext, and-in, and-out, and-fails, bit-mono, bit-less}
+use Rattle.theory.specs.Bools.{_&_, _or_, bit}
+use Rattle.theory.specs.BoolsLaws.{decide, clash, So-ext, and-in, and-out, and-fails, or-false, bit-add, bit-mono, bit-less}
 use Rattle.theory.specs.Range.{anyBelow, count, nth}
 use Rattle.theory.specs.RangeLaws.{below-suc, any-in, any-out}
 
@@ -92,6 +92,20 @@ count-inject (suc N) M p q Partner f u = go (p N) refl (λ q f. count-inject N M
         (s .0, s .1, and-in (s .2) (ap not (ne-eqb (s .0) (r .0) ne)), s .3)) in
         let b = count-less M q′ q (λ i h t. and-out t .0) (r .0) (r .1) (and-fails (q (r .0)) _ (ap not (eq-eqb (r .0) (r .0) refl))) (r .2) in
         omega arith
+
+-- one number more that passes: it is counted unless it passed before
+pub count-add : (n : ℕ) (p : ℕ → Bool) (x : ℕ) → x < n → count n (λ i. p i or eqb x i) ≡ count n p + bit (not (p x))
+unfolding count
+count-add zero p x h = absurd (not-suc-le-zero h)
+count-add (suc n) p x h =
+    below-suc (λ (x : ℕ). count n (λ i. p i or eqb x i) + bit (p n or eqb x n) ≡ count n p + bit (p n) + bit (not (p x)))
+    (λ x l. rw (ne-eqb x n (below-apart l), or-false (p n)) (omega (arith, count-add n p x l)))
+    (rw (eq-eqb n n refl)
+    (omega (arith, bit-add (p n), count-ext n (λ i. p i or eqb n i) p (λ i l. rw (ne-eqb n i (λ e. below-apart l (sym e))) (or-false (p i))))))
+    x h
+  where
+    below-apart : {x n : ℕ} → x < n → x ≡ n → ⊥
+    below-apart l e = omega arith
 
 pub count-grows : (n m : ℕ) (p : ℕ → Bool) → n ≤ m → count n p ≤ count m p
 count-grows n m p h = count-inject n m p p (λ i j. i ≡ j) (λ i l t. (i, omega arith, t, refl)) (λ i i′ j l l′ k e e′. e ∙ sym e′)

@@ -180,3 +180,13 @@ module _ (n : ℕ) (r : ℕ → ℕ → Bool) where
       go : (b : Bool) {c : ℕ} → length (pairsBelow n r k) ≡ c → length (pairsBelow n r k ++ cond b ((k / n, k % n) ∷ []) []) ≡ c + bit b
       go true e = omega (arith, length-append (pairsBelow n r k) ((k / n, k % n) ∷ []))
       go false e = omega (arith, length-append (pairsBelow n r k) [])
+
+-- it goes by the values of the relation
+pairsBelow-ext : (n : ℕ) (r s : ℕ → ℕ → Bool) (k : ℕ) → ((i : ℕ) → i < k → r (i / n) (i % n) ≡ s (i / n) (i % n)) → pairsBelow n r k ≡ pairsBelow n s k
+unfolding pairsBelow
+pairsBelow-ext n r s zero h = refl
+pairsBelow-ext n r s (suc k) h = rw (pairsBelow-ext n r s k (λ i l. h i (omega arith)), h k (omega arith))
+
+pub pairsOf-ext : (n : ℕ) (r s : ℕ → ℕ → Bool) → ((i j : ℕ) → i < n → j < n → r i j ≡ s i j) → pairsOf n r ≡ pairsOf n s
+unfolding pairsOf
+pairsOf-ext n r s h = pairsBelow-ext n r s (n * n) (λ i l. h (i / n) (i % n) (row-lt n n i l) (col-lt n n i l))

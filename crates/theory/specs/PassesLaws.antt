@@ -1,17 +1,17 @@
 -- Passes over any test: marks only fall, so the passes settle; what is left is the largest set inside the start set on which the test
 -- holds. Each pass before the last loses a mark, which bounds their count.
-use mathlib.Core.Path.{_≡_, refl, sym, _∙_, subst₂}
+use mathlib.Core.Path.{_≡_, refl, sym, ap, _∙_, subst₂}
 use mathlib.Core.Bool.{Bool, true, false, So}
 use Prim.Native.Nat.{ℕ, zero, suc, _+_, _*_, _/_, _%_, _≤_, _<_}
 use native.Mathlib.Omega.{arith}
 use lib.Arith.{digits-lt, digits-div, digits-mod}
 use lib.ListN.{length}
-use Rattle.theory.specs.Bools.{_&_}
+use Rattle.theory.specs.Bools.{_&_, imp}
 use Rattle.theory.specs.BoolsLaws.{and-in, and-out, and-fails, imp-out, imp-fails}
 use Rattle.theory.specs.Range.{count}
-use Rattle.theory.specs.RangeLaws.{all-out, all-fails, first-before, first-passes}
+use Rattle.theory.specs.RangeLaws.{all-out, all-fails, all-ext, first-before, first-passes, first-ext}
 use Rattle.theory.specs.CountLaws.{count-all, count-le, count-mono, count-less, count-inject, row-lt, col-lt, digits-one}
-use Rattle.theory.specs.ListLaws.{length-tabulate, getD-tabulate}
+use Rattle.theory.specs.ListLaws.{length-tabulate, getD-tabulate, tabulate-ext}
 use Rattle.theory.specs.Passes.{marked, Test, nextPass, pass, settled, rounds, passCount, finalMarks, Rel, relOf, pairStart, pairTest, largest}
 
 module _ (N : ℕ) (ok : Test) (start : ℕ → Bool) where
@@ -96,6 +96,31 @@ module _ (N : ℕ) (ok : Test) (start : ℕ → Bool) where
     pub final-contains : (i : ℕ) → i < N → H i → So (marked (finalMarks N ok start) i)
     unfolding finalMarks
     final-contains = pass-contains (rounds N ok start)
+
+-- ---- passes go by the values of the test and of the start set
+
+module _ (N : ℕ) (ok ok′ : Test) (start start′ : ℕ → Bool)
+    (starts : (i : ℕ) → i < N → start i ≡ start′ i) (tests : (m : ℕ → Bool) (i : ℕ) → i < N → ok m i ≡ ok′ m i) where
+  pass-ext : (k : ℕ) → pass N ok start k ≡ pass N ok′ start′ k
+  unfolding pass nextPass
+  pass-ext zero = tabulate-ext N start start′ starts
+  pass-ext (suc k) = tabulate-ext N _ _ (λ i h. ap (_&_ (marked (pass N ok start k) i)) (tests (marked (pass N ok start k)) i h)) ∙ ap (nextPass N ok′) (pass-ext k)
+
+  settled-ext : (k : ℕ) → settled N ok (pass N ok start k) ≡ settled N ok′ (pass N ok′ start′ k)
+  unfolding settled
+  settled-ext k = all-ext N _ _ (λ i h. ap (imp (marked (pass N ok start k) i)) (tests (marked (pass N ok start k)) i h)) ∙ ap (settled N ok′) (pass-ext k)
+
+  rounds-ext : rounds N ok start ≡ rounds N ok′ start′
+  unfolding rounds
+  rounds-ext = first-ext _ _ 0 (suc N) (λ k l h. settled-ext k)
+
+  pub passCount-ext : passCount N ok start ≡ passCount N ok′ start′
+  unfolding passCount
+  passCount-ext = ap suc rounds-ext
+
+  pub finalMarks-ext : finalMarks N ok start ≡ finalMarks N ok′ start′
+  unfolding finalMarks
+  finalMarks-ext = pass-ext (rounds N ok start) ∙ ap (pass N ok′ start′) rounds-ext
 
 -- ---- the same over pairs of a number below n₁ and one below n₂
 

@@ -55,6 +55,12 @@ all-fails (suc n) p e = go (decide (allBelow n p)) (all-fails n p)
     go (inl a) ih = (n, omega arith, subst (λ (b : Bool). b & p n ≡ false) a e)
     go (inr a) ih = let x = ih a in (x .0, omega arith, x .2)
 
+-- it goes by the values of the test
+pub all-ext : (n : ℕ) (p q : ℕ → Bool) → ((i : ℕ) → i < n → p i ≡ q i) → allBelow n p ≡ allBelow n q
+unfolding allBelow
+all-ext zero p q h = refl
+all-ext (suc n) p q h = ap₂ _&_ (all-ext n p q (λ i l. h i (omega arith))) (h n (omega arith))
+
 -- one number more
 pub all-more : (n : ℕ) (p : ℕ → Bool) → allBelow (n + 1) p ≡ allBelow n p & p n
 unfolding allBelow
