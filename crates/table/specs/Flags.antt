@@ -5,7 +5,7 @@ use mathlib.Core.List.{List}
 use Prim.Native.Nat.{ℕ, _+_, _*_, _≤_, _<_}
 use lib.Dec.{eqb, leb}
 use lib.ListN.{length, getD}
-use Rattle.theory.specs.Range.{anyBelow}
+use Rattle.theory.specs.Range.{anyBelow, count}
 use Rattle.table.specs.Limits.{vertexLimit, edgeLimit}
 use Rattle.table.specs.Table.{vertexCount, tableEdges, sourceAt, targetAt, tableLength}
 
@@ -36,3 +36,7 @@ pub record Filled (x : ℕ) (flags : List ℕ) : Type 0 where
 -- flag i is y if some number k below j has index i, and x otherwise
 pub record Flagged (x y : ℕ) (index : ℕ → ℕ) (j : ℕ) (flags : List ℕ) : Type 0 where
   pub at : (i : ℕ) → i < length flags → getD flags i 0 ≡ cond (anyBelow j (λ k. eqb (index k) i)) y x
+
+-- how many pairs of vertices are flagged after the edges below j: the different ones among them
+unfoldable pub differentBelow : List ℕ → ℕ → ℕ
+differentBelow g j = count (vertexCount g * vertexCount g) (λ i. anyBelow j (λ k. eqb (edgeNumber g k) i))

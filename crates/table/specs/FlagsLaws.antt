@@ -1,9 +1,9 @@
 -- Laws of the reader's flags and of edge numbers.
 use mathlib.Core.Path.{_≡_, refl, sym, ap, _∙_}
-use mathlib.Core.Bool.{cond}
+use mathlib.Core.Bool.{cond, not}
 use mathlib.Core.List.{List}
-use Prim.Native.Nat.{ℕ, _+_, _*_, _≤_, _<_}
-use native.Mathlib.Nat.{mul-le-mul}
+use Prim.Native.Nat.{ℕ, _+_, _*_, _/_, _%_, _≤_, _<_}
+use native.Mathlib.Nat.{mul-le-mul, div-add-mod'}
 use native.Mathlib.Decide.{ℕ-discrete}
 use native.Mathlib.Omega.{arith}
 use lib.Arith.{digits-lt}
@@ -12,15 +12,16 @@ use lib.ListN.{length, getD, set, replicate, length-set, length-replicate, getD-
 use lib.Seq.{getD-set-same, getD-set-other}
 use borrow.Author.Tests.{eq-eqb, ne-eqb, leb-false}
 use Rattle.theory.specs.Bools.{bit}
-use Rattle.theory.specs.BoolsLaws.{bit-cond, bit-not, bit-is-some}
+use Rattle.theory.specs.BoolsLaws.{bit-le, bit-either, bit-cond, bit-not, bit-is-some}
 use Rattle.theory.specs.Range.{anyBelow, first, tabulate}
-use Rattle.theory.specs.RangeLaws.{any-in, any-ext, any-same, first-before, first-ext}
-use Rattle.theory.specs.CountLaws.{digits-same}
+use Rattle.theory.specs.RangeLaws.{any-in, any-ext, any-more, any-same, first-before, first-ext}
+use Rattle.theory.specs.CountLaws.{count-ext, count-none, count-add, col-lt, digits-same}
 use Rattle.theory.specs.ListLaws.{tabulate-by, getD-tabulate}
+use Rattle.theory.specs.Game.{edgeCount}
 use Rattle.table.specs.Limits.{vertexLimit, pairLimit}
-use Rattle.table.specs.Table.{vertexCount, tableEdges, sourceAt, targetAt, tableLength, isEdge}
-use Rattle.table.specs.Reading.{repeatsEarlier, lacksEdge, firstEnd, firstLacking}
-use Rattle.table.specs.Flags.{atLeast, Sized, EndsInside, edgeNumber, Filled, Flagged}
+use Rattle.table.specs.Table.{vertexCount, tableEdges, sourceAt, targetAt, tableLength, isEdge, gameOf}
+use Rattle.table.specs.Reading.{lacksEdge, firstEnd, firstLacking}
+use Rattle.table.specs.Flags.{atLeast, Sized, EndsInside, edgeNumber, Filled, Flagged, differentBelow}
 
 -- ---- flags
 
@@ -39,6 +40,12 @@ module _ (x y : ℕ) (index : ℕ → ℕ) where
       go : (i : ℕ) → i < length flags → Dec (index j ≡ i) → getD (set flags (index j) y) i 0 ≡ cond (anyBelow (j + 1) (λ k. eqb (index k) i)) y x
       go i m (yes e) = rw (any-in (j + 1) (λ k. eqb (index k) i) j (omega arith) (eq-eqb (index j) i e), ← e) (getD-set-same flags (index j) y 0 l)
       go i m (no d) = rw (any-same j (λ k. eqb (index k) i) (ne-eqb (index j) i d)) (getD-set-other flags (index j) i y 0 (λ e. d (sym e)) ∙ h .at i m)
+
+-- ---- no edge yet, none different
+
+pub different-none : (g : List ℕ) → 0 ≡ differentBelow g 0
+unfolding differentBelow anyBelow
+different-none g = sym (count-none _ _ (λ i h. refl))
 
 -- ---- edge ends and edge numbers
 
@@ -71,11 +78,35 @@ module _ (g : List ℕ) (n m : ℕ) (s : Sized g n m) (h : EndsInside g) where
   edge-number-lt j l =
       pair-lt (vertexCount g) (sourceAt g j) (targetAt g j) (omega arith) (h .sources j (omega arith)) (h .targets j (omega arith))
 
-  -- the flag of edge j, after the edges before it, tells whether it repeats one of them
-  pub seen-flag : (j : ℕ) (flags : List ℕ) → j < m → edgeNumber g j < length flags → Flagged 0 1 (edgeNumber g) j flags
-      → getD flags (edgeNumber g j) 0 ≡ bit (repeatsEarlier g j)
-  unfolding repeatsEarlier edgeNumber
-  seen-flag j flags l b f = pair-flag g flags j (λ i k. h .targets i (omega arith)) f (sourceAt g j) (targetAt g j) (h .targets j (omega arith)) b
+  -- ---- different edges: an edge is counted unless its flag is set, and all edges flag as many pairs as the game has edges
+
+  edge-pair-lt : (j : ℕ) → j < m → edgeNumber g j < vertexCount g * vertexCount g
+  unfolding edgeNumber
+  edge-pair-lt j l = digits-lt (h .sources j (omega arith)) (h .targets j (omega arith))
+
+  -- one edge more
+  different-more : (j : ℕ) → j < m → differentBelow g (j + 1) ≡ differentBelow g j + bit (not (anyBelow j (λ k. eqb (edgeNumber g k) (edgeNumber g j))))
+  unfolding differentBelow
+  different-more j l =
+      count-ext (vertexCount g * vertexCount g) _ _ (λ i b. any-more j (λ k. eqb (edgeNumber g k) i))
+      ∙ count-add (vertexCount g * vertexCount g) (λ i. anyBelow j (λ k. eqb (edgeNumber g k) i)) (edgeNumber g j) (edge-pair-lt j l)
+
+  pub different-step : (j : ℕ) (flags : List ℕ) → j < m → edgeNumber g j < length flags → Flagged 0 1 (edgeNumber g) j flags
+      → let flag = getD flags (edgeNumber g j) 0 in (differentBelow g (j + 1) + flag ≡ differentBelow g j + 1) × (flag ≤ 1)
+  different-step j flags l b f =
+      let seen = anyBelow j (λ k. eqb (edgeNumber g k) (edgeNumber g j)) in
+      let e = f .at (edgeNumber g j) b ∙ bit-cond seen in
+      (omega (arith, different-more j l, e, bit-either seen), omega (arith, e, bit-le seen))
+
+  pub different-all : differentBelow g m ≡ edgeCount (gameOf g)
+  unfolding differentBelow edgeCount gameOf edgeNumber isEdge
+  different-all =
+      let n = vertexCount g in
+      rw (s .edges)
+      (count-ext (n * n) _ _ (λ i b.
+      any-ext (tableEdges g) _ _ (λ k l.
+      ap (eqb (sourceAt g k * n + targetAt g k)) (sym (div-add-mod' i n))
+      ∙ digits-same n (sourceAt g k) (targetAt g k) (i / n) (i % n) (h .targets k l) (col-lt n n i b))))
 
 -- ---- what the reader knows after its rows 4 and 6
 

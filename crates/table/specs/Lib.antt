@@ -9,6 +9,8 @@ pub mod Reading
 pub mod ReadingRules
 pub mod WellFormed
 pub mod ReadingLaws
+pub mod SameGame
+pub mod SameGameLaws
 pub mod Kind
 pub mod KindLaws
 pub mod Flags

@@ -1,4 +1,4 @@
--- The reader's table of refusals, 1 to 8.
+-- The reader's table of refusals, 1 to 6 and 8. Parallel edges count as one, so 7 does not occur.
 use mathlib.Core.Bool.{Bool, not}
 use mathlib.Core.List.{List, [], _∷_}
 use Prim.Native.Nat.{ℕ, _+_, _*_}
@@ -6,16 +6,13 @@ use lib.Dec.{eqb, ltb, leb}
 use lib.ListN.{length, getD}
 use Rattle.theory.specs.Bools.{_or_}
 use Rattle.theory.specs.Range.{anyBelow, first}
+use Rattle.theory.specs.Game.{edgeCount}
 use Rattle.table.specs.Limits.{vertexLimit, edgeLimit}
-use Rattle.table.specs.Table.{vertexCount, tableEdges, sourceAt, targetAt, tableLength, isEdge}
+use Rattle.table.specs.Table.{vertexCount, tableEdges, sourceAt, tableLength, gameOf}
 use Rattle.table.specs.Verdict.{Row, row, Answer, accepted, refused, judge}
 use Rattle.table.specs.declared.Refusal.{Refusal}
 use Rattle.table.specs.declared.Reading.{Reading}
 use Rattle.table.specs.declared.Reading.the-variants.{Accepted, Refused}
-
--- edge j equals an earlier one
-unfoldable pub repeatsEarlier : List ℕ → ℕ → Bool
-repeatsEarlier g j = anyBelow j (isEdge g (sourceAt g j) (targetAt g j))
 
 -- vertex v has no edge out
 unfoldable pub lacksEdge : List ℕ → ℕ → Bool
@@ -28,10 +25,6 @@ firstOwner g = first (λ k. ltb 1 (getD g k 0)) (2 + vertexCount g) (2 + 2 * ver
 -- 6: an edge end not below n, its first word
 unfoldable pub firstEnd : List ℕ → ℕ
 firstEnd g = first (λ k. leb (vertexCount g) (getD g k 0)) (2 + 2 * vertexCount g) (tableLength (vertexCount g) (tableEdges g))
-
--- 7: the first edge equal to an earlier one
-unfoldable pub firstRepeat : List ℕ → ℕ
-firstRepeat g = first (repeatsEarlier g) 0 (tableEdges g)
 
 -- 8: the lowest vertex without an edge out
 unfoldable pub firstLacking : List ℕ → ℕ
@@ -47,20 +40,19 @@ gameRowsBy unfit g =
     ∷ row 4 (unfit (length g) (tableLength (vertexCount g) (tableEdges g))) (length g)
     ∷ row 5 (ltb (firstOwner g) (2 + 2 * vertexCount g)) (firstOwner g)
     ∷ row 6 (ltb (firstEnd g) (tableLength (vertexCount g) (tableEdges g))) (firstEnd g)
-    ∷ row 7 (ltb (firstRepeat g) (tableEdges g)) (2 + 2 * vertexCount g + firstRepeat g)
     ∷ row 8 (ltb (firstLacking g) (vertexCount g)) (firstLacking g)
     ∷ []
 
 abbrev pub gameRows : List ℕ → List Row
 gameRows g = gameRowsBy (λ size needed. not (eqb size needed)) g
 
--- the reader's answer: accepted with n and m
+-- the reader's answer: accepted with n, m and the number of different edges
 unfoldable pub readAnswer : List ℕ → Answer
-readAnswer g = judge (gameRows g) (vertexCount g ∷ tableEdges g ∷ [])
+readAnswer g = judge (gameRows g) (vertexCount g ∷ tableEdges g ∷ edgeCount (gameOf g) ∷ [])
 
 -- what the cases of the reader's verdict say
 abbrev pub readingAnswer : Reading → Answer
-readingAnswer (Accepted c) = accepted (c .vertices ∷ c .edges ∷ [])
+readingAnswer (Accepted c) = accepted (c .vertices ∷ c .edges ∷ c .different ∷ [])
 readingAnswer (Refused f) = refused (f .number) (f .place)
 
 -- the refusal in the verdict, for a call to hand on; number 0 where there is none

@@ -12,17 +12,18 @@ use lib.Dec.{eqb, ltb, leb}
 use lib.ListN.{length, getD}
 use borrow.Author.Tests.{ltb-true, lt-ltb, leb-true, le-leb, eqb-true, eqb-false, eq-eqb, ne-eqb, not-false}
 use Rattle.theory.specs.Bools.{_or_}
-use Rattle.theory.specs.BoolsLaws.{decide, So-not, not-in, not-out, and-in, and-out, or-left, or-right, or-out}
+use Rattle.theory.specs.BoolsLaws.{decide, So-not, not-in, not-out, or-left, or-right, or-out}
 use Rattle.theory.specs.Range.{anyBelow}
-use Rattle.theory.specs.RangeLaws.{any-in, any-out, any-fails}
+use Rattle.theory.specs.RangeLaws.{any-out, any-fails}
+use Rattle.theory.specs.Game.{edgeCount}
 use Rattle.table.specs.Limits.{vertexLimit, edgeLimit}
-use Rattle.table.specs.Table.{vertexCount, tableEdges, ownerAt, sourceAt, targetAt, tableLength, isEdge}
+use Rattle.table.specs.Table.{vertexCount, tableEdges, ownerAt, sourceAt, tableLength, gameOf}
 use Rattle.table.specs.Verdict.{Row, accepted, refused, judge, Clean}
 use Rattle.table.specs.Rules.{Some, FirstRule, NoRule, no-rule, fails, Rendered, none, next}
 use Rattle.table.specs.VerdictLaws.{judge-accepted, judge-clean, judge-past, judge-stays}
 use Rattle.table.specs.RulesLaws.{renders-placed, renders-first, refused-by, clean-none, none-clean}
-use Rattle.table.specs.Reading.{repeatsEarlier, lacksEdge, firstOwner, firstEnd, firstRepeat, firstLacking, gameRowsBy, gameRows, readAnswer, readingAnswer}
-use Rattle.table.specs.ReadingRules.{Repeats, Lacks, gameRulesBy, gameRules}
+use Rattle.table.specs.Reading.{lacksEdge, firstOwner, firstEnd, firstLacking, gameRowsBy, gameRows, readAnswer, readingAnswer}
+use Rattle.table.specs.ReadingRules.{Lacks, gameRulesBy, gameRules}
 use Rattle.table.specs.WellFormed.{WellFormed, WellSized}
 use Rattle.table.specs.declared.Sizes.{Sizes}
 use Rattle.table.specs.declared.Refusal.{Refusal}
@@ -39,13 +40,6 @@ bad-count n = (
 differs : (a b : ℕ) → So (not (eqb a b)) ↔ (a ≢ b)
 differs a b = (λ h. eqb-false a b (not-out h), λ d. not-in (ne-eqb a b d))
 
-repeats : (g : List ℕ) (j : ℕ) → So (repeatsEarlier g j) ↔ Repeats g j
-unfolding repeatsEarlier isEdge
-repeats g j = (
-  λ h. let r = any-out h in let e = and-out (r .2) in (r .0, r .1, eqb-true (sourceAt g (r .0)) (sourceAt g j) (e .0), eqb-true (targetAt g (r .0)) (targetAt g j) (e .1)),
-  λ r. any-in j _ (r .0) (r .1) (and-in (eq-eqb (sourceAt g (r .0)) (sourceAt g j) (r .2)) (eq-eqb (targetAt g (r .0)) (targetAt g j) (r .3))),
-)
-
 lacks : (g : List ℕ) (v : ℕ) → So (lacksEdge g v) ↔ Lacks g v
 unfolding lacksEdge
 lacks g v = (
@@ -55,7 +49,7 @@ lacks g v = (
 
 rows-render-by : (unfit : ℕ → ℕ → Bool) (Unfit : ℕ → ℕ → Type 0) → ((a b : ℕ) → So (unfit a b) ↔ Unfit a b)
     → (g : List ℕ) → Rendered (gameRowsBy unfit g) (gameRulesBy Unfit g)
-unfolding gameRowsBy firstOwner firstEnd firstRepeat firstLacking
+unfolding gameRowsBy firstOwner firstEnd firstLacking
 rows-render-by unfit Unfit says g =
     let n = vertexCount g in
     let m = tableEdges g in
@@ -65,9 +59,8 @@ rows-render-by unfit Unfit says g =
     (next (renders-placed 4 (length g) _ _ (says (length g) (tableLength n m)))
     (next (renders-first 5 (λ k. ltb 1 (getD g k 0)) (λ k. 1 < getD g k 0) (2 + n) (2 + 2 * n) (λ k. k) (omega arith) (λ k. (ltb-true 1 (getD g k 0), lt-ltb 1 (getD g k 0))))
     (next (renders-first 6 (λ k. leb n (getD g k 0)) (λ k. n ≤ getD g k 0) (2 + 2 * n) (tableLength n m) (λ k. k) (omega arith) (λ k. (leb-true n (getD g k 0), le-leb n (getD g k 0))))
-    (next (renders-first 7 (repeatsEarlier g) (Repeats g) 0 m (λ j. 2 + 2 * n + j) (omega arith) (repeats g))
     (next (renders-first 8 (lacksEdge g) (Lacks g) 0 n (λ v. v) (omega arith) (lacks g))
-    none)))))))
+    none))))))
 
 pub rows-render : (g : List ℕ) → Rendered (gameRows g) (gameRules g)
 rows-render = rows-render-by _ _ differs
@@ -78,11 +71,11 @@ pub read-refused : (g : List ℕ) (k p : ℕ) → (readAnswer g ≡ refused k p)
 unfolding readAnswer
 read-refused g = refused-by _ (rows-render g) refl
 
--- ---- it accepts exactly the well-formed tables, with n and m
+-- ---- it accepts exactly the well-formed tables, with n, m and the number of different edges
 
 none-well : (g : List ℕ) → NoRule (gameRules g) → WellFormed g
 unfolding lacksEdge
-none-well g (fails d₁ (fails d₂ (fails d₃ (fails d₄ (fails d₅ (fails d₆ (fails d₇ (fails d₈ no-rule)))))))) = record {
+none-well g (fails d₁ (fails d₂ (fails d₃ (fails d₄ (fails d₅ (fails d₆ (fails d₈ no-rule))))))) = record {
   some = let x : vertexCount g ≢ 0 = λ e. d₂ (inl e) in omega arith;
   vertices = let x : ¬ (vertexLimit < vertexCount g) = λ l. d₂ (inr l) in omega arith;
   edges = omega arith;
@@ -90,7 +83,6 @@ none-well g (fails d₁ (fails d₂ (fails d₃ (fails d₄ (fails d₅ (fails d
   owners = λ v h. elim (decLt 1 (ownerAt g v)) [ yes l ↦ absurd (d₅ (2 + vertexCount g + v, omega arith, omega arith, l)) | no l ↦ omega arith ];
   sources = λ j h. inside (2 + 2 * vertexCount g + j) (omega arith) (omega arith);
   targets = λ j h. inside (2 + 2 * vertexCount g + tableEdges g + j) (omega arith) (omega arith);
-  distinct = λ i j l h e f. d₇ (j, omega arith, h, (i, l, e, f));
   total = λ v h. elim (decide (lacksEdge g v)) [
     | inl t ↦ absurd (d₈ (v, omega arith, h, lacks g v .0 t))
     | inr f ↦ (let r = any-out {n = tableEdges g} {p = λ j. eqb (sourceAt g j) v} (not-false _ f) in (r .0, r .1, eqb-true (sourceAt g (r .0)) v (r .2)))
@@ -108,8 +100,7 @@ well-none g w =
     (fails (λ (h : length g ≢ tableLength (vertexCount g) (tableEdges g)). h (w .size))
     (fails owner
     (fails inside
-    (fails (λ (h : Some (Repeats g) 0 (tableEdges g)). let r = h .3 in w .distinct (r .0) (h .0) (r .1) (h .2) (r .2) (r .3))
-    (fails (λ (h : Some (Lacks g) 0 (vertexCount g)). let t = w .total (h .0) (h .2) in h .3 (t .0) (t .1) (t .2)) no-rule)))))))
+    (fails (λ (h : Some (Lacks g) 0 (vertexCount g)). let t = w .total (h .0) (h .2) in h .3 (t .0) (t .1) (t .2)) no-rule))))))
   where
     count : (vertexCount g ≡ 0) ⊎ (vertexLimit < vertexCount g) → ⊥
     count (inl e) = omega (arith, w .some)
@@ -134,7 +125,7 @@ well-none g w =
 pub well-clean : (g : List ℕ) → WellFormed g → Clean (gameRows g)
 well-clean g w = none-clean (rows-render g) (well-none g w)
 
-pub read-accepted : (g counts : List ℕ) → readAnswer g ≡ accepted counts → WellFormed g × (counts ≡ vertexCount g ∷ tableEdges g ∷ [])
+pub read-accepted : (g counts : List ℕ) → readAnswer g ≡ accepted counts → WellFormed g × (counts ≡ vertexCount g ∷ tableEdges g ∷ edgeCount (gameOf g) ∷ [])
 unfolding readAnswer
 read-accepted g counts e = let a = judge-accepted (gameRows g) _ counts e in (none-well g (clean-none (rows-render g) (a .0)), sym (a .1))
 
@@ -142,7 +133,7 @@ pub clean-well : (g : List ℕ) → Clean (gameRows g) → WellFormed g
 unfolding readAnswer
 clean-well g c = read-accepted g _ (judge-clean (gameRows g) _ c) .0
 
-pub read-accepts : (g : List ℕ) → WellFormed g → readAnswer g ≡ accepted (vertexCount g ∷ tableEdges g ∷ [])
+pub read-accepts : (g : List ℕ) → WellFormed g → readAnswer g ≡ accepted (vertexCount g ∷ tableEdges g ∷ edgeCount (gameOf g) ∷ [])
 unfolding readAnswer
 read-accepts g w = judge-clean (gameRows g) _ (well-clean g w)
 
@@ -151,7 +142,7 @@ read-accepts g w = judge-clean (gameRows g) _ (well-clean g w)
 pub reading-accepted : (g : List ℕ) (c : Sizes) → readingAnswer (Accepted c) ≡ readAnswer g → WellSized g c
 reading-accepted g c e =
     let a = read-accepted g _ (sym e) in
-    record { well = a .0; vertices = cc (a .1); edges = cc (a .1) }
+    record { well = a .0; vertices = cc (a .1); edges = cc (a .1); different = cc (a .1) }
 
 pub reading-past : (g : List ℕ) (c : Sizes) → readingAnswer (Accepted c) ≡ readAnswer g → (rs : List Row) (counts : List ℕ)
     → judge (gameRows g ++ rs) counts ≡ judge rs counts

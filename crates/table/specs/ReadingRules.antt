@@ -1,16 +1,12 @@
--- The reader's table of refusals in terms of logic: document 01's rows 1 to 8, each with its number, its condition and its place.
+-- The reader's table of refusals in terms of logic: document 01's rows 1 to 6 and 8, each with its number, its condition and its place.
 use mathlib.Core.Path.{_≡_}
 use mathlib.Core.Logic.{_⊎_, _≢_}
 use mathlib.Core.List.{List, [], _∷_}
 use Prim.Native.Nat.{ℕ, _+_, _*_, _≤_, _<_}
 use lib.ListN.{length, getD}
 use Rattle.table.specs.Limits.{vertexLimit, edgeLimit}
-use Rattle.table.specs.Table.{vertexCount, tableEdges, sourceAt, targetAt, tableLength}
+use Rattle.table.specs.Table.{vertexCount, tableEdges, sourceAt, tableLength}
 use Rattle.table.specs.Rules.{Rule, placed, firstSuch}
-
--- edge j equals an earlier one
-abbrev pub Repeats : List ℕ → ℕ → Type 0
-Repeats g j = (i : ℕ) × (i < j) × (sourceAt g i ≡ sourceAt g j) × (targetAt g i ≡ targetAt g j)
 
 -- no edge leaves v
 abbrev pub Lacks : List ℕ → ℕ → Type 0
@@ -27,7 +23,6 @@ gameRulesBy Unfit g =
     ∷ placed 4 (Unfit (length g) (tableLength n m)) (length g)
     ∷ firstSuch 5 (λ k. 1 < getD g k 0) (2 + n) (2 + 2 * n) (λ k. k)
     ∷ firstSuch 6 (λ k. n ≤ getD g k 0) (2 + 2 * n) (tableLength n m) (λ k. k)
-    ∷ firstSuch 7 (Repeats g) 0 m (λ j. 2 + 2 * n + j)
     ∷ firstSuch 8 (Lacks g) 0 n (λ v. v)
     ∷ []
 

@@ -1,5 +1,5 @@
 -- The reader accepts the table of a game that fits, and the table stands for that game.
-use mathlib.Core.Path.{_≡_, refl, sym, ap, ap₂, _∙_}
+use mathlib.Core.Path.{_≡_, refl, sym, ap, _∙_}
 use mathlib.Core.Logic.{_↔_}
 use mathlib.Core.Bool.{So}
 use mathlib.Core.List.{List, map}
@@ -10,7 +10,7 @@ use borrow.Author.Tests.{eqb-true, eq-eqb}
 use Rattle.theory.specs.BoolsLaws.{So-ext, and-in, and-out}
 use Rattle.theory.specs.Range.{tabulate, pairsOf, Before}
 use Rattle.theory.specs.RangeLaws.{any-in, any-out}
-use Rattle.theory.specs.ListLaws.{length-tabulate, getD-tabulate}
+use Rattle.theory.specs.ListLaws.{length-tabulate, getD-tabulate, tabulate-ext}
 use Rattle.theory.specs.Game.{Player, even, odd, Game, Succ, Total, edgeCount}
 use Rattle.theory.specs.LinkLaws.{linked-at, linked-find, pairsOf-in, pairsOf-out, pairsOf-single, pairsOf-ascend, length-pairsBelow}
 use Rattle.theory.specs.Agreement.{Agree}
@@ -96,11 +96,6 @@ module _ (K : Game) (es : List (ℕ × ℕ)) where
       owners = λ v h. let l : v < K .n = omega (arith, vertices-is) in rw (owner-is v l) (owner-le (K .owner v));
       sources = λ j h. let l : j < length es = omega (arith, edges-is) in omega (arith, source-is j l, vertices-is, ends j l .0);
       targets = λ j h. let l : j < length es = omega (arith, edges-is) in omega (arith, target-is j l, vertices-is, ends j l .1 .inside);
-      distinct = λ i j l h e f.
-          let hj : j < length es = omega (arith, edges-is) in
-          let hi : i < length es = omega arith in
-          lists .single i j l hj
-          (ap₂ {C = ℕ × ℕ} (λ x y. (x, y)) (sym (source-is i hi) ∙ e ∙ source-is j hj) (sym (target-is i hi) ∙ f ∙ target-is j hj));
       total = λ v h.
           let l : v < K .n = omega (arith, vertices-is) in
           let t = total v l in
@@ -151,3 +146,15 @@ edgesOf-ascend K = pairsOf-ascend (K .n) (K .edge)
 pub length-edgesOf : (K : Game) → length (edgesOf K) ≡ edgeCount K
 unfolding pairsOf edgeCount
 length-edgesOf K = length-pairsBelow (K .n) (K .edge) (K .n * K .n)
+
+-- ---- games that agree have one table
+
+module _ {G K : Game} (e : Agree G K) where
+  pub tableWords-one : (es : List (ℕ × ℕ)) → tableWords G es ≡ tableWords K es
+  unfolding tableWords
+  tableWords-one es =
+      rw (
+        tabulate-ext (G .n) (G .priority) (K .priority) (e .priority),
+        tabulate-ext (G .n) (λ c. ownerWord (G .owner c)) (λ c. ownerWord (K .owner c)) (λ c h. ap ownerWord (e .owner c h)),
+        e .size,
+      )

@@ -1,10 +1,11 @@
--- What a table that the reader accepts is like. Every layer above starts from this.
+-- What a table that the reader accepts is like. Every layer above starts from this. An edge may be listed more than once.
 use mathlib.Core.Path.{_≡_}
 use mathlib.Core.List.{List}
 use Prim.Native.Nat.{ℕ, _≤_, _<_}
 use lib.ListN.{length}
+use Rattle.theory.specs.Game.{edgeCount}
 use Rattle.table.specs.Limits.{vertexLimit, edgeLimit}
-use Rattle.table.specs.Table.{vertexCount, tableEdges, ownerAt, sourceAt, targetAt, tableLength}
+use Rattle.table.specs.Table.{vertexCount, tableEdges, ownerAt, sourceAt, targetAt, tableLength, gameOf}
 use Rattle.table.specs.declared.Sizes.{Sizes}
 
 pub record WellFormed (g : List ℕ) : Type 0 where
@@ -15,8 +16,6 @@ pub record WellFormed (g : List ℕ) : Type 0 where
   pub owners : (v : ℕ) → v < vertexCount g → ownerAt g v ≤ 1
   pub sources : (j : ℕ) → j < tableEdges g → sourceAt g j < vertexCount g
   pub targets : (j : ℕ) → j < tableEdges g → targetAt g j < vertexCount g
-  -- no edge is listed twice
-  pub distinct : (i j : ℕ) → i < j → j < tableEdges g → sourceAt g i ≡ sourceAt g j → targetAt g i ≡ targetAt g j → ⊥
   -- every vertex has an edge out
   pub total : (v : ℕ) → v < vertexCount g → (j : ℕ) × (j < tableEdges g) × (sourceAt g j ≡ v)
 
@@ -25,3 +24,4 @@ pub record WellSized (g : List ℕ) (c : Sizes) : Type 0 where
   pub well : WellFormed g
   pub vertices : c .vertices ≡ vertexCount g
   pub edges : c .edges ≡ tableEdges g
+  pub different : c .different ≡ edgeCount (gameOf g)

@@ -2,7 +2,9 @@
 ghost use mathlib.Core.Path.{_≡_};
 ghost use Prim.Native.Nat.{_<_, _≤_};
 ghost use lib.ListN.{length, getD, set};
+ghost use Rattle.theory.specs.Game.{edgeCount};
 ghost use Rattle.table.specs.Limits.{pairLimit};
+ghost use Rattle.table.specs.Table.{gameOf};
 ghost use Rattle.table.specs.Flags.{Sized, EndsInside, edgeNumber, Filled, Flagged};
 
 // An edge as one number: source × n + target.
@@ -16,7 +18,7 @@ fn edge_number(game: &[u16], n: usize, m: usize, j: usize) -> usize
 }
 
 // Sets the flag of edge j. Returns what it was.
-pub fn flag_edge(game: &[u16], n: usize, m: usize, flags: &mut [u8], j: usize) -> u8
+fn flag_edge(game: &[u16], n: usize, m: usize, flags: &mut [u8], j: usize) -> u8
     requires { ⌜ Sized (now game) n m × EndsInside (now game) × (j < m) ⌝ }
     requires { ⌜ pairLimit ≤ length (now flags) ⌝ }
     ensures { λ r. ⌜ r ≡ getD (now (flags .entry)) (edgeNumber (now (game .entry)) j) 0 ⌝ }
@@ -28,15 +30,20 @@ pub fn flag_edge(game: &[u16], n: usize, m: usize, flags: &mut [u8], j: usize) -
     old
 }
 
-// Sets the flag of each edge, over zeros.
-pub fn flag_edges(game: &[u16], n: usize, m: usize, flags: &mut [u8])
+// Sets the flag of each edge, over zeros. Returns how many different edges there are: those whose flag was clear.
+pub fn flag_edges(game: &[u16], n: usize, m: usize, flags: &mut [u8]) -> usize
     requires { ⌜ Sized (now game) n m × EndsInside (now game) ⌝ }
     requires { ⌜ (pairLimit ≤ length (now flags)) × Filled 0 (now flags) ⌝ }
+    ensures { λ r. ⌜ r ≡ edgeCount (gameOf (now (game .entry))) ⌝ }
     ensures { λ r. ⌜ Flagged 0 1 (edgeNumber (now (game .entry))) m (now (flags .exit)) ⌝ }
 {
+    let mut different = 0;
     let mut j = 0;
     while j < m {
-        flag_edge(game, n, m, flags, j);
+        if flag_edge(game, n, m, flags, j) == 0 {
+            different += 1;
+        }
         j += 1;
     }
+    different
 }

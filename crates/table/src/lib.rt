@@ -17,9 +17,11 @@ pub struct Refusal {
     pub place: usize,
 }
 
+// Vertices and edges of the table, and how many of its edges are different.
 pub struct Sizes {
     pub vertices: usize,
     pub edges: usize,
+    pub different: usize,
 }
 
 pub enum Reading {
@@ -35,7 +37,7 @@ pub enum Acceptance {
     Refused(Refusal),
 }
 
-// Judges a game table: refusals 1 to 8 in order, each over the whole table before the next.
+// Judges a game table: refusals 1 to 6 and 8 in order, each over the whole table before the next.
 pub fn read(game: &[u16]) -> Reading
     ensures { λ r. ⌜ readingAnswer r ≡ readAnswer (now (game .entry)) ⌝ }
 {
@@ -62,10 +64,7 @@ pub fn read(game: &[u16]) -> Reading
     if end < len {
         return refused(6, end);
     }
-    let repeat = reader::first_repeat(game, n, m);
-    if repeat < m {
-        return refused(7, 2 + 2 * n + repeat);
-    }
+    let different = reader::count_different(game, n, m);
     let lacking = reader::first_lacking(game, n, m);
     if lacking < n {
         return refused(8, lacking);
@@ -73,6 +72,7 @@ pub fn read(game: &[u16]) -> Reading
     Reading::Accepted(Sizes {
         vertices: n,
         edges: m,
+        different,
     })
 }
 

@@ -1,5 +1,5 @@
-// Parts of the reader, `read`: the four searches for its refusals 5 to 8. No host calls them.
-use crate::flags::flag_edge;
+// Parts of the reader, `read`: the searches for its refusals 5, 6 and 8, and the count of different edges. No host calls them.
+use crate::flags::flag_edges;
 use crate::limits::PAIRS;
 use crate::limits::VERTICES;
 ghost use mathlib.Core.Path.{_≡_};
@@ -7,9 +7,10 @@ ghost use Prim.Native.Nat.{_+_, _*_, _<_, _≤_};
 ghost use lib.ListN.{length};
 ghost use Rattle.theory.specs.Bools.{bit};
 ghost use Rattle.theory.specs.Range.{first, tabulate};
-ghost use Rattle.table.specs.Limits.{vertexLimit, pairLimit};
-ghost use Rattle.table.specs.Table.{vertexCount};
-ghost use Rattle.table.specs.Reading.{firstOwner, firstEnd, firstRepeat, firstLacking, lacksEdge};
+ghost use Rattle.theory.specs.Game.{edgeCount};
+ghost use Rattle.table.specs.Limits.{vertexLimit};
+ghost use Rattle.table.specs.Table.{vertexCount, gameOf};
+ghost use Rattle.table.specs.Reading.{firstOwner, firstEnd, firstLacking, lacksEdge};
 ghost use Rattle.table.specs.Flags.{atLeast, Sized, EndsInside, Filled};
 
 // The first word from `from` on, below `end`, that is `limit` or more; `end` where there is none.
@@ -43,28 +44,13 @@ pub fn first_end(game: &[u16], n: usize, m: usize) -> usize
     first_at_least(game, n, 2 + 2 * n, 2 + 2 * n + 2 * m)
 }
 
-// 7: the first edge equal to an earlier one. The flag of an edge tells whether it was seen.
-pub fn first_repeat(game: &[u16], n: usize, m: usize) -> usize
+// How many different edges there are.
+pub fn count_different(game: &[u16], n: usize, m: usize) -> usize
     requires { ⌜ Sized (now game) n m × EndsInside (now game) ⌝ }
-    ensures { λ r. ⌜ r ≡ firstRepeat (now (game .entry)) ⌝ }
+    ensures { λ r. ⌜ r ≡ edgeCount (gameOf (now (game .entry))) ⌝ }
 {
-    let mut seen = [0u8; PAIRS];
-    first_seen(game, n, m, &mut seen)
-}
-
-fn first_seen(game: &[u16], n: usize, m: usize, seen: &mut [u8]) -> usize
-    requires { ⌜ Sized (now game) n m × EndsInside (now game) ⌝ }
-    requires { ⌜ (pairLimit ≤ length (now seen)) × Filled 0 (now seen) ⌝ }
-    ensures { λ r. ⌜ r ≡ firstRepeat (now (game .entry)) ⌝ }
-{
-    let mut j = 0;
-    while j < m {
-        if flag_edge(game, n, m, seen, j) != 0 {
-            return j;
-        }
-        j += 1;
-    }
-    j
+    let mut flags = [0u8; PAIRS];
+    flag_edges(game, n, m, &mut flags)
 }
 
 // 8: the lowest vertex without an edge out.

@@ -36,7 +36,7 @@ unfolding Moves
 moves-same true X Y e = λ v s. (v, e v .0 s, refl)
 moves-same false X Y e = λ v s. (v, e v .1 s, refl)
 
-succ-agree : {G K : Game} → Agree G K → (v x : ℕ) → v < G .n → Succ G v x → Succ K v x
+pub succ-agree : {G K : Game} → Agree G K → (v x : ℕ) → v < G .n → Succ G v x → Succ K v x
 succ-agree e v x h s = record { inside = rw (← e .size) (s .inside); along = rw (← e .edge v x h (s .inside)) (s .along) }
 
 agree-simulation : {G K : Game} → Agree G K → DirectSimulation G K (λ v w. v ≡ w)

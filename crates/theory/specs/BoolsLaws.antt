@@ -128,11 +128,11 @@ unfolding bit
 bit-not true = refl
 bit-not false = refl
 
--- one more, unless it was there
-pub bit-add : (b : Bool) → bit (b or true) ≡ bit b + bit (not b)
-unfolding bit _or_
-bit-add true = refl
-bit-add false = refl
+-- a test holds or fails
+pub bit-either : (b : Bool) → bit b + bit (not b) ≡ 1
+unfolding bit
+bit-either true = refl
+bit-either false = refl
 
 -- read back
 pub bit-is-one : (b : Bool) → eqb (bit b) 1 ≡ b

@@ -11,7 +11,7 @@ use lib.Arith.{digits-div, digits-mod}
 use lib.Dec.{eqb, ltb}
 use borrow.Author.Tests.{eqb-true, eq-eqb, ne-eqb, ltb-true, ltb-false, lt-ltb, le-ltb}
 use Rattle.theory.specs.Bools.{_&_, _or_, bit}
-use Rattle.theory.specs.BoolsLaws.{decide, clash, So-ext, and-in, and-out, and-fails, or-false, bit-add, bit-mono, bit-less}
+use Rattle.theory.specs.BoolsLaws.{decide, clash, So-ext, and-in, and-out, and-fails, or-right, or-false, bit-in, bit-either, bit-mono, bit-less}
 use Rattle.theory.specs.Range.{anyBelow, count, nth}
 use Rattle.theory.specs.RangeLaws.{below-suc, any-in, any-out}
 
@@ -101,7 +101,7 @@ count-add (suc n) p x h =
     below-suc (λ (x : ℕ). count n (λ i. p i or eqb x i) + bit (p n or eqb x n) ≡ count n p + bit (p n) + bit (not (p x)))
     (λ x l. rw (ne-eqb x n (below-apart l), or-false (p n)) (omega (arith, count-add n p x l)))
     (rw (eq-eqb n n refl)
-    (omega (arith, bit-add (p n), count-ext n (λ i. p i or eqb n i) p (λ i l. rw (ne-eqb n i (λ e. below-apart l (sym e))) (or-false (p i))))))
+    (omega (arith, bit-either (p n), bit-in (or-right (p n) refl), count-ext n (λ i. p i or eqb n i) p (λ i l. rw (ne-eqb n i (λ e. below-apart l (sym e))) (or-false (p i))))))
     x h
   where
     below-apart : {x n : ℕ} → x < n → x ≡ n → ⊥

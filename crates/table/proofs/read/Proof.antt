@@ -1,9 +1,9 @@
--- After each test that does not refuse, the rest of the table of refusals decides: `clean1` to `clean8`.
+-- After each test that does not refuse, the rest of the table of refusals decides: `clean1` to `clean7`.
 use mathlib.Core.Path.{_≡_, refl, sym, ap, _∙_}
 use mathlib.Core.Logic.{⊎-elim}
 use mathlib.Core.Bool.{So, not, false}
 use mathlib.Core.List.{List, [], _∷_}
-use Prim.Native.Nat.{ℕ, _+_, _*_, _≤_, _<_}
+use Prim.Native.Nat.{ℕ, _≤_, _<_}
 use native.Mathlib.Omega.{arith}
 use borrow.Author.Needs.{needs}
 use borrow.Author.Tests.{lt-ltb, le-ltb, eq-eqb, ne-eqb, ltb-false}
@@ -11,8 +11,9 @@ use lib.Dec.{eqb, ltb}
 use lib.ListN.{drop}
 use Rattle.theory.specs.Bools.{_or_}
 use Rattle.theory.specs.BoolsLaws.{or-left, or-right}
+use Rattle.theory.specs.Game.{edgeCount}
 use Rattle.table.specs.Limits.{vertexLimit}
-use Rattle.table.specs.Table.{vertexCount, tableEdges}
+use Rattle.table.specs.Table.{vertexCount, tableEdges, gameOf}
 use Rattle.table.specs.Verdict.{Answer, refused, judge}
 use Rattle.table.specs.VerdictLaws.{judge-hit, judge-next}
 use Rattle.table.specs.Reading.{gameRowsBy, gameRows, readAnswer}
@@ -23,7 +24,7 @@ use Rattle.table.proofs.read.Tie as tie
 
 -- what the rows after the first k say
 abbrev rest : List ℕ → ℕ → Answer
-rest g k = judge (drop k (gameRows g)) (vertexCount g ∷ tableEdges g ∷ [])
+rest g k = judge (drop k (gameRows g)) (vertexCount g ∷ tableEdges g ∷ edgeCount (gameOf g) ∷ [])
 
 -- what a search, with result x, finds and misses below e
 finds : {x y e : ℕ} → x ≡ y → x < e → So (ltb y e)
@@ -53,10 +54,7 @@ abbrev game6 : tie.Else7 → List ℕ
 game6 c = game5 (c .before .before)
 
 abbrev game7 : tie.Else8 → List ℕ
-game7 c = game6 (c .before .before)
-
-abbrev game8 : tie.Else9 → List ℕ
-game8 c = game7 (c .before .before)
+game7 c = game6 (c .before .before .before)
 
 -- ---- what is known there
 
@@ -97,11 +95,7 @@ clean6 c = clean5 (c .before .before) ∙ judge-next _ _ _ (misses (c .before .f
 
 clean7 : (c : tie.Else8) → readAnswer (game7 c) ≡ rest (game7 c) 7
 unfolding gameRowsBy
-clean7 c = clean6 (c .before .before) ∙ judge-next _ _ _ (misses (c .before .first-repeat .ensures) (c .if8 .left))
-
-clean8 : (c : tie.Else9) → readAnswer (game8 c) ≡ rest (game8 c) 8
-unfolding gameRowsBy
-clean8 c = clean7 (c .before .before) ∙ judge-next _ _ _ (misses (c .before .first-lacking .ensures) (c .if9 .left))
+clean7 c = clean6 (c .before .before .before) ∙ judge-next _ _ _ (misses (c .before .first-lacking .ensures) (c .if8 .left))
 
 -- ---- needs
 
@@ -167,38 +161,21 @@ returns-6 c =
     let z = sized (c .before .before .before .before .before) in
     rw (c .refused6 .ensures) (ap (refused 6) e ∙ sym (clean5 (c .before .before .before) ∙ judge-hit _ _ _ (finds e (rw (z .size) at (c .before .if7 .taken)))))
 
-first-repeat-requires : tie.Need-first-repeat-requires
-first-repeat-requires c κs = (sized (c .before .before .before .before), ends c)
+count-different-requires : tie.Need-count-different-requires
+count-different-requires c κs = (sized (c .before .before .before .before), ends c)
 
-mul-refused : tie.Need-mul-refused
-mul-refused c = omega (arith, sized (c .before .before .before .before .before .before))
-
-add-refused : tie.Need-add-refused
-add-refused c = omega (arith, sized (c .before .before .before .before .before .before))
-
-add-refused-2 : tie.Need-add-refused-2
-add-refused-2 c = omega (arith, sized (c .before .before .before .before .before .before))
+first-lacking-requires : tie.Need-first-lacking-requires
+first-lacking-requires c κs = (sized (c .before .before .before .before .before), ends (c .before))
 
 returns-7 : tie.Need-returns-7
 unfolding gameRowsBy
 returns-7 c =
-    let e = c .before .before .first-repeat .ensures in
-    rw (c .refused7 .ensures)
-    (ap (λ (j : ℕ). refused 7 (2 + 2 * vertexCount (game6 (c .before .before .before)) + j)) e
-    ∙ sym (clean6 (c .before .before .before) ∙ judge-hit _ _ _ (finds e (c .before .if8 .taken))))
-
-first-lacking-requires : tie.Need-first-lacking-requires
-first-lacking-requires c κs = (sized (c .before .before .before .before .before .before), ends (c .before .before))
+    let e = c .before .before .first-lacking .ensures in
+    rw (c .refused7 .ensures) (ap (refused 8) e ∙ sym (clean6 (c .before .before .before .before) ∙ judge-hit _ _ _ (finds e (c .before .if8 .taken))))
 
 returns-8 : tie.Need-returns-8
-unfolding gameRowsBy
-returns-8 c =
-    let e = c .before .before .first-lacking .ensures in
-    rw (c .refused8 .ensures) (ap (refused 8) e ∙ sym (clean7 (c .before .before .before) ∙ judge-hit _ _ _ (finds e (c .before .if9 .taken))))
-
-returns-9 : tie.Need-returns-9
 unfolding gameRowsBy judge
-returns-9 c = sym (clean8 c)
+returns-8 c = rw (c .before .before .count-different .ensures) (sym (clean7 c))
 
 -- nothing is asked
 
@@ -229,9 +206,6 @@ refused-requires-6 c κs = search needs
 refused-requires-7 : tie.Need-refused-requires-7
 refused-requires-7 c κs = search needs
 
-refused-requires-8 : tie.Need-refused-requires-8
-refused-requires-8 c κs = search needs
-
 pub read-spec : {M : Type 1} → statement M
 read-spec =
     tie.close
@@ -260,13 +234,8 @@ read-spec =
     first-end-requires
     refused-requires-6
     returns-6
-    first-repeat-requires
-    mul-refused
-    add-refused
-    add-refused-2
+    count-different-requires
+    first-lacking-requires
     refused-requires-7
     returns-7
-    first-lacking-requires
-    refused-requires-8
-    returns-8
-    returns-9)
+    returns-8)
