@@ -4,3 +4,4 @@ pub mod Clearing
 pub mod ClearingLaws
 pub mod OrderCallLaws
 pub mod OrderRulesLaws
+pub mod SameOrderLaws

@@ -4,3 +4,4 @@ pub mod RelationRulesLaws
 pub mod RelationCallLaws
 pub mod RowSearch
 pub mod RowSearchLaws
+pub mod SameRelationLaws

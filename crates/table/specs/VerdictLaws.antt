@@ -127,6 +127,11 @@ unfolding after
 after-clean [] new old c = refl
 after-clean (r ∷ rs) new old c = rw (c .0) (after-clean rs new old (c .1))
 
+pub after-past : (rs ss : List Row) (new old : List ℕ) → Clean rs → after (rs ++ ss) new old ≡ after ss new old
+unfolding after
+after-past [] ss new old c = refl
+after-past (r ∷ rs) ss new old c = rw (c .0) (after-past rs ss new old (c .1))
+
 pub after-accepted : (rs : List Row) (counts : List ℕ) {given : List ℕ} (new old : List ℕ) → judge rs counts ≡ accepted given → after rs new old ≡ written new old
 after-accepted rs counts new old e = after-clean rs new old (judge-accepted rs counts _ e .0)
 

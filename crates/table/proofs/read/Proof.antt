@@ -14,7 +14,7 @@ use Rattle.theory.specs.BoolsLaws.{or-left, or-right}
 use Rattle.theory.specs.Game.{edgeCount}
 use Rattle.table.specs.Limits.{vertexLimit}
 use Rattle.table.specs.Table.{vertexCount, tableEdges, gameOf}
-use Rattle.table.specs.Verdict.{Answer, refused, judge}
+use Rattle.table.specs.Verdict.{Answer, accepted, refused, judge}
 use Rattle.table.specs.VerdictLaws.{judge-hit, judge-next}
 use Rattle.table.specs.Reading.{gameRowsBy, gameRows, readAnswer}
 use Rattle.table.specs.Flags.{Sized, EndsInside}
@@ -175,7 +175,9 @@ returns-7 c =
 
 returns-8 : tie.Need-returns-8
 unfolding gameRowsBy judge
-returns-8 c = rw (c .before .before .count-different .ensures) (sym (clean7 c))
+returns-8 c =
+    let g = game7 c in
+    ap (λ (d : ℕ). accepted (vertexCount g ∷ tableEdges g ∷ d ∷ [])) (c .before .before .count-different .ensures) ∙ sym (clean7 c)
 
 -- nothing is asked
 
