@@ -10,41 +10,42 @@ use Rattle.reduction.specs.declared.Tabulation.{Tabulation}
 use Rattle.abi.specs.declared.RaskjomiAnswer.{RaskjomiAnswer}
 
 -- the answer of an accepted call: its counts, and 0 for those that it doesn't have
-abbrev pub counted : ℕ → ℕ → ℕ → ℕ → RaskjomiAnswer
-counted passes classes vertices edges = record { number = 0; passes = passes; classes = classes; vertices = vertices; edges = edges; place = 0 }
+abbrev pub counted : ℕ → ℕ → ℕ → ℕ → ℕ → RaskjomiAnswer
+counted passes classes vertices edges different =
+    record { number = 0; passes = passes; classes = classes; vertices = vertices; edges = edges; different = different; place = 0 }
 
 -- the answer of a refused call
 abbrev pub turnedDown : ℕ → ℕ → RaskjomiAnswer
-turnedDown number place = record { number = number; passes = 0; classes = 0; vertices = 0; edges = 0; place = place }
+turnedDown number place = record { number = number; passes = 0; classes = 0; vertices = 0; edges = 0; different = 0; place = place }
 
--- the reader: n and m
+-- the reader: n, m and the different edges
 abbrev pub readFields : Answer → RaskjomiAnswer
-readFields (accepted counts) = counted 0 0 (getD counts 0 0) (getD counts 1 0)
+readFields (accepted counts) = counted 0 0 (getD counts 0 0) (getD counts 1 0) (getD counts 2 0)
 readFields (refused number place) = turnedDown number place
 
 -- the order: its passes
 abbrev pub orderFields : Answer → RaskjomiAnswer
-orderFields (accepted counts) = counted (getD counts 0 0) 0 0 0
+orderFields (accepted counts) = counted (getD counts 0 0) 0 0 0 0
 orderFields (refused number place) = turnedDown number place
 
 -- an acceptor: none
 abbrev pub acceptFields : Answer → RaskjomiAnswer
-acceptFields (accepted counts) = counted 0 0 0 0
+acceptFields (accepted counts) = counted 0 0 0 0 0
 acceptFields (refused number place) = turnedDown number place
 
 -- classes: their number
 abbrev pub classesFields : Answer → RaskjomiAnswer
-classesFields (accepted counts) = counted 0 (getD counts 0 0) 0 0
+classesFields (accepted counts) = counted 0 (getD counts 0 0) 0 0 0
 classesFields (refused number place) = turnedDown number place
 
 -- a call that writes a game table: the classes, then the table's vertices and edges
 abbrev pub tableFields : Answer → RaskjomiAnswer
-tableFields (accepted counts) = counted 0 (getD counts 0 0) (getD counts 1 0) (getD counts 2 0)
+tableFields (accepted counts) = counted 0 (getD counts 0 0) (getD counts 1 0) (getD counts 2 0) 0
 tableFields (refused number place) = turnedDown number place
 
 -- a reading whose sizes fit the answer's fields
 abbrev pub SmallSizes : Reading → Type 0
-SmallSizes (Accepted sizes) = (sizes .vertices < 4294967296) × (sizes .edges < 4294967296)
+SmallSizes (Accepted sizes) = (sizes .vertices < 4294967296) × (sizes .edges < 4294967296) × (sizes .different < 4294967296)
 SmallSizes (Refused refusal) = Unit
 
 -- the same of a class count, and of a table's counts

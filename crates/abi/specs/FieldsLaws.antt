@@ -25,8 +25,11 @@ use Rattle.abi.specs.Fields.{SmallSizes, SmallCount, SmallCounts}
 
 pub reading-small : (g : List ℕ) (r : Reading) → readingAnswer r ≡ readAnswer g → SmallSizes r
 reading-small g (Accepted sizes) e =
-    let w = reading-accepted g sizes e in
-    (omega (arith, w .vertices, w .well .vertices), omega (arith, w .edges, w .well .edges))
+    let w = reading-accepted g sizes e in (
+      omega (arith, w .vertices, w .well .vertices),
+      omega (arith, w .edges, w .well .edges),
+      omega (arith, w .different, edges-listed g, w .well .edges),
+    )
 reading-small g (Refused refusal) e = tt
 
 -- ---- class counts

@@ -26,11 +26,12 @@ pub struct RaskjomiAnswer {
     pub classes: u32,
     pub vertices: u32,
     pub edges: u32,
+    pub different: u32,
     pub place: usize,
 }
 
-fn accepted(passes: u32, classes: u32, vertices: u32, edges: u32) -> RaskjomiAnswer
-    ensures { λ r. ⌜ r ≡ counted passes classes vertices edges ⌝ }
+fn accepted(passes: u32, classes: u32, vertices: u32, edges: u32, different: u32) -> RaskjomiAnswer
+    ensures { λ r. ⌜ r ≡ counted passes classes vertices edges different ⌝ }
 {
     RaskjomiAnswer {
         number: 0,
@@ -38,6 +39,7 @@ fn accepted(passes: u32, classes: u32, vertices: u32, edges: u32) -> RaskjomiAns
         classes,
         vertices,
         edges,
+        different,
         place: 0,
     }
 }
@@ -51,6 +53,7 @@ fn refused(refusal: Refusal) -> RaskjomiAnswer
         classes: 0,
         vertices: 0,
         edges: 0,
+        different: 0,
         place: refusal.place,
     }
 }
@@ -68,7 +71,13 @@ fn of_reading(reading: Reading) -> RaskjomiAnswer
     ensures { λ r. ⌜ r ≡ readFields (readingAnswer reading) ⌝ }
 {
     match reading {
-        Reading::Accepted(sizes) => accepted(0, 0, sizes.vertices as u32, sizes.edges as u32),
+        Reading::Accepted(sizes) => accepted(
+            0,
+            0,
+            sizes.vertices as u32,
+            sizes.edges as u32,
+            sizes.different as u32,
+        ),
         Reading::Refused(refusal) => refused(refusal),
     }
 }
@@ -85,7 +94,7 @@ fn of_ordering(ordering: Ordering) -> RaskjomiAnswer
     ensures { λ r. ⌜ r ≡ orderFields (orderingAnswer ordering) ⌝ }
 {
     match ordering {
-        Ordering::Accepted(count) => accepted(count.passes, 0, 0, 0),
+        Ordering::Accepted(count) => accepted(count.passes, 0, 0, 0, 0),
         Ordering::Refused(refusal) => refused(refusal),
     }
 }
@@ -94,7 +103,7 @@ fn of_acceptance(acceptance: Acceptance) -> RaskjomiAnswer
     ensures { λ r. ⌜ r ≡ acceptFields (acceptanceAnswer acceptance) ⌝ }
 {
     match acceptance {
-        Acceptance::Accepted(_) => accepted(0, 0, 0, 0),
+        Acceptance::Accepted(_) => accepted(0, 0, 0, 0, 0),
         Acceptance::Refused(refusal) => refused(refusal),
     }
 }
@@ -128,7 +137,7 @@ fn of_classification(classification: Classification) -> RaskjomiAnswer
     ensures { λ r. ⌜ r ≡ classesFields (classificationAnswer classification) ⌝ }
 {
     match classification {
-        Classification::Accepted(count) => accepted(0, count.classes as u32, 0, 0),
+        Classification::Accepted(count) => accepted(0, count.classes as u32, 0, 0, 0),
         Classification::Refused(refusal) => refused(refusal),
     }
 }
@@ -156,6 +165,7 @@ fn of_tabulation(tabulation: Tabulation) -> RaskjomiAnswer
             counts.classes as u32,
             counts.vertices as u32,
             counts.edges as u32,
+            0,
         ),
         Tabulation::Refused(refusal) => refused(refusal),
     }

@@ -13,7 +13,7 @@ use Rattle.theory.specs.Examples.{classPlan}
 use Rattle.table.specs.Table.{gameOf, playerOf, isEdge}
 use Rattle.table.specs.Verdict.{Answer, accepted, judge, Clean, written, after}
 use Rattle.table.specs.VerdictLaws.{judge-accepted}
-use Rattle.table.specs.Reading.{repeatsEarlier, lacksEdge, firstOwner, firstEnd, firstRepeat, firstLacking, gameRowsBy}
+use Rattle.table.specs.Reading.{lacksEdge, firstOwner, firstEnd, firstLacking, gameRowsBy}
 use Rattle.pairs.specs.Marks.{bytes}
 use Rattle.table.specs.TableWords.{ownerWord, tableWords}
 use Rattle.order.specs.OrderCall.{orderRows}
@@ -55,7 +55,7 @@ answerD = accepted (5 ∷ 5 ∷ 6 ∷ [])
 
 -- what the reduced-game call does with D, computed
 pub callD : TableCall reduced gameD (replicate 36 9) (replicate 36 9) (replicate 6 9) (replicate 30 9) answerD marksD marksD classesD outputD
-unfolding compute gameOf playerOf isEdge judge written after gameRowsBy firstOwner firstEnd firstRepeat firstLacking repeatsEarlier lacksEdge bytes ownerWord tableWords classRows tableRows classTotal classWords
+unfolding compute gameOf playerOf isEdge judge written after gameRowsBy firstOwner firstEnd firstLacking lacksEdge bytes ownerWord tableWords classRows tableRows classTotal classWords
 callD = record {
   verdict = refl;
   marks-after = refl;
@@ -97,12 +97,12 @@ marksO = 1 ∷ 1 ∷ 0 ∷ 0 ∷ 0 ∷ 1 ∷ 0 ∷ 0 ∷ 0 ∷ 0 ∷ 1 ∷ 0 ∷
 
 -- what the order call leaves of it, computed
 pub leftO : LeavesOrder gameO (orderRows gameO (replicate 16 9) (replicate 16 9)) (replicate 16 9) marksO
-unfolding compute gameOf playerOf isEdge written after gameRowsBy firstOwner firstEnd firstRepeat firstLacking repeatsEarlier lacksEdge bytes orderRows
+unfolding compute gameOf playerOf isEdge written after gameRowsBy firstOwner firstEnd firstLacking lacksEdge bytes orderRows
 leftO = record { buffer = refl }
 
 passedO : Clean (orderRows gameO (replicate 16 9) (replicate 16 9))
-unfolding compute gameOf playerOf isEdge gameRowsBy firstOwner firstEnd firstRepeat firstLacking repeatsEarlier lacksEdge orderRows
-passedO = (refl, (refl, (refl, (refl, (refl, (refl, (refl, (refl, (refl, (refl, tt))))))))))
+unfolding compute gameOf playerOf isEdge gameRowsBy firstOwner firstEnd firstLacking lacksEdge orderRows
+passedO = (refl, (refl, (refl, (refl, (refl, (refl, (refl, (refl, (refl, tt)))))))))
 
 abbrev pub oddPlan : Plan
 oddPlan = record { vertices = 1 ∷ 2 ∷ []; links = (0, 1) ∷ (1, 1) ∷ [] }

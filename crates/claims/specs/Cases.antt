@@ -143,7 +143,7 @@ planC = 3 ∷ 3 ∷ 0 ∷ 2 ∷ 4 ∷ 0 ∷ 1 ∷ 2 ∷ 1 ∷ 2 ∷ 2 ∷ []
 abbrev pub cases : List Case
 cases =
     -- P1: 1 1 1 1 0 0: marks 1, passes 1, one class
-    judged (read p1) (accepted (1 ∷ 1 ∷ []))
+    judged (read p1) (accepted (1 ∷ 1 ∷ 1 ∷ []))
     ∷ wrote (writeOrder p1) (accepted (1 ∷ [])) ((1 ∷ []) ∷ (1 ∷ []) ∷ [])
     ∷ wrote (writeClasses p1) (accepted (1 ∷ [])) ((1 ∷ []) ∷ (1 ∷ []) ∷ (0 ∷ []) ∷ [])
     -- P2: no words: 1 at 0
@@ -156,8 +156,8 @@ cases =
     ∷ judged (read (1 ∷ 1 ∷ 0 ∷ 2 ∷ 0 ∷ 0 ∷ [])) (refused 5 3)
     -- P6: 1 1 0 0 0 1: 6 at 5
     ∷ judged (read (1 ∷ 1 ∷ 0 ∷ 0 ∷ 0 ∷ 1 ∷ [])) (refused 6 5)
-    -- P7: 1 2 0 0 0 0 0 0: 7 at 5
-    ∷ judged (read (1 ∷ 2 ∷ 0 ∷ 0 ∷ 0 ∷ 0 ∷ 0 ∷ 0 ∷ [])) (refused 7 5)
+    -- P7: 1 2 0 0 0 0 0 0: one different edge
+    ∷ judged (read (1 ∷ 2 ∷ 0 ∷ 0 ∷ 0 ∷ 0 ∷ 0 ∷ 0 ∷ [])) (accepted (1 ∷ 2 ∷ 1 ∷ []))
     -- P8: B: mark rows 101, 010, 101; reduced 2 2 / 0 1 / 0 0, edges 0 to 1, 1 to 1
     ∷ wrote (writeOrder gameB) (accepted (1 ∷ [])) (marksB ∷ marksB ∷ [])
     ∷ wrote (writeReduced gameB) (accepted (2 ∷ 2 ∷ 2 ∷ []))

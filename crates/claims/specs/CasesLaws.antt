@@ -7,7 +7,7 @@ use Rattle.theory.specs.Game.{Game}
 use Rattle.theory.specs.Compute.{compute}
 use Rattle.table.specs.Table.{gameOf, playerOf, isEdge}
 use Rattle.table.specs.Verdict.{Answer, judge, written, after}
-use Rattle.table.specs.Reading.{repeatsEarlier, lacksEdge, firstOwner, firstEnd, firstRepeat, firstLacking, gameRowsBy, readAnswer}
+use Rattle.table.specs.Reading.{lacksEdge, firstOwner, firstEnd, firstLacking, gameRowsBy, readAnswer}
 use Rattle.table.specs.TableWords.{ownerWord, tableWords}
 use Rattle.pairs.specs.Marks.{bytes, isMark, relation, firstHigh}
 use Rattle.order.specs.OrderCall.{orderRows, orderAnswer, OrderCall}
@@ -59,7 +59,7 @@ outcome-promised (acceptPlan game player plan) = Promised.judges-plan refl
 pub cases-hold : map (λ (c : Case). outcome (c .call)) cases ≡ map (λ (c : Case). c .expected) cases
 unfolding compute
     gameOf playerOf isEdge judge written after
-    readAnswer gameRowsBy firstOwner firstEnd firstRepeat firstLacking repeatsEarlier lacksEdge
+    readAnswer gameRowsBy firstOwner firstEnd firstLacking lacksEdge
     bytes isMark relation orderRows orderAnswer fails firstHigh firstFailing relationRows relationAnswer ownerWord tableWords classRows tableRows classTotal classWords classesAnswer
     badSize beyond firstBeyond strays firstStray anyLink answers lacksLink firstLackingLink reaches returns positionPriority hasLink returnsWrong firstReturn planRows planAnswer
 cases-hold = refl

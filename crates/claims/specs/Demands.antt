@@ -20,7 +20,7 @@ use Rattle.theory.specs.Reduction.{quotient, reduced, classOf}
 use Rattle.theory.specs.ReductionLaws.{quotient-total, reduced-total, classOf-quotient, classOf-reduced}
 use Rattle.theory.specs.SizeLaws.{quotient-size, reduced-size, quotient-edges, reduced-edges}
 use Rattle.theory.specs.KeptWinners as games
-use Rattle.theory.specs.AgreementLaws.{agree-winner, agree-sym}
+use Rattle.theory.specs.AgreementLaws.{agree-winner, agree-sym, agree-edgeCount}
 use Rattle.table.specs.Limits.{vertexLimit, edgeLimit}
 use Rattle.table.specs.Table.{vertexCount, tableEdges, sourceAt, targetAt, tableLength, gameOf}
 use Rattle.table.specs.Verdict.{Row, Answer, accepted, Clean, written}
@@ -174,10 +174,11 @@ module _ {K : Game → Game} (faithful : Faithful K)
       (tableWords-well (K G) es (edgesOf-lists (K G)) (omega (arith, faithful .class G 0 (vertex 0 (well .some)))) few fits
       (faithful .total G (game-total game well)))
 
-  -- the reader accepts the written table
-  pub table-read : readAnswer (writtenTable n e output′) ≡ accepted (n ∷ e ∷ [])
+  -- the reader accepts the written table, whose edges are all different
+  pub table-read : readAnswer (writtenTable n e output′) ≡ accepted (n ∷ e ∷ e ∷ [])
   unfolding tableWords
-  table-read = read-accepts (writtenTable n e output′) table-well ∙ rw table-is (ap₂ {C = Answer} (λ x y. accepted (x ∷ y ∷ [])) (counts .vertices) edges-are)
+  table-read = read-accepts (writtenTable n e output′) table-well ∙ rw table-is
+      (cc (counts .vertices, edges-are, agree-edgeCount (tableWords-agree (K G) es (edgesOf-lists (K G))) ∙ counts .edges))
 
   -- its edges are exactly those of K ..
   pub table-edge : (c d : ℕ) → So (gameOf (writtenTable n e output′) .edge c d) ↔ ((c < n) × Succ (K G) c d)

@@ -41,7 +41,7 @@ ClassSentence game classes = (v : ℕ) → v < vertexCount game → getD classes
 
 -- of class words and an output that holds the table of a game of classes, n vertices and e edges
 pub record TableSentences (game classes output : List ℕ) (n e : ℕ) : Type 0 where
-  pub read : readAnswer (writtenTable n e output) ≡ accepted (n ∷ e ∷ [])
+  pub read : readAnswer (writtenTable n e output) ≡ accepted (n ∷ e ∷ e ∷ [])
   -- "Each player has a winning plan from a vertex exactly when that player has one from its class in the reduced game."
   pub winner : (a : Player) (v : ℕ) → v < vertexCount game
       → Won a (gameOf game) v ↔ Won a (gameOf (writtenTable n e output)) (getD classes v 0)

@@ -16,7 +16,7 @@ unfoldable pub number : Answer → ℕ → ℕ
 number (accepted counts) x = x
 number (refused k p) x = 0
 
--- the reader's verdict, which holds n and m; the pass count, the class count, the reduced game's counts; the class of each vertex
+-- the reader's verdict, which holds n and the number of different edges; the pass count, the class count, the reduced game's counts; the class of each vertex
 pub record Reported (game old new : List ℕ) (r : Report) : Type 0 where
   pub verdict : readingAnswer (r .verdict) ≡ readAnswer game
   pub passes : r .passes ≡ number (readAnswer game) (orderPasses (gameOf game))

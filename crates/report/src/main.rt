@@ -38,7 +38,12 @@ fn print_report(report: Report, classes: &[u16])
             refusal.place as u64,
         ),
         Reading::Accepted(sizes) => {
-            print::two(b"game ", sizes.vertices as u64, b" ", sizes.edges as u64);
+            print::two(
+                b"game ",
+                sizes.vertices as u64,
+                b" ",
+                sizes.different as u64,
+            );
             print::one(b"passes ", report.passes as u64);
             print::one(b"classes ", report.classes as u64);
             print::vertices(classes, sizes.vertices);

@@ -17,6 +17,9 @@ cast-accepted c = omega (arith, subst SmallSizes (c .before .before .reading .gi
 cast-accepted-2 : tie.Need-cast-accepted-2
 cast-accepted-2 c = omega (arith, subst SmallSizes (c .before .before .before .reading .given .1) (c .before .before .before .before .before .pre))
 
+cast-accepted-3 : tie.Need-cast-accepted-3
+cast-accepted-3 c = omega (arith, subst SmallSizes (c .before .before .before .before .reading .given .1) (c .before .before .before .before .before .before .pre))
+
 accepted-requires : tie.Need-accepted-requires
 accepted-requires c κs = search needs
 
@@ -27,7 +30,7 @@ refused-requires : tie.Need-refused-requires
 refused-requires c κs = search needs
 
 returns : tie.Need-returns
-returns c = c .accepted .ensures ∙ ap (λ (o : Reading). readFields (readingAnswer o)) (sym (c .before .before .before .before .reading .given .1))
+returns c = c .accepted .ensures ∙ ap (λ (o : Reading). readFields (readingAnswer o)) (sym (c .before .before .before .before .before .reading .given .1))
 
 returns-2 : tie.Need-returns-2
 returns-2 c = c .refused .ensures ∙ ap (λ (o : Reading). readFields (readingAnswer o)) (sym (c .before .before .reading2 .given .1))
@@ -39,6 +42,7 @@ of-reading-spec =
     enum-known-reading
     cast-accepted
     cast-accepted-2
+    cast-accepted-3
     accepted-requires
     enum-known-reading-2
     refused-requires

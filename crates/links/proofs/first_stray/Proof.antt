@@ -55,7 +55,7 @@ returns : tie.Need-returns
 returns c =
     let f = c .before .before .before in
     let s = start (f .before) in
-    c .first-straying .ensures ∙ first-stray-same (s .pre .0) (s .pre .1) (room f) (f .flag-edges .ensures)
+    c .first-straying .ensures ∙ first-stray-same (s .pre .0) (s .pre .1) (room f) (f .flag-edges .ensures .1)
 
 pub first-stray-spec : {M : Type 1} → statement M
 first-stray-spec =
