@@ -11,6 +11,7 @@ fn reads(name: &[u8], game: &[u16]) {
             print::accepted();
             print::number(c.vertices as u64);
             print::number(c.edges as u64);
+            print::number(c.different as u64);
             print::end_line();
         }
         Reading::Refused(f) => print::refused(f),
@@ -23,6 +24,14 @@ fn reads_largest_with(name: &[u8], at: usize, word: u16) {
     tables::largest(&mut game);
     tables::put(&mut game, at, word);
     reads(name, &game);
+}
+
+// One vertex, and 4,096 times the same edge.
+fn reads_equal_edges() {
+    let mut game = [0u16; 8196];
+    tables::put(&mut game, 0, 1);
+    tables::put(&mut game, 1, 4096);
+    reads(b"equal_edges", &game);
 }
 
 pub fn games() {
@@ -59,12 +68,9 @@ pub fn bad_words() {
         &[2, 2, 0, 0, 0, 0, 0, 2, 2, 0],
     );
     reads(b"target_at_n", &[2, 2, 0, 0, 0, 0, 0, 1, 1, 2]);
+    reads(b"two_repeats", &[2, 4, 0, 0, 0, 0, 0, 1, 1, 0, 1, 0, 0, 1]);
     reads(
-        b"first_of_two_repeats",
-        &[2, 4, 0, 0, 0, 0, 0, 1, 1, 0, 1, 0, 0, 1],
-    );
-    reads(
-        b"repeat_before_lacking",
+        b"repeat_and_lacking",
         &[3, 3, 0, 0, 0, 0, 0, 0, 1, 1, 2, 0, 0, 0],
     );
     reads(b"lacking_0_and_2", &[3, 1, 0, 0, 0, 0, 0, 0, 1, 1]);
@@ -82,6 +88,7 @@ pub fn limits() {
     reads_largest_with(b"first_source_256", 514, 256);
     reads_largest_with(b"last_target_256", 8705, 256);
     reads_largest_with(b"last_edge_repeats", 8705, 0);
+    reads_equal_edges();
 }
 
 fn kind(number: u32) {

@@ -38,6 +38,12 @@ pub fn games() {
     reduces(b"B_reduced", &tables::game_b(), &mut [7; 3], &mut [7; 14]);
     reduces(b"C_reduced", &tables::game_c(), &mut [7; 5], &mut [7; 26]);
     reduces(b"D_reduced", &tables::game_d(), &mut [7; 7], &mut [7; 31]);
+    reduces(
+        b"D_doubled_reduced",
+        &tables::game_d_doubled(),
+        &mut [7; 7],
+        &mut [7; 32],
+    );
 }
 
 pub fn quotients() {

@@ -1,4 +1,4 @@
-// Tables that the cases share: document 01's games B, C and D, its plan for game C, and the largest game.
+// Tables that the cases share: document 01's games B, C and D, D with an edge doubled, its plan for game C, and the largest game.
 ghost use mathlib.Core.Path.{_≡_};
 ghost use lib.ListN.{length};
 
@@ -74,6 +74,44 @@ pub fn game_d() -> [u16; 30] {
         3,
         4,
         2,
+    ]
+}
+
+// D with its first edge once more at the end.
+pub fn game_d_doubled() -> [u16; 32] {
+    [
+        6,
+        9,
+        2,
+        0,
+        0,
+        1,
+        4,
+        2,
+        0,
+        0,
+        0,
+        0,
+        0,
+        0,
+        0,
+        0,
+        1,
+        2,
+        2,
+        3,
+        4,
+        5,
+        0,
+        1,
+        2,
+        3,
+        3,
+        4,
+        3,
+        4,
+        2,
+        1,
     ]
 }
 
