@@ -15,6 +15,7 @@ pub struct RaskjomiAnswer {
     pub classes: u32,
     pub vertices: u32,
     pub edges: u32,
+    pub different: u32,
     pub place: usize,
 }
 

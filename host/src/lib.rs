@@ -4,8 +4,9 @@
 //! and even favours Even; where a tool lets the highest decide, its winners differ.
 //!
 //! A parity game is lent as a table of 16-bit words: the numbers n of vertices and m of edges, then
-//! n priorities, n owners (0 [`EVEN`], 1 [`ODD`]), m sources and m targets. The library judges such
-//! tables, writes their direct simulation order, classes, quotient and reduced game, and judges
+//! n priorities, n owners (0 [`EVEN`], 1 [`ODD`]), m sources and m targets. An edge may stand there
+//! several times; it counts as one, though m and all lengths count it each time. The library judges
+//! such tables, writes their direct simulation order, classes, quotient and reduced game, and judges
 //! foreign relations and winning plans. Every call works in memory that the caller lends, of any
 //! length and content. docs/CONTRACT.md in the repository has the definitions, each call's checks in
 //! order, every refusal, and what each buffer holds afterwards.
@@ -37,13 +38,16 @@ pub const EVEN: u32 = 0;
 /// The player for whom an odd lowest priority wins.
 pub const ODD: u32 = 1;
 
-/// The numbers of vertices and edges of a table.
+/// The sizes of a table.
 #[derive(Clone, Copy, Debug, PartialEq, Eq)]
 pub struct Size {
     /// The number n of vertices.
     pub vertices: usize,
-    /// The number m of edges.
+    /// The number m of edges in the table.
     pub edges: usize,
+    /// The number of different edges, at most m. A table that a call writes has each edge once, so
+    /// there it is m.
+    pub different: usize,
 }
 
 impl Size {
@@ -66,20 +70,31 @@ fn verdict(answer: RaskjomiAnswer) -> Result<RaskjomiAnswer, Refusal> {
     }
 }
 
-fn size(answer: RaskjomiAnswer) -> Size {
-    Size { vertices: answer.vertices as usize, edges: answer.edges as usize }
+/// The size of a table in which so many edges are different.
+fn size(answer: RaskjomiAnswer, different: u32) -> Size {
+    let [vertices, edges, different] =
+        [answer.vertices, answer.edges, different].map(|count| count as usize);
+    Size { vertices, edges, different }
+}
+
+/// The size of a table that a call has written: each edge stands there once.
+fn written(answer: RaskjomiAnswer) -> Size {
+    size(answer, answer.edges)
 }
 
 /// Judges a game table.
 ///
 /// ```
 /// assert_eq!(raskjomi::read(&[1, 1, 0, 0, 0, 0])?.edges, 1);
+/// // A loop that is written twice: two edges in the table, and one different edge.
+/// let size = raskjomi::read(&[1, 2, 0, 0, 0, 0, 0, 0])?;
+/// assert_eq!((size.vertices, size.edges, size.different), (1, 2, 1));
 /// let refusal = raskjomi::read(&[1, 1, 0, 2, 0, 0]).unwrap_err();
 /// assert_eq!((refusal.number, refusal.place), (5, 3));
 /// # Ok::<(), raskjomi::Refusal>(())
 /// ```
 pub fn read(game: &[u16]) -> Result<Size, Refusal> {
-    verdict(exports::read(game)).map(size)
+    verdict(exports::read(game)).map(|answer| size(answer, answer.different))
 }
 
 /// Writes the direct simulation order into the first n × n bytes of both buffers: byte v × n + w is
@@ -137,7 +152,7 @@ pub fn classes(
 /// let game = [3, 3, 0, 1, 0, 0, 0, 1, 0, 1, 2, 1, 1, 1];
 /// let (mut marks, mut spare, mut classes, mut output) = ([0; 9], [0; 9], [0; 3], [0; 14]);
 /// let size = raskjomi::quotient(&game, &mut marks, &mut spare, &mut classes, &mut output)?;
-/// assert_eq!((size.vertices, size.edges), (2, 2));
+/// assert_eq!((size.vertices, size.edges, size.different), (2, 2, 2));
 /// assert_eq!(output[..size.words()], [2, 2, 0, 1, 0, 0, 0, 1, 1, 1]);
 /// # Ok::<(), raskjomi::Refusal>(())
 /// ```
@@ -148,7 +163,7 @@ pub fn quotient(
     classes: &mut [u16],
     output: &mut [u16],
 ) -> Result<Size, Refusal> {
-    verdict(exports::quotient(game, marks, spare, classes, output)).map(size)
+    verdict(exports::quotient(game, marks, spare, classes, output)).map(written)
 }
 
 /// Writes as [`quotient`] does, but the reduced game: the quotient without its edges to little
@@ -172,7 +187,7 @@ pub fn reduce(
     classes: &mut [u16],
     output: &mut [u16],
 ) -> Result<Size, Refusal> {
-    verdict(exports::reduce(game, marks, spare, classes, output)).map(size)
+    verdict(exports::reduce(game, marks, spare, classes, output)).map(written)
 }
 
 /// Judges a plan for a player, [`EVEN`] or [`ODD`]: whether it wins from the vertex of its position

@@ -110,7 +110,7 @@ const fn row(meaning: &'static str, place: &'static str, remedy: &'static str) -
     Explanation { meaning, place, remedy }
 }
 
-/// The number in words, if it is one of the library's refusals.
+/// The number in words, if it is one of the library's refusals, now or, as 7 is, of earlier times.
 ///
 /// ```
 /// let five = raskjomi::explain(5).unwrap();
@@ -161,9 +161,10 @@ const GAME: [Explanation; 8] = [
         "vertices count from 0, so write a number below the number of vertices",
     ),
     row(
-        "an edge is equal to an earlier one",
+        "an edge is equal to an earlier one; it no longer occurs: since change request CR 2 such \
+         edges count as one",
         "the source word of the first such edge",
-        "write each edge a single time, and lower the number of edges",
+        "take the library as it is since CR 2, or write each edge a single time",
     ),
     row(
         "a vertex has no edge out",

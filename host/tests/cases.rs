@@ -38,7 +38,7 @@ impl Text {
 
     fn reads(&mut self, name: &str, game: &[u16]) {
         let answer = self.oracle.read(game);
-        self.verdict(name, answer, &[answer.vertices, answer.edges]);
+        self.verdict(name, answer, &[answer.vertices, answer.edges, answer.different]);
     }
 
     fn kinds(&mut self, numbers: &[u32]) {
@@ -99,6 +99,15 @@ fn largest() -> Vec<u16> {
     game
 }
 
+/// D with its first edge once more at the end.
+fn doubled_d() -> Vec<u16> {
+    let mut game = D.to_vec();
+    game[1] += 1;
+    game.insert(22, D[14]);
+    game.push(D[22]);
+    game
+}
+
 fn reading(text: &mut Text) {
     text.reads("P1", &P1);
     text.reads("P2", &[]);
@@ -118,8 +127,8 @@ fn reading(text: &mut Text) {
     text.reads("late_owner_before_early_source", &[2, 2, 0, 0, 0, 2, 2, 1, 0, 0]);
     text.reads("late_source_before_early_target", &[2, 2, 0, 0, 0, 0, 0, 2, 2, 0]);
     text.reads("target_at_n", &[2, 2, 0, 0, 0, 0, 0, 1, 1, 2]);
-    text.reads("first_of_two_repeats", &[2, 4, 0, 0, 0, 0, 0, 1, 1, 0, 1, 0, 0, 1]);
-    text.reads("repeat_before_lacking", &[3, 3, 0, 0, 0, 0, 0, 0, 1, 1, 2, 0, 0, 0]);
+    text.reads("two_repeats", &[2, 4, 0, 0, 0, 0, 0, 1, 1, 0, 1, 0, 0, 1]);
+    text.reads("repeat_and_lacking", &[3, 3, 0, 0, 0, 0, 0, 0, 1, 1, 2, 0, 0, 0]);
     text.reads("lacking_0_and_2", &[3, 1, 0, 0, 0, 0, 0, 0, 1, 1]);
     text.reads("lacking_last", &[3, 2, 0, 0, 0, 0, 0, 0, 1, 0, 2, 2]);
 }
@@ -143,6 +152,7 @@ fn limits(text: &mut Text) {
         game[at] = word;
         text.reads(name, &game);
     }
+    text.reads("equal_edges", &[&[1, 4096, 0, 0][..], &[0; 8192]].concat());
     text.kinds(&[0, 1, 8, 9, 10, 11, 16, 17, 20, 21, 24, 25, 30, 31, 99, 100, u32::MAX]);
 }
 
@@ -210,6 +220,9 @@ fn tables(text: &mut Text) {
         text.tables(&format!("B_{call}"), &B, 3, 14);
         text.tables(&format!("C_{call}"), &C, 5, 26);
         text.tables(&format!("D_{call}"), &D, 7, 31);
+        if call == "reduced" {
+            text.tables("D_doubled_reduced", &doubled_d(), 7, 32);
+        }
     }
     text.tables("classes_one_word_short", &D, 5, 29);
     text.tables("output_one_word_short", &D, 6, 29);

@@ -103,5 +103,5 @@ fn answer_has_the_fields_of_the_exports() {
     let declarations = declarations_in_rust();
     let fields = parts(between(&declarations, head, "}"));
     assert_eq!(fields, parts(between(&source, head, "}")));
-    assert_eq!(fields.len(), 6);
+    assert_eq!(fields.len(), 7);
 }

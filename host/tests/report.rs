@@ -6,7 +6,7 @@ mod rattle;
 mod common;
 
 use common::{root, say};
-use generator::{any_game, damaged, random, Lcg, Table};
+use generator::{any_game, damaged, random, Lcg, Table, REFUSALS};
 use oracle::{Oracle, Trap};
 use std::collections::BTreeMap;
 use std::io::Write;
@@ -33,17 +33,19 @@ fn bytes(words: &[u16]) -> Vec<u8> {
     words.iter().flat_map(|word| word.to_le_bytes()).collect()
 }
 
-/// Games, damaged tables of each kind, odd byte counts, nothing, and tables that are too long.
+/// Games, some with repeated edges, damaged tables of each kind, odd byte counts, nothing, and tables
+/// that are too long.
 fn inputs() -> Vec<Vec<u8>> {
     let mut lcg = Lcg::new(5);
     let mut inputs = vec![vec![], vec![1], bytes(&[3, 3, 0, 1, 0, 0, 0, 1, 0, 1, 2, 1, 1, 1])];
+    inputs.push(bytes(&[1, 2, 0, 0, 0, 0, 0, 0]));
     for most in [3, 8, 20, 60, 256] {
         for _ in 0..20 {
             let table = any_game(&mut lcg, most);
             inputs.push(bytes(&table.words()));
             inputs.push(odd(&mut lcg, &table));
         }
-        for number in (1..=8).chain(1..=8) {
+        for number in REFUSALS.repeat(2) {
             let table = any_game(&mut lcg, most);
             inputs.push(bytes(&damaged(&mut lcg, &table, number)));
         }
@@ -86,8 +88,10 @@ fn report_program_and_oracle_agree() {
         *counts.entry(number(text)).or_insert(0) += 1;
     }
     say(format!("{} reports; by refusal number: {counts:?}", inputs.len()));
-    assert!((0..=8).all(|number| counts.get(&number) >= Some(&8)), "{counts:?}");
-    for trap in [Trap::HalfWordDropped, Trap::ReportUnlimited] {
+    let given: Vec<u32> = counts.keys().copied().collect();
+    assert_eq!(given, [&[0], &REFUSALS[..]].concat());
+    assert!(counts.values().all(|&count| count >= 8), "{counts:?}");
+    for trap in [Trap::HalfWordDropped, Trap::ReportUnlimited, Trap::ReportByTable] {
         let misled = Oracle::with(trap);
         let differs = |(input, text): (&Vec<u8>, &String)| misled.report(input) != *text;
         let needed = inputs.iter().zip(&texts).position(differs);

@@ -1,10 +1,12 @@
 //! Damaged tables, one kind for each refusal of the reader.
 
+use crate::repeats::repeated;
 use crate::{Lcg, Table};
 
-const MOST_EDGES: usize = 4096;
+/// The refusals of the reader, in the sequence of its checks.
+pub const REFUSALS: [u32; 7] = [1, 2, 3, 4, 5, 6, 8];
 
-/// The game's table, damaged so that the reader refuses it with `number`, 1 to 8.
+/// The game's table, damaged so that the reader refuses it with `number`, one of [`REFUSALS`].
 pub fn damaged(lcg: &mut Lcg, game: &Table, number: u32) -> Vec<u16> {
     let (n, m) = (game.n(), game.m());
     let mut words = game.words();
@@ -17,17 +19,17 @@ pub fn damaged(lcg: &mut Lcg, game: &Table, number: u32) -> Vec<u16> {
         6 => (0..lcg.between(1, 4)).for_each(|_| {
             words[2 + 2 * n + lcg.below(2 * m)] = lcg.pick(&[n as u16, n as u16 + 1, 65_535]);
         }),
-        7 => words = with_repeat(lcg, game).words(),
         _ => words = without_edges(lcg, game).words(),
     }
     words
 }
 
-/// The table damaged in several ways at once, which shows the sequence of the checks.
+/// The table damaged in several ways at once, which shows the sequence of the checks; some edges
+/// stand several times, which is no damage.
 pub fn damaged_often(lcg: &mut Lcg, game: &Table) -> Vec<u16> {
     let mut often = game.clone();
     if lcg.once_in(2) {
-        often = with_repeat(lcg, &often);
+        often = repeated(lcg, &often);
     }
     if lcg.once_in(2) {
         often = without_edges(lcg, &often);
@@ -52,21 +54,6 @@ fn change_length(lcg: &mut Lcg, words: &mut Vec<u16>) {
             words.push(lcg.below(4) as u16);
         }
     }
-}
-
-/// An edge stands a second time, in its place or another's.
-fn with_repeat(lcg: &mut Lcg, game: &Table) -> Table {
-    let mut repeated = game.clone();
-    let edge = lcg.pick(&game.edges);
-    if game.m() < MOST_EDGES {
-        let place = lcg.between(0, game.m());
-        repeated.edges.insert(place, edge);
-    } else {
-        let place = (lcg.between(1, game.m() - 1) + lcg.below(2)) % game.m();
-        let other = (place + 1) % game.m();
-        repeated.edges[place] = repeated.edges[other];
-    }
-    repeated
 }
 
 /// A vertex has no edge out; the others keep theirs.

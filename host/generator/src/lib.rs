@@ -7,15 +7,17 @@ mod families;
 mod lcg;
 mod plans;
 mod relations;
+mod repeats;
 mod sample;
 mod solver;
 mod table;
 
-pub use damage::{damaged, damaged_often};
+pub use damage::{damaged, damaged_often, REFUSALS};
 pub use families::{chain, complete, copies, forced_ring, random, two_rings};
 pub use lcg::Lcg;
 pub use plans::{largest_plan, strategy_plan, unfolded, Plan};
 pub use relations::relation;
+pub use repeats::{repeated, same_game};
 pub use sample::{any_game, bent_plan, old_bytes, old_words};
 pub use solver::{solve, Solution};
 pub use table::Table;

@@ -1,16 +1,20 @@
 //! Samples over all families: what a differential test draws from.
 
 use crate::families::{chain, complete, copies, forced_ring, random, ring, two_rings};
+use crate::repeats::repeated;
 use crate::{Lcg, Plan, Table};
 
-const MOST_EDGES: usize = 4096;
+pub(crate) const MOST_EDGES: usize = 4096;
 /// The passes of two rings grow with the square of their vertices.
 const MOST_IN_RINGS: usize = 32;
 
-/// A game of at most `most` vertices from any family, shuffled.
+/// A game of at most `most` vertices from any family, shuffled; some have an edge several times.
 pub fn any_game(lcg: &mut Lcg, most: usize) -> Table {
     let n = lcg.between(1, most);
-    let game = of_some_family(lcg, n);
+    let mut game = of_some_family(lcg, n);
+    if lcg.once_in(3) {
+        game = repeated(lcg, &game);
+    }
     if lcg.once_in(6) {
         game
     } else {

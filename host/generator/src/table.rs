@@ -16,7 +16,7 @@ impl Table {
         self.priorities.len()
     }
 
-    /// The number of edges.
+    /// The number of edges in the table.
     pub fn m(&self) -> usize {
         self.edges.len()
     }
@@ -43,11 +43,14 @@ impl Table {
         }
     }
 
-    /// The successors of each vertex.
+    /// The successors of each vertex, each once.
     pub fn successors(&self) -> Vec<Vec<usize>> {
         let mut successors = vec![Vec::new(); self.n()];
         for &(source, target) in &self.edges {
-            successors[source as usize].push(target as usize);
+            let of_source: &mut Vec<usize> = &mut successors[source as usize];
+            if !of_source.contains(&(target as usize)) {
+                of_source.push(target as usize);
+            }
         }
         successors
     }
@@ -67,6 +70,13 @@ impl Table {
         }
         lcg.shuffle(&mut shuffled.edges);
         shuffled
+    }
+
+    /// The same game with each edge once, ascending.
+    pub fn without_repeats(mut self) -> Table {
+        self.edges.sort();
+        self.edges.dedup();
+        self
     }
 
     /// The game with each owner drawn anew.

@@ -12,6 +12,7 @@ pub struct Answer {
     pub classes: u32,
     pub vertices: u32,
     pub edges: u32,
+    pub different: u32,
     pub place: usize,
 }
 
@@ -51,7 +52,10 @@ enum Output {
 impl Oracle {
     /// The reader.
     pub fn read(&self, game: &[u16]) -> Answer {
-        self.answer(self.game(game).map(|game| self.table_counts(&game)))
+        self.answer(self.game(game).map(|game| {
+            let different = self.different(&game) as u32;
+            Answer { different, ..self.table_counts(&game) }
+        }))
     }
 
     /// The order.
@@ -113,13 +117,11 @@ impl Oracle {
     }
 
     /// The game, if the reader takes it and the first `buffers` of the lent memory are long enough:
-    /// refusals 1 to 8, then 21 to 24 as far as the call goes.
+    /// the reader's refusals, then 21 to 24 as far as the call goes.
     fn checked(&self, game: &[u16], memory: &mut Memory, buffers: usize) -> Result<Game, Refusal> {
         let game = self.game(game)?;
         let n = game.n();
-        let by_result = self.falls_for(Trap::OutputByResult);
-        let words = if by_result { 0 } else { game.words() };
-        let needed = [n * n, n * n, n, words];
+        let needed = [n * n, n * n, n, self.output_words(&game)];
         let lent =
             [memory.marks.len(), memory.spare.len(), memory.classes.len(), memory.output.len()];
         for i in 0..buffers {
@@ -129,6 +131,15 @@ impl Oracle {
             refuse_if(lent[i] < needed[i], 21 + i as u32, needed[i])?;
         }
         Ok(game)
+    }
+
+    /// The words that the output needs.
+    fn output_words(&self, game: &Game) -> usize {
+        match self.trap {
+            Some(Trap::OutputByResult) => 0,
+            Some(Trap::OutputByDifferent) => 2 + 2 * game.n() + 2 * game.edges.len(),
+            _ => game.words(),
+        }
     }
 
     fn write_order(&self, game: &Game, memory: &mut Memory) -> (Relation, u32) {
@@ -167,7 +178,8 @@ impl Oracle {
         self.write(&mut after.output, &table.table());
         *memory = after;
         let Answer { vertices, edges, .. } = self.table_counts(&table);
-        Ok(Answer { vertices, edges, ..counts })
+        let different = if self.falls_for(Trap::DifferentEverywhere) { edges } else { 0 };
+        Ok(Answer { vertices, edges, different, ..counts })
     }
 
     fn table_counts(&self, game: &Game) -> Answer {

@@ -2,7 +2,7 @@
 
 use crate::calls::{refuse_at, refuse_if};
 use crate::{Oracle, Refusal, Trap};
-use std::collections::HashSet;
+use std::collections::BTreeSet;
 
 const MOST_VERTICES: usize = 256;
 const MOST_EDGES: usize = 4096;
@@ -12,8 +12,10 @@ const MOST_EDGES: usize = 4096;
 pub struct Game {
     pub priority: Vec<u16>,
     pub owner: Vec<u16>,
-    pub edges: Vec<(usize, usize)>,
-    pub successors: Vec<Vec<usize>>,
+    /// The edges as the table lists them, which may be several times.
+    pub listed: Vec<(usize, usize)>,
+    pub edges: BTreeSet<(usize, usize)>,
+    pub successors: Vec<BTreeSet<usize>>,
 }
 
 impl Game {
@@ -22,9 +24,9 @@ impl Game {
         self.priority.len()
     }
 
-    /// The number of edges.
+    /// The number of edges in the table.
     pub fn m(&self) -> usize {
-        self.edges.len()
+        self.listed.len()
     }
 
     /// The length of the game's table.
@@ -33,12 +35,18 @@ impl Game {
     }
 
     /// A game from its parts, which are taken to be good.
-    pub fn new(priority: Vec<u16>, owner: Vec<u16>, edges: Vec<(usize, usize)>) -> Game {
-        let mut successors = vec![Vec::new(); priority.len()];
+    pub fn new(priority: Vec<u16>, owner: Vec<u16>, listed: Vec<(usize, usize)>) -> Game {
+        let edges = BTreeSet::from_iter(listed.iter().copied());
+        let mut successors = vec![BTreeSet::new(); priority.len()];
         for &(source, target) in &edges {
-            successors[source].push(target);
+            successors[source].insert(target);
         }
-        Game { priority, owner, edges, successors }
+        Game { priority, owner, listed, edges, successors }
+    }
+
+    /// How often the table has the edge.
+    pub fn times(&self, edge: (usize, usize)) -> usize {
+        self.listed.iter().filter(|&&other| other == edge).count()
     }
 
     /// The game's table.
@@ -47,8 +55,8 @@ impl Game {
         let mut words = sizes.to_vec();
         words.extend(&self.priority);
         words.extend(&self.owner);
-        words.extend(self.edges.iter().map(|edge| edge.0 as u16));
-        words.extend(self.edges.iter().map(|edge| edge.1 as u16));
+        words.extend(self.listed.iter().map(|edge| edge.0 as u16));
+        words.extend(self.listed.iter().map(|edge| edge.1 as u16));
         words
     }
 }
@@ -82,7 +90,7 @@ impl Parts<'_> {
 }
 
 impl Oracle {
-    /// Reads a table: refusals 1 to 8, in order.
+    /// Reads a table: refusals 1 to 6, then 8, in order.
     pub fn game(&self, words: &[u16]) -> Result<Game, Refusal> {
         let length = words.len();
         refuse_if(length < 2, 1, length)?;
@@ -94,7 +102,7 @@ impl Oracle {
         refuse_if(length != needed && !long_taken, 4, length)?;
         let parts = Parts { n, m, words: &words[..needed] };
         self.owners_and_ends(&parts)?;
-        self.edges_and_vertices(&parts)?;
+        self.vertices(&parts)?;
         let priority = words[2..2 + n].to_vec();
         Ok(Game::new(priority, parts.owners().to_vec(), parts.edges()))
     }
@@ -122,27 +130,28 @@ impl Oracle {
         parts.ends().iter().position(|&end| bad(&(end as usize)))
     }
 
-    /// Refusals 7 and 8.
-    fn edges_and_vertices(&self, parts: &Parts) -> Result<(), Refusal> {
+    /// Refusal 8.
+    fn vertices(&self, parts: &Parts) -> Result<(), Refusal> {
         let edges = parts.edges();
-        let repeat = refuse_at(self.repeat(&edges).map(|j| parts.edges_at() + j), 7);
+        if self.falls_for(Trap::RepeatRefused) {
+            let repeat = (0..parts.m).find(|&j| edges[..j].contains(&edges[j]));
+            refuse_at(repeat.map(|j| parts.edges_at() + j), 7)?;
+        }
         let sink = (0..parts.n).find(|&v| edges.iter().all(|&(source, _)| source != v));
         let as_word = self.falls_for(Trap::SinkAsWord);
-        let sink = refuse_at(sink.map(|v| if as_word { 2 + v } else { v }), 8);
-        if self.falls_for(Trap::SinkBeforeRepeat) {
-            sink.and(repeat)
-        } else {
-            repeat.and(sink)
-        }
+        refuse_at(sink.map(|v| if as_word { 2 + v } else { v }), 8)
     }
 
-    /// The first edge that is equal to an earlier one.
-    fn repeat(&self, edges: &[(usize, usize)]) -> Option<usize> {
-        let mut earlier = HashSet::new();
-        let repeat = edges.iter().position(|&edge| !earlier.insert(edge))?;
-        if self.falls_for(Trap::RepeatAtEarlierEdge) {
-            return edges.iter().position(|&edge| edge == edges[repeat]);
+    /// The number of different edges.
+    pub fn different(&self, game: &Game) -> usize {
+        if self.falls_for(Trap::RepeatCountedApart) {
+            let mut listed = game.listed.clone();
+            listed.dedup();
+            return listed.len();
         }
-        Some(repeat)
+        if self.falls_for(Trap::RepeatsCounted) {
+            return game.m();
+        }
+        game.edges.len()
     }
 }

@@ -1,6 +1,6 @@
-//! A second implementation of every call, for tests: written from document 01 and its change request
-//! CR 1, which docs/CONTRACT.md renders, by their definitions, slow and plain, and sharing no code
-//! with the library that it is compared with.
+//! A second implementation of every call, for tests: written from document 01 and its change requests
+//! CR 1 and CR 2, which docs/CONTRACT.md renders, by their definitions, slow and plain, and sharing no
+//! code with the library that it is compared with.
 //!
 //! Each [`Trap`] is a misreading of the contract. An [`Oracle`] that falls for one gives the answers
 //! of that misreading, so a test can show that it would be noticed.

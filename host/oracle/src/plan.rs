@@ -81,8 +81,10 @@ impl Oracle {
         if game.owner[v] == player || self.falls_for(Trap::OneAnswerEnough) {
             return next.is_empty();
         }
-        let answered = |x: &usize| next.iter().any(|&j| plan.vertex[j] == *x);
-        !game.successors[v].iter().all(answered)
+        let answers = |x: usize| next.iter().filter(|&&j| plan.vertex[j] == x).count();
+        let asked =
+            |x: usize| if self.falls_for(Trap::RepeatAsksTwice) { game.times((v, x)) } else { 1 };
+        !game.successors[v].iter().all(|&x| answers(x) >= asked(x))
     }
 
     /// Whether the position lies on a closed walk whose lowest priority it has and which is of the

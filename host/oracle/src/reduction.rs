@@ -55,10 +55,15 @@ impl Oracle {
                 members.iter().all(|v| goes(v, d))
             }
         };
-        let edges = Relation::of(classes.count(), classes.count(), edge);
+        let mut edges: Vec<(usize, usize)> =
+            Relation::of(classes.count(), classes.count(), edge).pairs().collect();
+        if self.falls_for(Trap::RepeatWritten) {
+            let twice = |&(c, d): &(usize, usize)| doubled(game, classes, c, d);
+            edges.extend(edges.clone().into_iter().filter(twice));
+        }
         let priority = classes.members.iter().map(|members| game.priority[members[0]]).collect();
         let owner = classes.members.iter().map(|members| self.class_owner(game, members)).collect();
-        Game::new(priority, owner, edges.pairs().collect())
+        Game::new(priority, owner, edges)
     }
 
     fn class_owner(&self, game: &Game, members: &[usize]) -> u16 {
@@ -77,16 +82,17 @@ impl Oracle {
             let evens_rule = (quotient.owner[c] == 0) != prose;
             others.into_iter().any(|&e| if evens_rule { below(d, e) } else { below(e, d) })
         };
-        let kept = quotient.edges.iter().copied().filter(|&(c, d)| !dropped(c, d));
+        let kept = quotient.listed.iter().copied().filter(|&(c, d)| !dropped(c, d));
         Game::new(quotient.priority.clone(), quotient.owner.clone(), kept.collect())
     }
 
     /// The game of classes as its table lists it: by source class, then by target class, ascending.
     pub fn listed(&self, game: &Game) -> Game {
         let mut edges = Vec::new();
-        for (c, successors) in game.successors.iter().enumerate() {
-            let mut targets: Vec<usize> =
-                (0..game.n()).filter(|d| successors.contains(d)).collect();
+        for c in 0..game.n() {
+            let of_c = game.listed.iter().filter(|edge| edge.0 == c);
+            let mut targets: Vec<usize> = of_c.map(|edge| edge.1).collect();
+            targets.sort();
             if self.falls_for(Trap::TargetsDescending) {
                 targets.reverse();
             }
@@ -100,4 +106,10 @@ impl Oracle {
         }
         Game::new(game.priority.clone(), game.owner.clone(), edges)
     }
+}
+
+/// Whether the lowest member of a class has an edge into another that the table repeats.
+fn doubled(game: &Game, classes: &Classes, c: usize, d: usize) -> bool {
+    let v = classes.lowest(c);
+    game.successors[v].iter().any(|&x| classes.of[x] == d && game.times((v, x)) > 1)
 }

@@ -26,7 +26,9 @@ impl Oracle {
         let (order, passes) = self.order_of(game);
         let classes = self.classes_of(game, &order);
         let reduced = self.reduced_of(&self.quotient_of(game, &classes), &classes, &order);
-        let mut text = format!("game {} {}\n", game.n(), game.m());
+        let by_m = self.falls_for(Trap::ReportByTable);
+        let edges = if by_m { game.m() } else { self.different(game) };
+        let mut text = format!("game {} {edges}\n", game.n());
         writeln!(text, "passes {passes}").unwrap();
         writeln!(text, "classes {}", classes.count()).unwrap();
         for (vertex, class) in classes.of.iter().enumerate() {

@@ -18,10 +18,14 @@ pub enum Trap {
     EndsBeforeOwners,
     /// The first bad edge end is searched edge by edge, not word by word.
     EndsEdgeByEdge,
-    /// A repeat is reported where the earlier edge stands.
-    RepeatAtEarlierEdge,
-    /// A vertex without an edge is reported before a repeated edge.
-    SinkBeforeRepeat,
+    /// An edge equal to an earlier one is refused.
+    RepeatRefused,
+    /// Repeats count as different edges.
+    RepeatsCounted,
+    /// A repeat counts as a different edge where it doesn't follow its equal at once.
+    RepeatCountedApart,
+    /// A call that writes a table gives its different edges too.
+    DifferentEverywhere,
     /// A vertex without an edge is reported by its word.
     SinkAsWord,
     /// A table longer than its sizes say is taken.
@@ -59,6 +63,10 @@ pub enum Trap {
     LowestMemberDecides,
     /// The output's length is checked against the result, not the input.
     OutputByResult,
+    /// The output's length is checked against the different edges.
+    OutputByDifferent,
+    /// A quotient edge that comes from a repeated edge stands twice.
+    RepeatWritten,
     /// The edges of a class are listed by descending target.
     TargetsDescending,
     /// Edges are listed by target before source.
@@ -70,6 +78,8 @@ pub enum Trap {
     ReachableOnly,
     /// One link is enough at the opponent's positions too.
     OneAnswerEnough,
+    /// A repeated edge of the opponent asks for as many links.
+    RepeatAsksTwice,
     /// The first bad link end is searched link by link.
     LinkEndsTogether,
     /// The highest priority of a closed walk decides.
@@ -85,11 +95,13 @@ pub enum Trap {
     HalfWordDropped,
     /// The report reads tables of any length.
     ReportUnlimited,
+    /// The report's first line counts the edges in the table.
+    ReportByTable,
 }
 
 impl Trap {
     /// Every trap, those of document 01 first.
-    pub const ALL: [Trap; 38] = [
+    pub const ALL: [Trap; 44] = [
         Trap::SomeMemberHasEdge,
         Trap::LittleBrothersByProse,
         Trap::MixedRowsExchanged,
@@ -97,8 +109,10 @@ impl Trap {
         Trap::SelfLoopsOnly,
         Trap::EndsBeforeOwners,
         Trap::EndsEdgeByEdge,
-        Trap::RepeatAtEarlierEdge,
-        Trap::SinkBeforeRepeat,
+        Trap::RepeatRefused,
+        Trap::RepeatsCounted,
+        Trap::RepeatCountedApart,
+        Trap::DifferentEverywhere,
         Trap::SinkAsWord,
         Trap::LongTableTaken,
         Trap::PassZeroMarksAll,
@@ -116,11 +130,14 @@ impl Trap {
         Trap::OwnerOfHighest,
         Trap::LowestMemberDecides,
         Trap::OutputByResult,
+        Trap::OutputByDifferent,
+        Trap::RepeatWritten,
         Trap::TargetsDescending,
         Trap::TargetBeforeSource,
         Trap::LastTargetMissing,
         Trap::ReachableOnly,
         Trap::OneAnswerEnough,
+        Trap::RepeatAsksTwice,
         Trap::LinkEndsTogether,
         Trap::HighestDecides,
         Trap::LowestOnWalk,
@@ -128,5 +145,6 @@ impl Trap {
         Trap::KindsWithoutGaps,
         Trap::HalfWordDropped,
         Trap::ReportUnlimited,
+        Trap::ReportByTable,
     ];
 }

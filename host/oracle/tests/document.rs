@@ -59,18 +59,23 @@ fn p1_single_vertex() {
 }
 
 #[test]
-fn p2_to_p7_refusals_of_the_reader() {
-    let rows: [(&[u16], u32, usize); 6] = [
+fn p2_to_p6_refusals_of_the_reader() {
+    let rows: [(&[u16], u32, usize); 5] = [
         (&[], 1, 0),
         (&[0, 0], 2, 0),
         (&[1, 0, 0, 0], 8, 0),
         (&[1, 1, 0, 2, 0, 0], 5, 3),
         (&[1, 1, 0, 0, 0, 1], 6, 5),
-        (&[1, 2, 0, 0, 0, 0, 0, 0], 7, 5),
     ];
     for (game, number, place) in rows {
         assert_eq!(Oracle::exact().read(game), refused(number, place));
     }
+}
+
+#[test]
+fn p7_a_loop_written_twice() {
+    let answer = Answer { vertices: 1, edges: 2, different: 1, ..Answer::default() };
+    assert_eq!(Oracle::exact().read(&[1, 2, 0, 0, 0, 0, 0, 0]), answer);
 }
 
 #[test]
@@ -126,9 +131,12 @@ fn game_d() {
 
 #[test]
 fn limits() {
-    let accepted = |vertices, edges| Answer { vertices, edges, ..Answer::default() };
-    assert_eq!(Oracle::exact().read(&regular(256, 4096)), accepted(256, 4096));
-    assert_eq!(Oracle::exact().read(&regular(64, 4096)), accepted(64, 4096));
+    let accepted =
+        |vertices, edges, different| Answer { vertices, edges, different, ..Answer::default() };
+    assert_eq!(Oracle::exact().read(&regular(256, 4096)), accepted(256, 4096, 4096));
+    assert_eq!(Oracle::exact().read(&regular(64, 4096)), accepted(64, 4096, 4096));
+    let loops = [&[1, 4096, 0, 0][..], &[0; 8192]].concat();
+    assert_eq!(Oracle::exact().read(&loops), accepted(1, 4096, 1));
     assert_eq!(Oracle::exact().read(&regular(257, 257)), refused(2, 0));
     assert_eq!(Oracle::exact().read(&regular(1, 4097)), refused(3, 1));
     let mut memory = memory_for(&B);

@@ -1,7 +1,9 @@
 //! Facts that the contract states or implies, tried on seeded games: they tie the oracle's algorithms
 //! to the definitions.
 
-use generator::{any_game, copies, damaged, random, solve, strategy_plan, Lcg, Plan, Table};
+use generator::{
+    any_game, copies, damaged, random, same_game, solve, strategy_plan, Lcg, Plan, Table, REFUSALS,
+};
 use oracle::{Answer, Game, Memory, Oracle, Relation};
 
 fn exact() -> Oracle {
@@ -71,7 +73,7 @@ fn quotient_and_reduced_game_are_equivalent_to_the_game() {
         for smaller in [&quotient, &reduced] {
             assert!(exact().simulation(&game, smaller, &up));
             assert!(exact().simulation(smaller, &game, &down));
-            assert!(smaller.m() <= game.m());
+            assert!(smaller.m() <= game.edges.len());
             assert_eq!(exact().read(&smaller.table()).number, 0);
         }
     }
@@ -82,7 +84,7 @@ fn a_class_with_both_owners_has_one_quotient_edge() {
     let mut lcg = Lcg::new(4);
     let mut seen = 0;
     for _ in 0..500 {
-        let base = any_game(&mut lcg, 10);
+        let base = any_game(&mut lcg, 10).without_repeats();
         let (game, _, classes, quotient, _) = reduction(&copies(&mut lcg, &base, 3, true));
         for (class, members) in classes.members.iter().enumerate() {
             let owners = members.iter().map(|&v| game.owner[v]);
@@ -133,7 +135,7 @@ fn winners_are_those_of_the_reduced_game() {
 #[test]
 fn damaged_tables_are_refused_as_meant() {
     let mut lcg = Lcg::new(7);
-    for number in (0..2000).map(|i| 1 + i % 8) {
+    for number in REFUSALS.repeat(300) {
         let table = any_game(&mut lcg, 20);
         assert_eq!(exact().read(&damaged(&mut lcg, &table, number)).number, number, "{table:?}");
     }
@@ -173,4 +175,14 @@ fn closed_walks_are_judged_as_if_each_were_listed() {
         refused += (answer.number == 16) as u32;
     }
     assert!((200..1300).contains(&refused), "{refused}");
+}
+
+#[test]
+fn repeats_and_the_sequence_of_edges_change_no_game() {
+    let mut lcg = Lcg::new(9);
+    for _ in 0..500 {
+        let table = any_game(&mut lcg, 20);
+        let [one, other] = [game(&table), game(&same_game(&mut lcg, &table))];
+        assert_eq!((one.edges, one.successors), (other.edges, other.successors), "{table:?}");
+    }
 }

@@ -153,6 +153,23 @@ fn pictures() {
 }
 
 #[test]
+fn a_repeated_edge_is_one() {
+    let game = b"3 6 / 0 1 0 / 0 0 1 / 0 1 0 2 2 0 / 1 1 1 1 1 1";
+    assert_eq!(run_on(&["report"], game).text(), run(&["report", "games/b.txt"]).text());
+    assert_eq!(run_on(&["dot"], game).text(), run(&["dot", "games/b.txt"]).text());
+    for command in ["order", "classes", "quotient", "reduce"] {
+        let written = |game: &[u8]| run_on(&[command, "--as", "words"], game).bytes();
+        assert_eq!(written(game), written(&bytes(&B)), "{command}");
+    }
+    let loops = run_on(&["report"], b"1 2 / 0 / 0 / 0 0 / 0 0").text();
+    assert!(loops.starts_with("game 1 1\n") && loops.ends_with("reduced 1 1\n"), "{loops}");
+    let dot = run(&["dot", "--help"]).text().replace('\n', " ");
+    assert!(dot.contains("several times is one arrow"), "{dot}");
+    let explained = run(&["explain", "7"]).text();
+    assert!(explained.contains("no longer occurs: since change request CR 2"), "{explained}");
+}
+
+#[test]
 fn shipped_plans_win() {
     for (game, plan) in [("c.txt", "c.plan.txt"), ("lift-doors.txt", "lift-doors.plan.txt")] {
         let words = ["check-plan", &path(game), &path(plan), "--player", "even"];

@@ -3,7 +3,7 @@
 use crate::run::{bytes, file, run, run_on, shipped};
 
 /// Games as text, the refusal, and where it is.
-const GAMES: [(&str, &str, &str); 9] = [
+const GAMES: [(&str, &str, &str); 8] = [
     ("# nothing", "1 at 0", "no number in it"),
     ("1", "1 at 1", "after line 1, word 1, the last of 1"),
     ("0 1", "2 at 0", "line 1, word 1 (n is 0)"),
@@ -11,7 +11,6 @@ const GAMES: [(&str, &str, &str); 9] = [
     ("1 1 0 0\n0", "4 at 5", "after line 2, word 1, the last of 5 (n is 1 and m is 1, so 6 words)"),
     ("1 1 # sizes\n0 2 / 0 0", "5 at 3", "line 2, word 2 (owner 2)"),
     ("1 1 / 0 0\n# ends\n0 1", "6 at 5", "line 3, word 2 (vertex 1)"),
-    ("1 2 / 0 0 /\n0 0 /\n0 0", "7 at 5", "line 2, word 2 (edge 0 to 0)"),
     ("2 1\n0\n7\n0 0\n0 / 0", "8 at 1", "line 3, word 1 (vertex 1)"),
 ];
 

@@ -68,7 +68,7 @@ fn kinds_agree() {
     }
 }
 
-/// The library explains exactly the numbers that it gives.
+/// The library explains exactly the numbers that it gives, and 7, which it gave before CR 2.
 #[test]
 fn every_refusal_is_explained() {
     for number in 0..1000 {

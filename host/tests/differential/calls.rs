@@ -38,7 +38,8 @@ impl Call {
             Call::AcceptPlan => 11..=16,
         };
         let of_marks = (self == Call::AcceptRelation).then_some(21);
-        (1..=8).chain(own).chain(of_marks).filter(|&number| number != 0).collect()
+        let own = own.chain(of_marks).filter(|&number| number != 0);
+        generator::REFUSALS.into_iter().chain(own).collect()
     }
 }
 
@@ -117,12 +118,16 @@ impl Case {
     pub fn safe_answer(&self) -> Answer {
         let (game, mut memory) = (&self.game[..], self.memory.clone());
         let Memory { marks, spare, classes, output } = &mut memory;
-        let of_size = |Size { vertices, edges }| Answer {
+        let of_size = |Size { vertices, edges, different }| Answer {
             vertices: vertices as u32,
             edges: edges as u32,
+            different: different as u32,
             ..Answer::default()
         };
-        let of_table = |size: Size| Answer { classes: size.vertices as u32, ..of_size(size) };
+        let of_table = |size: Size| {
+            assert_eq!(size.different, size.edges, "each edge stands once");
+            Answer { classes: size.vertices as u32, different: 0, ..of_size(size) }
+        };
         let of_classes = |classes| Answer { classes: classes as u32, ..Answer::default() };
         let verdict = match self.call {
             Call::Read => raskjomi::read(game).map(of_size),
@@ -144,8 +149,8 @@ impl Case {
 }
 
 fn plain(answer: RaskjomiAnswer) -> Answer {
-    let RaskjomiAnswer { number, passes, classes, vertices, edges, place } = answer;
-    Answer { number, passes, classes, vertices, edges, place }
+    let RaskjomiAnswer { number, passes, classes, vertices, edges, different, place } = answer;
+    Answer { number, passes, classes, vertices, edges, different, place }
 }
 
 /// A buffer inside a larger one whose ends must stay as they are.

@@ -41,7 +41,8 @@ pub fn largest_cases() -> Vec<Case> {
     cases
 }
 
-fn agree(case: &Case) -> u32 {
+/// Compares the case's outcomes; the number that both give.
+pub fn agree(case: &Case) -> u32 {
     let expected = case.expected(&Oracle::exact());
     assert_eq!(case.actual(), expected, "{:?}", case.call);
     expected.answer.number

@@ -7,6 +7,7 @@ mod common;
 mod agreement;
 mod calls;
 mod limits;
+mod repeats;
 mod samples;
 mod tables;
 mod threads;

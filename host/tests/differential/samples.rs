@@ -3,7 +3,7 @@
 use crate::calls::{Call, Case};
 use generator::{
     any_game, bent_plan, damaged, damaged_often, old_bytes, old_words, relation, solve,
-    strategy_plan, unfolded, Lcg, Plan, Solution, Table,
+    strategy_plan, unfolded, Lcg, Plan, Solution, Table, REFUSALS,
 };
 use oracle::{Memory, Oracle};
 
@@ -12,13 +12,13 @@ pub fn cases_on_memory(lcg: &mut Lcg, table: &Table) -> Vec<Case> {
     let game = if lcg.once_in(4) { damaged_table(lcg, table) } else { table.words() };
     let case = |call| Case::on_memory(call, &game, memory(lcg, table));
     let mut cases: Vec<Case> = Call::ON_MEMORY.map(case).into();
-    cases.extend(foreign_relation(lcg, table));
+    cases.extend(foreign_relations(lcg, table));
     cases
 }
 
 fn damaged_table(lcg: &mut Lcg, table: &Table) -> Vec<u16> {
     match lcg.below(13) {
-        number @ 1..=8 => damaged(lcg, table, number as u32),
+        number @ 0..=6 => damaged(lcg, table, REFUSALS[number]),
         _ => damaged_often(lcg, table),
     }
 }
@@ -35,7 +35,7 @@ fn memory(lcg: &mut Lcg, table: &Table) -> Memory {
 }
 
 /// Relations made from the order, with random bytes beyond their end.
-fn foreign_relation(lcg: &mut Lcg, table: &Table) -> Vec<Case> {
+pub fn foreign_relations(lcg: &mut Lcg, table: &Table) -> Vec<Case> {
     let game = Oracle::exact().game(&table.words()).expect("a whole table");
     let order = Oracle::exact().order_of(&game).0.bytes();
     let mut relation_case = || {

@@ -9,7 +9,8 @@ use oracle::{Oracle, Trap};
 const MOST_GAMES: usize = 3000;
 
 /// The misreadings of the report program, which its own test tries.
-const OF_THE_REPORT: [Trap; 2] = [Trap::HalfWordDropped, Trap::ReportUnlimited];
+const OF_THE_REPORT: [Trap; 3] =
+    [Trap::HalfWordDropped, Trap::ReportUnlimited, Trap::ReportByTable];
 
 /// The number of games, from the first of a seed, until the library differs from an oracle that
 /// falls for the trap.

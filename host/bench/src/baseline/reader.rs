@@ -2,6 +2,7 @@
 
 use super::refused;
 use raskjomi::exports::RaskjomiAnswer;
+use std::hint::black_box;
 
 /// The game's sizes, or its refusal.
 pub fn read(game: &[u16]) -> Result<(usize, usize), RaskjomiAnswer> {
@@ -22,7 +23,7 @@ pub fn read(game: &[u16]) -> Result<(usize, usize), RaskjomiAnswer> {
     Ok((n, m))
 }
 
-/// Refusals 5 to 8.
+/// Refusals 5, 6 and 8.
 fn parts(game: &[u16], n: usize, m: usize) -> Result<(), RaskjomiAnswer> {
     let first = 2 + 2 * n;
     let at_least = |from: usize, end: usize, limit: usize| {
@@ -35,9 +36,8 @@ fn parts(game: &[u16], n: usize, m: usize) -> Result<(), RaskjomiAnswer> {
         return Err(refused(6, place));
     }
     let (sources, targets) = game[first..].split_at(m);
-    if let Some(edge) = first_repeat(sources, targets, n) {
-        return Err(refused(7, first + edge));
-    }
+    // The library's reader counts for every call, so the compiler may not leave it out here.
+    black_box(count_different(sources, targets, n));
     let mut has_edge = [false; 256];
     sources.iter().for_each(|&source| has_edge[source as usize] = true);
     match has_edge[..n].iter().position(|&has| !has) {
@@ -46,10 +46,12 @@ fn parts(game: &[u16], n: usize, m: usize) -> Result<(), RaskjomiAnswer> {
     }
 }
 
-fn first_repeat(sources: &[u16], targets: &[u16], n: usize) -> Option<usize> {
+/// How many different edges there are.
+fn count_different(sources: &[u16], targets: &[u16], n: usize) -> usize {
     let mut seen = [false; 65536];
-    sources.iter().zip(targets).position(|(&source, &target)| {
+    let new = sources.iter().zip(targets).filter(|(&source, &target)| {
         let edge = source as usize * n + target as usize;
-        std::mem::replace(&mut seen[edge], true)
-    })
+        !std::mem::replace(&mut seen[edge], true)
+    });
+    new.count()
 }

@@ -9,7 +9,7 @@ use raskjomi::{Refusal, Size};
 /// A game that the reader accepts.
 pub struct Game {
     pub input: Input,
-    size: Size,
+    pub size: Size,
 }
 
 /// The order's marks and its passes.

@@ -42,8 +42,8 @@ pub fn report(arguments: &Arguments) -> Written {
     if let Some(vertex) = arguments.value("--vertex") {
         return vertex_sentence(&game, &reduced, vertex).map(Vec::from);
     }
-    let (table, classes) = (game.table(), &reduced.classes);
-    let mut report = format!("game {} {}\n", table.n(), table.m());
+    let (size, classes) = (game.size, &reduced.classes);
+    let mut report = format!("game {} {}\n", size.vertices, size.different);
     report += &format!("passes {}\nclasses {}\n", game.order()?.passes, reduced.table().n());
     for (vertex, class) in classes.iter().enumerate() {
         report += &format!("vertex {vertex} class {class}\n");

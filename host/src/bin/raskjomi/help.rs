@@ -36,7 +36,8 @@ const GAMES: &str = "A game comes from a file, or from standard input, whose nam
                      with numbers between blanks or slashes and comments after #, or binary, 16-bit \
                      words, low byte first: an input with a control character other than a blank is \
                      binary. The words are: number of vertices, number of edges, priorities, owners \
-                     (0 Even, 1 Odd), sources of the edges, targets of the edges.";
+                     (0 Even, 1 Odd), sources of the edges, targets of the edges. An edge may stand \
+                     several times: it counts as one edge of the game, but each time among the words.";
 
 /// Where to read on, and why a run can take long.
 const MORE: &str =
@@ -45,8 +46,8 @@ const MORE: &str =
 
 /// The output of the commands that write a game.
 const TABLES: &str = "Text and words are game tables, which every command reads. The edges are \
-                      listed by source, then by target, ascending. Dot: a picture of the game, \
-                      with the members of each class.";
+                      listed by source, then by target, ascending, each once. Dot: a picture of \
+                      the game, with the members of each class.";
 
 /// The commands, in the sequence of the help.
 pub const COMMANDS: [Command; 9] = [
@@ -55,8 +56,9 @@ pub const COMMANDS: [Command; 9] = [
         usage: "report [GAME] [--vertex V]",
         summary: "sizes, passes, the class of each vertex and the reduced game's sizes",
         details:
-            "With --vertex, one sentence on the vertex: its class, who else is in it, and what \
-                  that means for a win.",
+            "The first line has the number of vertices and the number of different edges. With \
+                  --vertex, one sentence on the vertex instead: its class, who else is in it, and \
+                  what that means for a win.",
         example: "./raskjomi report games/b.txt --vertex 2",
         files: 0..=1,
         options: &[Opt { name: "--vertex", value: Some("a vertex") }],
@@ -135,7 +137,8 @@ pub const COMMANDS: [Command; 9] = [
         name: "explain",
         usage: "explain NUMBER",
         summary: "what a refusal number means, what its place counts, and what to do",
-        details: "A refused input gets one of the numbers 1 to 16 and 21 to 24.",
+        details:
+            "A refused input gets one of the numbers 1 to 16 and 21 to 24; 7 no longer occurs.",
         example: "./raskjomi explain 8",
         files: 1..=1,
         options: &[],
@@ -145,7 +148,9 @@ pub const COMMANDS: [Command; 9] = [
         name: "dot",
         usage: "dot [GAME] [--reduced]",
         summary: "Graphviz text of the game with its classes, or of the reduced game",
-        details: "Even's vertices are diamonds, Odd's are boxes.",
+        details:
+            "Even's vertices are diamonds, Odd's are boxes. An edge that the table has several \
+                  times is one arrow.",
         example: "./raskjomi dot games/d.txt | dot -Tsvg > d.svg",
         files: 0..=1,
         options: &[Opt { name: "--reduced", value: None }],

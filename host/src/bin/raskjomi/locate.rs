@@ -17,7 +17,6 @@ pub fn game_refused(refusal: Refusal, game: &Input) -> Failure {
         }
         5 => (place, format!("owner {}", number(place))),
         6 => (place, format!("vertex {}", number(place))),
-        7 => (place, format!("edge {} to {}", number(place), number(place + number(1)))),
         8 => (2 + place, format!("vertex {place}")),
         _ => (place, String::new()),
     };

@@ -1,5 +1,7 @@
 //! A view of an accepted game table.
 
+use std::collections::HashSet;
+
 /// The words of a table that the library accepted or wrote.
 #[derive(Clone, Copy)]
 pub struct Table<'a> {
@@ -18,7 +20,7 @@ impl<'a> Table<'a> {
         self.words[0] as usize
     }
 
-    /// The number of edges.
+    /// The number of edges in the table.
     pub fn m(&self) -> usize {
         self.words[1] as usize
     }
@@ -43,9 +45,11 @@ impl<'a> Table<'a> {
         self.words[2 + 2 * self.n()..].split_at(self.m())
     }
 
-    /// The edges in table order.
+    /// The different edges, each where the table first has it.
     pub fn edges(&self) -> impl Iterator<Item = (u16, u16)> + 'a {
         let (sources, targets) = self.ends();
-        sources.iter().copied().zip(targets.iter().copied())
+        let edges = sources.iter().copied().zip(targets.iter().copied());
+        let mut earlier = HashSet::new();
+        edges.filter(move |&edge| earlier.insert(edge))
     }
 }
