@@ -5,3 +5,4 @@ pub mod NumberingLaws
 pub mod HoldingLaws
 pub mod ClassesRulesLaws
 pub mod ClassesCallLaws
+pub mod SameClassesLaws
