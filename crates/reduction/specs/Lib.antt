@@ -4,3 +4,4 @@ pub mod TableRulesLaws
 pub mod Edges
 pub mod EdgesLaws
 pub mod TableCallLaws
+pub mod SameTableLaws
