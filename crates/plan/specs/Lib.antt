@@ -5,3 +5,4 @@ pub mod StampsLaws
 pub mod AnswerLaws
 pub mod AcceptanceLaws
 pub mod WinningLaws
+pub mod SamePlanLaws
