@@ -1,0 +1,10 @@
+pub mod Generator
+pub mod GeneratorLaws
+pub mod SeedTable
+pub mod SeedTableLaws
+pub mod SeedCall
+pub mod SeedCallLaws
+pub mod SeedRules
+pub mod SeedRulesLaws
+pub mod Progress
+pub mod ProgressLaws

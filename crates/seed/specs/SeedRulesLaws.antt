@@ -1,0 +1,138 @@
+-- Laws of the seed call: it refuses k at p exactly as change request 3's table says, accepts exactly otherwise, and what an accepted call
+-- wrote is the table of its four numbers.
+use mathlib.Core.Path.{_≡_, refl, sym, ap, _∙_}
+use mathlib.Core.Logic.{_⊎_, inl, inr, _↔_, ⊎-elim}
+use mathlib.Core.Bool.{Bool, true, false, So, false≢true}
+use mathlib.Core.List.{List, [], _∷_}
+use Prim.Native.Nat.{ℕ, _*_, _≤_, _<_}
+use native.Mathlib.Decide.{decLt}
+use native.Mathlib.Omega.{arith}
+use lib.Dec.{eqb, ltb}
+use lib.ListN.{length, getD, drop}
+use lib.Seq.{take-at}
+use borrow.Author.Tests.{eqb-true, eqb-false, eq-eqb, ne-eqb, ltb-true, ltb-false, lt-ltb, le-ltb}
+use Rattle.theory.specs.Bools.{_or_}
+use Rattle.theory.specs.BoolsLaws.{or-left, or-right, or-out}
+use Rattle.table.specs.Limits.{vertexLimit, edgeLimit}
+use Rattle.table.specs.Table.{tableLength, tableIn}
+use Rattle.table.specs.Verdict.{accepted, refused, written}
+use Rattle.table.specs.VerdictLaws.{judge-clean, judge-accepted, length-written, getD-written-beyond, after-accepted, after-refused}
+use Rattle.table.specs.Rules.{FirstRule, Rendered, none, next}
+use Rattle.table.specs.RulesLaws.{renders-placed, memory-renders, refused-by}
+use Rattle.seed.specs.SeedTable.{seedTable}
+use Rattle.seed.specs.SeedTableLaws.{length-seedTable}
+use Rattle.seed.specs.SeedCall.{degreeLimit, priorityLimit, outside, unfit, seedRows, seedAnswer, SeedCall}
+use Rattle.seed.specs.SeedRules.{Within, seedRules, Fit, SeedFits}
+
+-- ---- what the tests say
+
+or-says : {a b : Bool} {A B : Type 0} → So a ↔ A → So b ↔ B → So (a or b) ↔ (A ⊎ B)
+or-says {a} {b} s t = (λ h. ⊎-elim (λ x. inl (s .0 x)) (λ y. inr (t .0 y)) (or-out h), λ h. ⊎-elim (λ x. or-left b (s .1 x)) (λ y. or-right a (t .1 y)) h)
+
+outside-says : (x limit : ℕ) → So (outside x limit) ↔ (¬ Within x limit)
+unfolding outside
+outside-says x limit = (
+  λ h w. ⊎-elim (λ a. omega (arith, eqb-true x 0 a, w .some)) (λ b. omega (arith, ltb-true limit x b, w .few)) (or-out h),
+  λ m. elim (decLt limit x) [
+    | yes l ↦ or-right (eqb x 0) (lt-ltb limit x l)
+    | no k ↦ elim (decLt 0 x) [ yes p ↦ absurd (m (record { some = p; few = omega arith })) | no q ↦ or-left (ltb limit x) (eq-eqb x 0 (omega arith)) ]
+  ],
+)
+
+unfit-says : (n d c : ℕ) → So (unfit n d c) ↔ ((¬ Within n vertexLimit) ⊎ ((¬ Within d degreeLimit) ⊎ ((¬ Within c priorityLimit) ⊎ (edgeLimit < n * d))))
+unfolding unfit
+unfit-says n d c =
+    or-says (outside-says n vertexLimit)
+    (or-says (outside-says d degreeLimit) (or-says (outside-says c priorityLimit) (ltb-true edgeLimit (n * d), lt-ltb edgeLimit (n * d))))
+
+-- ---- and where they fail
+
+or-fails : (a b : Bool) → ((a or b) ≡ false) ↔ ((a ≡ false) × (b ≡ false))
+unfolding _or_
+or-fails true b = (λ e. absurd (false≢true (sym e)), λ p. absurd (false≢true (sym (p .0))))
+or-fails false b = (λ e. (refl, e), λ p. p .1)
+
+outside-fails : (x limit : ℕ) → (outside x limit ≡ false) ↔ Within x limit
+unfolding outside
+outside-fails x limit = (
+  λ e. let p = or-fails (eqb x 0) (ltb limit x) .0 e in let z : (x ≡ 0) → ⊥ = eqb-false x 0 (p .0) in record { some = omega arith; few = ltb-false limit x (p .1) },
+  λ w. or-fails (eqb x 0) (ltb limit x) .1 (ne-eqb x 0 (λ z. omega (arith, w .some)), le-ltb limit x (w .few)),
+)
+
+pub unfit-fails : (n d c : ℕ) → (unfit n d c ≡ false) ↔ Fit n d c
+unfolding unfit
+unfit-fails n d c = (
+  λ e.
+      let p = or-fails (outside n vertexLimit) _ .0 e in
+      let q = or-fails (outside d degreeLimit) _ .0 (p .1) in
+      let r = or-fails (outside c priorityLimit) _ .0 (q .1) in
+      record {
+        vertices = outside-fails n vertexLimit .0 (p .0);
+        degree = outside-fails d degreeLimit .0 (q .0);
+        priorities = outside-fails c priorityLimit .0 (r .0);
+        edges = ltb-false edgeLimit (n * d) (r .1);
+      },
+  λ f.
+      or-fails (outside n vertexLimit) _ .1 (
+        outside-fails n vertexLimit .1 (f .vertices),
+        or-fails (outside d degreeLimit) _ .1 (
+          outside-fails d degreeLimit .1 (f .degree),
+          or-fails (outside c priorityLimit) _ .1 (outside-fails c priorityLimit .1 (f .priorities), le-ltb edgeLimit (n * d) (f .edges)),
+        ),
+      ),
+)
+
+-- ---- refused exactly by the table
+
+seed-rows-render : (n d c : ℕ) (output : List ℕ) → Rendered (seedRows n d c output) (seedRules n d c output)
+unfolding seedRows
+seed-rows-render n d c output = next (renders-placed 31 0 _ _ (unfit-says n d c)) (next (memory-renders 32 _ output) none)
+
+pub seed-refused : (n d c : ℕ) (output : List ℕ) (k p : ℕ) → (seedAnswer n d c output ≡ refused k p) ↔ FirstRule (seedRules n d c output) k p
+unfolding seedAnswer
+seed-refused n d c output = refused-by _ (seed-rows-render n d c output) refl
+
+-- ---- accepted exactly otherwise, with n and m
+
+pub seed-accepted : (n d c : ℕ) (output counts : List ℕ) → seedAnswer n d c output ≡ accepted counts → SeedFits n d c output × (counts ≡ n ∷ n * d ∷ [])
+unfolding seedAnswer seedRows
+seed-accepted n d c output counts e =
+    let a = judge-accepted _ _ counts e in
+    (record { numbers = unfit-fails n d c .0 (a .0 .0); outputFits = ltb-false (length output) _ (a .0 .1 .0) }, sym (a .1))
+
+pub seed-accepts : (n d c : ℕ) (output : List ℕ) → SeedFits n d c output → seedAnswer n d c output ≡ accepted (n ∷ n * d ∷ [])
+unfolding seedAnswer seedRows
+seed-accepts n d c output f = judge-clean _ _ (unfit-fails n d c .1 (f .numbers), (le-ltb (length output) _ (f .outputFits), tt))
+
+-- ---- what an accepted call wrote
+
+-- the table begins a buffer that it was written to
+table-begins : (s n d c : ℕ) (old : List ℕ) → tableIn (written (seedTable s n d c) old) ≡ seedTable s n d c
+unfolding written seedTable
+table-begins s n d c old = take-at (seedTable s n d c) (drop (length (seedTable s n d c)) old) (tableLength n (n * d)) (length-seedTable s n d c)
+
+module _ (s n d c : ℕ) (output counts output′ : List ℕ) (call : SeedCall s n d c output (accepted counts) output′) where
+  output-holds : output′ ≡ written (seedTable s n d c) output
+  unfolding seedAnswer
+  output-holds = call .output-after ∙ after-accepted (seedRows n d c output) _ (seedTable s n d c) output (sym (call .verdict))
+
+  pub written-table : tableIn output′ ≡ seedTable s n d c
+  written-table = ap (λ (l : List ℕ). tableIn l) output-holds ∙ table-begins s n d c output
+
+  pub length-output : length output′ ≡ length output
+  length-output =
+      let f = seed-accepted n d c output counts (sym (call .verdict)) .0 in
+      ap length output-holds ∙ length-written (seedTable s n d c) output (omega (arith, f .outputFits, length-seedTable s n d c))
+
+  pub beyond-output : (i : ℕ) → tableLength n (n * d) ≤ i → getD output′ i 0 ≡ getD output i 0
+  beyond-output i h = rw output-holds (getD-written-beyond (seedTable s n d c) output i 0 (rw (length-seedTable s n d c) h))
+
+-- the table depends on nothing but the four numbers: two accepted calls, whatever they were lent, wrote the same
+pub same-table : (s n d c : ℕ) (out₁ out₂ counts₁ counts₂ out₁′ out₂′ : List ℕ) → SeedCall s n d c out₁ (accepted counts₁) out₁′
+    → SeedCall s n d c out₂ (accepted counts₂) out₂′ → tableIn out₁′ ≡ tableIn out₂′
+same-table s n d c out₁ out₂ counts₁ counts₂ out₁′ out₂′ a b = written-table s n d c out₁ counts₁ out₁′ a ∙ sym (written-table s n d c out₂ counts₂ out₂′ b)
+
+-- a refused call left the output as it was
+pub refused-old : (s n d c : ℕ) (output : List ℕ) (k p : ℕ) (output′ : List ℕ) → SeedCall s n d c output (refused k p) output′ → output′ ≡ output
+unfolding seedAnswer
+refused-old s n d c output k p output′ call = call .output-after ∙ after-refused (seedRows n d c output) _ (seedTable s n d c) output (sym (call .verdict))

@@ -1,0 +1,80 @@
+// Games by the seed: a table of n vertices with d edges each, drawn by a generator that is the same on every machine.
+mod generator;
+mod writing;
+
+use table::Refusal;
+use table::limits::EDGES;
+use table::limits::VERTICES;
+ghost use mathlib.Core.Path.{_≡_};
+ghost use Rattle.seed.specs.SeedCall.{outside, unfit, seedingAnswer, SeedCall};
+
+// The largest degree and the largest count of priorities.
+pub const DEGREES: usize = 16;
+
+pub const PRIORITIES: usize = 65535;
+
+pub struct SeedCounts {
+    pub vertices: usize,
+    pub edges: usize,
+}
+
+pub enum Seeding {
+    Accepted(SeedCounts),
+    Refused(Refusal),
+}
+
+// Whether x isn't 1 to `limit`.
+fn is_outside(x: u32, limit: usize) -> bool
+    ensures { λ r. ⌜ r ≡ outside x limit ⌝ }
+{
+    x == 0 || limit < x as usize
+}
+
+// Refusal 31. The ranges are judged before the product, so that it fits.
+fn is_unfit(vertices: u32, degree: u32, priorities: u32) -> bool
+    ensures { λ r. ⌜ r ≡ unfit vertices degree priorities ⌝ }
+{
+    if is_outside(vertices, VERTICES) {
+        return true;
+    }
+    if is_outside(degree, DEGREES) {
+        return true;
+    }
+    if is_outside(priorities, PRIORITIES) {
+        return true;
+    }
+    EDGES < vertices as usize * degree as usize
+}
+
+// Writes the table of a seed. The verdict carries n and m.
+pub fn write_seeded(
+    seed: u32,
+    vertices: u32,
+    degree: u32,
+    priorities: u32,
+    output: &mut [u16],
+) -> Seeding
+    ensures { λ r. ⌜ SeedCall seed vertices degree priorities (now (output .entry)) (seedingAnswer r) (now (output .exit)) ⌝ }
+{
+    if is_unfit(vertices, degree, priorities) {
+        return Seeding::Refused(Refusal {
+            number: 31,
+            place: 0,
+        });
+    }
+    let n = vertices as usize;
+    let d = degree as usize;
+    let m = n * d;
+    let needed = 2 + 2 * n + 2 * m;
+    if output.len() < needed {
+        return Seeding::Refused(Refusal {
+            number: 32,
+            place: needed,
+        });
+    }
+    writing::write_table(seed, n, d, priorities, output);
+    Seeding::Accepted(SeedCounts {
+        vertices: n,
+        edges: m,
+    })
+}
