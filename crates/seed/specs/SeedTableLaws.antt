@@ -1,5 +1,6 @@
 -- Laws of a seeded table: its words by place, and each fact that the reader asks of a table.
 use mathlib.Core.Path.{_≡_, refl, _∙_}
+use mathlib.Core.List.{[], _∷_}
 use Prim.Native.Nat.{ℕ, _+_, _*_, _/_, _≤_, _<_}
 use native.Mathlib.Nat.{mod-lt, div-lt-iff-lt-mul}
 use native.Mathlib.Omega.{arith}
@@ -9,6 +10,7 @@ use Rattle.theory.specs.Range.{tabulate}
 use Rattle.theory.specs.ListLaws.{length-tabulate, getD-tabulate}
 use Rattle.table.specs.Table.{vertexCount, tableEdges, priorityAt, ownerAt, sourceAt, targetAt, tableLength}
 use Rattle.table.specs.ColumnsLaws.{Columns, length-columns, priority-column, owner-column, source-column, target-column}
+use Rattle.seed.specs.Generator.{step, drawOf, stateAfter}
 use Rattle.seed.specs.SeedTable.{drawnPriority, drawnOwner, drawnTarget, seedTable}
 
 module _ (s n d c : ℕ) where
@@ -65,3 +67,9 @@ module _ (s n d c : ℕ) where
     -- every vertex has an edge out: its first
     pub seed-total : (v : ℕ) → v < n → (j : ℕ) × (j < n * d) × (sourceAt (seedTable s n d c) j ≡ v)
     seed-total v h = let l = digits-lt h out in (v * d + 0, l, seed-source (v * d + 0) l ∙ digits-div v out)
+
+-- ---- a table, computed: its draws are 15,521, 30,144, 12,383, then 48,621, 46,989, 7,682
+
+pub seed-example : seedTable 2 2 1 10 ≡ 2 ∷ 2 ∷ 1 ∷ 1 ∷ 0 ∷ 1 ∷ 0 ∷ 1 ∷ 1 ∷ 0 ∷ []
+unfolding seedTable tabulate drawOf stateAfter step
+seed-example = refl
