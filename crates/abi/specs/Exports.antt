@@ -7,7 +7,8 @@ use Rattle.table.specs.Verdict.{Answer}
 use Rattle.order.specs.OrderCall.{OrderCall}
 use Rattle.classes.specs.ClassesCall.{ClassesCall}
 use Rattle.reduction.specs.TableCall.{TableCall}
-use Rattle.abi.specs.Fields.{orderFields, classesFields, tableFields}
+use Rattle.seed.specs.SeedCall.{SeedCall}
+use Rattle.abi.specs.Fields.{orderFields, classesFields, tableFields, seedFields}
 use Rattle.abi.specs.declared.RaskjomiAnswer.{RaskjomiAnswer}
 
 pub record OrderExport (game marks spare : List ℕ) (r : RaskjomiAnswer) (marks′ spare′ : List ℕ) : Type 0 where
@@ -24,3 +25,8 @@ pub record TableExport (K : Game → Game) (game marks spare classes output : Li
   pub answer : Answer
   pub fields : r ≡ tableFields answer
   pub call : TableCall K game marks spare classes output answer marks′ spare′ classes′ output′
+
+pub record SeedExport (seed n d c : ℕ) (output : List ℕ) (r : RaskjomiAnswer) (output′ : List ℕ) : Type 0 where
+  pub answer : Answer
+  pub fields : r ≡ seedFields answer
+  pub call : SeedCall seed n d c output answer output′

@@ -5,6 +5,7 @@ use lib.ListN.{getD}
 use Rattle.table.specs.Verdict.{Answer, accepted, refused}
 use Rattle.table.specs.declared.Reading.{Reading}
 use Rattle.table.specs.declared.Reading.the-variants.{Accepted, Refused}
+use Rattle.seed.specs.declared.Seeding.{Seeding}
 use Rattle.classes.specs.declared.Classification.{Classification}
 use Rattle.reduction.specs.declared.Tabulation.{Tabulation}
 use Rattle.abi.specs.declared.RaskjomiAnswer.{RaskjomiAnswer}
@@ -43,10 +44,20 @@ abbrev pub tableFields : Answer → RaskjomiAnswer
 tableFields (accepted counts) = counted 0 (getD counts 0 0) (getD counts 1 0) (getD counts 2 0) 0
 tableFields (refused number place) = turnedDown number place
 
+-- games by the seed: n and m
+abbrev pub seedFields : Answer → RaskjomiAnswer
+seedFields (accepted counts) = counted 0 0 (getD counts 0 0) (getD counts 1 0) 0
+seedFields (refused number place) = turnedDown number place
+
 -- a reading whose sizes fit the answer's fields
 abbrev pub SmallSizes : Reading → Type 0
 SmallSizes (Accepted sizes) = (sizes .vertices < 4294967296) × (sizes .edges < 4294967296) × (sizes .different < 4294967296)
 SmallSizes (Refused refusal) = Unit
+
+-- the same of a seeded table's counts
+abbrev pub SmallSeeding : Seeding → Type 0
+SmallSeeding (Seeding.Accepted counts) = (counts .vertices < 4294967296) × (counts .edges < 4294967296)
+SmallSeeding (Seeding.Refused refusal) = Unit
 
 -- the same of a class count, and of a table's counts
 abbrev pub SmallCount : Classification → Type 0

@@ -21,7 +21,19 @@ use Rattle.classes.specs.ClassesCall.{classRows, classTotal, classesAnswer, cla
 use Rattle.classes.specs.declared.Classification.{Classification}
 use Rattle.reduction.specs.TableCall.{tableRows, tabulationAnswer, TableCall}
 use Rattle.reduction.specs.declared.Tabulation.{Tabulation}
-use Rattle.abi.specs.Fields.{SmallSizes, SmallCount, SmallCounts}
+use Rattle.seed.specs.SeedCall.{seedingAnswer, SeedCall}
+use Rattle.seed.specs.SeedRulesLaws.{seed-accepted}
+use Rattle.seed.specs.declared.Seeding.{Seeding}
+use Rattle.abi.specs.Fields.{SmallSizes, SmallSeeding, SmallCount, SmallCounts}
+
+first-count : {x y : ℕ} {xs ys : List ℕ} → x ∷ xs ≡ y ∷ ys → x ≡ y
+first-count {x} e = ap (λ (l : List ℕ). getD l 0 x) e
+
+second-count : {x y z w : ℕ} {xs ys : List ℕ} → x ∷ y ∷ xs ≡ z ∷ w ∷ ys → y ≡ w
+second-count {y} e = ap (λ (l : List ℕ). getD l 1 y) e
+
+third-count : {x y z u v w : ℕ} {xs ys : List ℕ} → x ∷ y ∷ z ∷ xs ≡ u ∷ v ∷ w ∷ ys → z ≡ w
+third-count {z} e = ap (λ (l : List ℕ). getD l 2 z) e
 
 pub reading-small : (g : List ℕ) (r : Reading) → readingAnswer r ≡ readAnswer g → SmallSizes r
 reading-small g (Accepted sizes) e =
@@ -32,6 +44,13 @@ reading-small g (Accepted sizes) e =
     )
 reading-small g (Refused refusal) e = tt
 
+-- a seeded table is within the limits
+pub seeding-small : (s n d c : ℕ) (output : List ℕ) (t : Seeding) (output′ : List ℕ) → SeedCall s n d c output (seedingAnswer t) output′ → SmallSeeding t
+seeding-small s n d c output (Seeding.Accepted counts) output′ call =
+    let a = seed-accepted n d c output _ (sym (call .verdict)) in
+    (omega (arith, first-count (a .1), a .0 .numbers .vertices .few), omega (arith, second-count (a .1), a .0 .numbers .edges))
+seeding-small s n d c output (Seeding.Refused refusal) output′ call = tt
+
 -- ---- class counts
 
 classes-well : (game marks spare classes : List ℕ) → Clean (classRows game marks spare classes) → WellFormed game
@@ -41,15 +60,6 @@ classes-well game marks spare classes c = clean-well game (clean-split (gameRows
 total-le : (game : List ℕ) → classTotal game ≤ vertexCount game
 unfolding classTotal gameOf
 total-le game = classCount-le (vertexCount game) (order (gameOf game)) (order-preorder (gameOf game))
-
-first-count : {x y : ℕ} {xs ys : List ℕ} → x ∷ xs ≡ y ∷ ys → x ≡ y
-first-count {x} e = ap (λ (l : List ℕ). getD l 0 x) e
-
-second-count : {x y z w : ℕ} {xs ys : List ℕ} → x ∷ y ∷ xs ≡ z ∷ w ∷ ys → y ≡ w
-second-count {y} e = ap (λ (l : List ℕ). getD l 1 y) e
-
-third-count : {x y z u v w : ℕ} {xs ys : List ℕ} → x ∷ y ∷ z ∷ xs ≡ u ∷ v ∷ w ∷ ys → z ≡ w
-third-count {z} e = ap (λ (l : List ℕ). getD l 2 z) e
 
 pub classification-small : (game marks spare classes : List ℕ) (c : Classification) (marks′ spare′ classes′ : List ℕ)
     → ClassesCall game marks spare classes (classificationAnswer c) marks′ spare′ classes′ → SmallCount c

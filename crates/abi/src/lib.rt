@@ -2,6 +2,7 @@
 use classes::Classification;
 use order::Ordering;
 use reduction::Tabulation;
+use seed::Seeding;
 use table::Acceptance;
 use table::Reading;
 use table::Refusal;
@@ -15,8 +16,9 @@ ghost use Rattle.plan.specs.Acceptance.{planAnswer};
 ghost use Rattle.theory.specs.Reduction.{quotient, reduced};
 ghost use Rattle.classes.specs.ClassesCall.{classificationAnswer};
 ghost use Rattle.reduction.specs.TableCall.{tabulationAnswer};
-ghost use Rattle.abi.specs.Exports.{OrderExport, ClassesExport, TableExport};
-ghost use Rattle.abi.specs.Fields.{counted, turnedDown, readFields, orderFields, acceptFields, classesFields, tableFields, SmallSizes, SmallCount, SmallCounts};
+ghost use Rattle.seed.specs.SeedCall.{seedingAnswer};
+ghost use Rattle.abi.specs.Exports.{OrderExport, ClassesExport, TableExport, SeedExport};
+ghost use Rattle.abi.specs.Fields.{counted, turnedDown, readFields, orderFields, acceptFields, classesFields, tableFields, seedFields, SmallSizes, SmallSeeding, SmallCount, SmallCounts};
 
 // Number 0 for accepted, with the counts of the call; otherwise the refusal. All other fields are 0.
 #[repr(C)]
@@ -197,4 +199,30 @@ pub extern "C" fn raskjomi_reduce(
     ensures { λ r. ⌜ TableExport reduced (now (game .entry)) (now (marks .entry)) (now (spare .entry)) (now (classes .entry)) (now (output .entry)) r (now (marks .exit)) (now (spare .exit)) (now (classes .exit)) (now (output .exit)) ⌝ }
 {
     of_tabulation(reduction::write_reduced(game, marks, spare, classes, output))
+}
+
+fn of_seeding(seeding: Seeding) -> RaskjomiAnswer
+    requires { ⌜ SmallSeeding seeding ⌝ }
+    ensures { λ r. ⌜ r ≡ seedFields (seedingAnswer seeding) ⌝ }
+{
+    match seeding {
+        Seeding::Accepted(counts) => {
+            accepted(0, 0, counts.vertices as u32, counts.edges as u32, 0)
+        }
+        Seeding::Refused(refusal) => refused(refusal),
+    }
+}
+
+// A game by the seed: the table of n vertices with `degree` edges each and priorities below `priorities`.
+#[no_mangle]
+pub extern "C" fn raskjomi_seed(
+    seed: u32,
+    vertices: u32,
+    degree: u32,
+    priorities: u32,
+    output: &mut [u16],
+) -> RaskjomiAnswer
+    ensures { λ r. ⌜ SeedExport seed vertices degree priorities (now (output .entry)) r (now (output .exit)) ⌝ }
+{
+    of_seeding(seed::write_seeded(seed, vertices, degree, priorities, output))
 }

@@ -12,9 +12,10 @@ use lib.ListN.{length, getD, drop}
 use lib.Seq.{take-at}
 use borrow.Author.Tests.{eqb-true, eqb-false, eq-eqb, ne-eqb, ltb-true, ltb-false, lt-ltb, le-ltb}
 use Rattle.theory.specs.Bools.{_or_}
+use Rattle.theory.specs.Game.{edgeCount}
 use Rattle.theory.specs.BoolsLaws.{or-left, or-right, or-out}
 use Rattle.table.specs.Limits.{vertexLimit, edgeLimit}
-use Rattle.table.specs.Table.{tableEdges, sourceAt, targetAt, tableLength, tableIn}
+use Rattle.table.specs.Table.{tableLength, tableIn, gameOf}
 use Rattle.table.specs.Verdict.{accepted, refused, written}
 use Rattle.table.specs.VerdictLaws.{judge-clean, judge-accepted, length-written, getD-written-beyond, after-accepted, after-refused}
 use Rattle.table.specs.Rules.{FirstRule, Rendered, none, next}
@@ -23,7 +24,7 @@ use Rattle.table.specs.Reading.{readAnswer}
 use Rattle.table.specs.ReadingLaws.{read-accepts}
 use Rattle.table.specs.WellFormed.{WellFormed}
 use Rattle.seed.specs.SeedTable.{seedTable}
-use Rattle.seed.specs.SeedTableLaws.{length-seedTable, seed-owners, seed-sources, seed-targets, seed-total}
+use Rattle.seed.specs.SeedTableLaws.{seed-vertices, seed-edges, length-seedTable, seed-owners, seed-sources, seed-targets, seed-total}
 use Rattle.seed.specs.SeedCall.{degreeLimit, priorityLimit, outside, unfit, seedRows, seedAnswer, SeedCall}
 use Rattle.seed.specs.SeedRules.{Within, seedRules, Fit, SeedFits}
 
@@ -140,27 +141,29 @@ pub refused-old : (s n d c : ℕ) (output : List ℕ) (k p : ℕ) (output′ : L
 unfolding seedAnswer
 refused-old s n d c output k p output′ call = call .output-after ∙ after-refused (seedRows n d c output) _ (seedTable s n d c) output (sym (call .verdict))
 
--- ---- the reader accepts a table so made, if no edge is drawn twice
+-- ---- "The reader has to accept every table so made": with n, n × d and its different edges
 
 module _ (s n d c : ℕ) (f : Fit n d c) where
-  abbrev table : List ℕ
-  table = seedTable s n d c
+  seed-well : WellFormed (seedTable s n d c)
+  unfolding seedTable
+  seed-well = record {
+    some = f .vertices .some;
+    vertices = f .vertices .few;
+    edges = f .edges;
+    size = length-seedTable s n d c;
+    owners = seed-owners s n d c;
+    sources = seed-sources s n d c (f .vertices .some) (f .degree .some);
+    targets = seed-targets s n d c (f .vertices .some) (f .degree .some);
+    total = seed-total s n d c (f .vertices .some) (f .degree .some);
+  }
 
-  module _ (distinct : (i j : ℕ) → i < j → j < tableEdges table → sourceAt table i ≡ sourceAt table j → targetAt table i ≡ targetAt table j → ⊥) where
-    pub seed-well : WellFormed table
-    unfolding seedTable
-    seed-well = record {
-      some = f .vertices .some;
-      vertices = f .vertices .few;
-      edges = f .edges;
-      size = length-seedTable s n d c;
-      owners = seed-owners s n d c;
-      sources = seed-sources s n d c (f .vertices .some) (f .degree .some);
-      targets = seed-targets s n d c (f .vertices .some) (f .degree .some);
-      distinct = distinct;
-      total = seed-total s n d c (f .vertices .some) (f .degree .some);
-    }
+  pub seed-read : readAnswer (seedTable s n d c) ≡ accepted (n ∷ n * d ∷ edgeCount (gameOf (seedTable s n d c)) ∷ [])
+  seed-read =
+      read-accepts (seedTable s n d c) seed-well
+      ∙ rw (seed-vertices s n d c, seed-edges s n d c)
 
-    pub seed-read : readAnswer table ≡ accepted (n ∷ n * d ∷ [])
-    unfolding seedTable
-    seed-read = read-accepts table seed-well
+-- so the table that an accepted call wrote is read
+pub written-read : (s n d c : ℕ) (output counts output′ : List ℕ) → SeedCall s n d c output (accepted counts) output′
+    → readAnswer (tableIn output′) ≡ accepted (n ∷ n * d ∷ edgeCount (gameOf (seedTable s n d c)) ∷ [])
+written-read s n d c output counts output′ call =
+    rw (written-table s n d c output counts output′ call) (seed-read s n d c (seed-accepted n d c output counts (sym (call .verdict)) .0 .numbers))
