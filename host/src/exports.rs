@@ -56,6 +56,10 @@ extern "C" {
         player: u32,
         plan: *const u16, plan_len: usize,
     ) -> RaskjomiAnswer;
+    fn raskjomi_seed(
+        seed: u32, vertices: u32, degree: u32, priorities: u32,
+        output: *mut u16, output_len: usize,
+    ) -> RaskjomiAnswer;
     fn raskjomi_kind(number: u32) -> u32;
 }
 
@@ -120,6 +124,19 @@ pub fn reduce(
 pub fn accept_plan(game: &[u16], player: u32, plan: &[u16]) -> RaskjomiAnswer {
     // SAFETY: as in `call!`; the player goes as a number between the two slices.
     unsafe { raskjomi_accept_plan(game.as_ptr(), game.len(), player, plan.as_ptr(), plan.len()) }
+}
+
+/// A game by the seed.
+pub fn seed(
+    seed: u32,
+    vertices: u32,
+    degree: u32,
+    priorities: u32,
+    output: &mut [u16],
+) -> RaskjomiAnswer {
+    let (pointer, length) = (output.as_mut_ptr(), output.len());
+    // SAFETY: as in `call!`; the numbers go before the slice.
+    unsafe { raskjomi_seed(seed, vertices, degree, priorities, pointer, length) }
 }
 
 /// The kind of a refusal number.

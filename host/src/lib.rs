@@ -6,10 +6,10 @@
 //! A parity game is lent as a table of 16-bit words: the numbers n of vertices and m of edges, then
 //! n priorities, n owners (0 [`EVEN`], 1 [`ODD`]), m sources and m targets. An edge may stand there
 //! several times; it counts as one, though m and all lengths count it each time. The library judges
-//! such tables, writes their direct simulation order, classes, quotient and reduced game, and judges
-//! foreign relations and winning plans. Every call works in memory that the caller lends, of any
-//! length and content. docs/CONTRACT.md in the repository has the definitions, each call's checks in
-//! order, every refusal, and what each buffer holds afterwards.
+//! such tables, writes their direct simulation order, classes, quotient and reduced game, judges
+//! foreign relations and winning plans, and draws games by a seed. Every call works in memory that the
+//! caller lends, of any length and content. docs/CONTRACT.md in the repository has the definitions,
+//! each call's checks in order, every refusal, and what each buffer holds afterwards.
 //!
 //! ```
 //! // Three vertices with priorities 0, 1, 0 and owners Even, Even, Odd, and an edge from each to 1.
@@ -204,4 +204,29 @@ pub fn reduce(
 /// ```
 pub fn accept_plan(game: &[u16], player: u32, plan: &[u16]) -> Result<(), Refusal> {
     verdict(exports::accept_plan(game, player, plan)).map(|_| ())
+}
+
+/// Draws a game by the seed, the same on every machine, and writes its table into the output: so many
+/// vertices, 1 to 256, with `degree` edges out of each, 1 to 16, and priorities below `priorities`, 1
+/// to 65,535. A table of n vertices has 2 + 2n + 2 × n × degree words, and [`read`] accepts it. Equal
+/// edges may be drawn; they count as one. Gives the numbers of vertices and of edges in the table.
+///
+/// ```
+/// let mut game = [0; 20];
+/// assert_eq!(raskjomi::seed(1, 3, 2, 4, &mut game)?, (3, 6));
+/// assert_eq!(game[..8], [3, 6, 0, 0, 0, 0, 0, 1]);
+/// assert_eq!(game[8..], [0, 0, 1, 1, 2, 2, 1, 1, 2, 0, 0, 2]);
+/// // The edge from 0 to 1 was drawn twice.
+/// assert_eq!(raskjomi::read(&game)?.different, 5);
+/// # Ok::<(), raskjomi::Refusal>(())
+/// ```
+pub fn seed(
+    seed: u32,
+    vertices: u32,
+    degree: u32,
+    priorities: u32,
+    output: &mut [u16],
+) -> Result<(usize, usize), Refusal> {
+    verdict(exports::seed(seed, vertices, degree, priorities, output))
+        .map(|answer| (answer.vertices as usize, answer.edges as usize))
 }

@@ -124,6 +124,7 @@ pub fn explain(number: u32) -> Option<Explanation> {
         9..=10 => &RELATION[number as usize - 9],
         11..=16 => &PLAN[number as usize - 11],
         21..=24 => &MEMORY[number as usize - 21],
+        31..=32 => &SEED[number as usize - 31],
         _ => return None,
     };
     Some(*row)
@@ -221,5 +222,19 @@ const MEMORY: [Explanation; 4] = [
         "the output is too short",
         "the length needed, 2 + 2n + 2m words of the input's sizes",
         "lend an output as long as the input table, even if the result is shorter",
+    ),
+];
+
+const SEED: [Explanation; 2] = [
+    row(
+        "a game by the seed isn't within the limits",
+        "always 0",
+        "name 1 to 256 vertices, a degree of 1 to 16, 1 to 65,535 priorities, and at most 4,096 \
+         edges in all",
+    ),
+    row(
+        "the output is too short for a game by the seed",
+        "the length needed, 2 + 2n + 2 × n × degree words",
+        "lend at least so many words",
     ),
 ];

@@ -36,11 +36,15 @@ impl Memory {
     }
 }
 
+/// A call that draws a game.
+type Seed = fn(u32, u32, u32, u32, &mut [u16]) -> RaskjomiAnswer;
+
 /// The two sides of the comparison, and their calls.
 const LIBRARY: usize = 0;
 const BASELINE: usize = 1;
 const REDUCE: [Reduce; 2] = [exports::reduce, baseline::reduce];
 const ACCEPT_PLAN: [AcceptPlan; 2] = [exports::accept_plan, baseline::accept_plan];
+const SEED: [Seed; 2] = [exports::seed, baseline::seed];
 
 /// What a row shows.
 struct Figures {
@@ -75,6 +79,21 @@ fn plan_figures(game: Vec<u16>, plan: Vec<u16>) -> Figures {
     Figures { passes: None, times, stack }
 }
 
+fn seed_figures(numbers: [u32; 4], words: usize) -> Figures {
+    let [seed, n, degree, priorities] = numbers;
+    let call =
+        move |side: usize, output: &mut [u16]| SEED[side](seed, n, degree, priorities, output);
+    let [mut one, mut other] = [(); 2].map(|()| vec![0; words]);
+    let answers = (call(LIBRARY, &mut one), call(BASELINE, &mut other));
+    assert!(answers.0 == answers.1 && one == other, "library and baseline differ");
+    let times = measure::best_times(
+        || call(LIBRARY, &mut one).number,
+        || call(BASELINE, &mut other).number,
+    );
+    let stack = measure::stack(move || call(LIBRARY, &mut one).number);
+    Figures { passes: None, times, stack }
+}
+
 /// A line of the table.
 fn line(cells: [&str; 8]) -> String {
     let [name, n, m, passes, library, baseline, ratio, stack] = cells;
@@ -89,6 +108,7 @@ fn show(Row { name, game, work }: Row) -> f64 {
     let Figures { passes, times, stack } = match work {
         Work::Reduce => reduce_figures(game),
         Work::AcceptPlan(plan) => plan_figures(game, plan),
+        Work::Seed(numbers) => seed_figures(numbers, game.len()),
     };
     let [library, baseline] = [times.0, times.1].map(|time| time.as_secs_f64() * 1e6);
     let ratio = library / baseline;

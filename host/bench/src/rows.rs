@@ -8,6 +8,8 @@ pub enum Work {
     Reduce,
     /// Even's plan.
     AcceptPlan(Vec<u16>),
+    /// The game by a seed, of so many vertices, edges out of each, and priorities.
+    Seed([u32; 4]),
 }
 
 /// A row of the table.
@@ -21,9 +23,17 @@ impl Row {
     fn reduce(name: &str, game: generator::Table) -> Row {
         Row { name: name.to_string(), game: game.words(), work: Work::Reduce }
     }
+
+    fn seed(numbers: [u32; 4]) -> Row {
+        let [seed, n, degree, priorities] = numbers;
+        let mut game = vec![0; 2 + 2 * n as usize + 2 * (n * degree) as usize];
+        raskjomi::seed(seed, n, degree, priorities, &mut game).expect("numbers within the limits");
+        Row { name: format!("seed, priorities {priorities}"), game, work: Work::Seed(numbers) }
+    }
 }
 
-/// All rows: random games, a chain, the largest plan, and two rings with coprime lengths.
+/// All rows: random games, a chain, the largest plan, the largest game by a seed, and two rings with
+/// coprime lengths.
 pub fn rows() -> Vec<Row> {
     let mut lcg = Lcg::new(2024);
     let mut rows = Vec::new();
@@ -37,6 +47,7 @@ pub fn rows() -> Vec<Row> {
     let (game, plan) = largest_plan(&mut lcg);
     let work = Work::AcceptPlan(plan.words());
     rows.push(Row { name: "largest plan".into(), game: game.words(), work });
+    rows.push(Row::seed([1, 256, 16, 8]));
     rows.push(Row::reduce("rings 127 and 128", two_rings(127, 128)));
     rows
 }

@@ -9,6 +9,7 @@ mod plans;
 mod relations;
 mod repeats;
 mod sample;
+mod seeds;
 mod solver;
 mod table;
 
@@ -19,5 +20,6 @@ pub use plans::{largest_plan, strategy_plan, unfolded, Plan};
 pub use relations::relation;
 pub use repeats::{repeated, same_game};
 pub use sample::{any_game, bent_plan, old_bytes, old_words};
+pub use seeds::{seed_numbers, SEED_LIMITS};
 pub use solver::{solve, Solution};
 pub use table::Table;

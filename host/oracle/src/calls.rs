@@ -182,7 +182,7 @@ impl Oracle {
         Ok(Answer { vertices, edges, different, ..counts })
     }
 
-    fn table_counts(&self, game: &Game) -> Answer {
+    pub(crate) fn table_counts(&self, game: &Game) -> Answer {
         let (mut vertices, mut edges) = (game.n() as u32, game.m() as u32);
         if self.falls_for(Trap::CountsExchanged) {
             (vertices, edges) = (edges, vertices);
@@ -191,14 +191,14 @@ impl Oracle {
     }
 
     /// Writes at the start of lent memory; what lies beyond has its old content.
-    fn write<T: Copy + Default>(&self, memory: &mut [T], new: &[T]) {
+    pub(crate) fn write<T: Copy + Default>(&self, memory: &mut [T], new: &[T]) {
         memory[..new.len()].copy_from_slice(new);
         if self.falls_for(Trap::BeyondCleared) {
             memory[new.len()..].fill(T::default());
         }
     }
 
-    fn answer(&self, verdict: Result<Answer, Refusal>) -> Answer {
+    pub(crate) fn answer(&self, verdict: Result<Answer, Refusal>) -> Answer {
         verdict.unwrap_or_else(|Refusal { number, place }| Answer {
             number,
             place,

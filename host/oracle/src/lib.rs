@@ -1,5 +1,5 @@
 //! A second implementation of every call, for tests: written from document 01 and its change requests
-//! CR 1 and CR 2, which docs/CONTRACT.md renders, by their definitions, slow and plain, and sharing no
+//! CR 1 to CR 3, which docs/CONTRACT.md renders, by their definitions, slow and plain, and sharing no
 //! code with the library that it is compared with.
 //!
 //! Each [`Trap`] is a misreading of the contract. An [`Oracle`] that falls for one gives the answers
@@ -12,6 +12,7 @@ mod plan;
 mod reduction;
 mod relation;
 mod report;
+mod seed;
 mod trap;
 
 pub use calls::{Answer, Memory, Refusal};

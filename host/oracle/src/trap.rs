@@ -89,6 +89,17 @@ pub enum Trap {
     /// The plan is judged for Even whoever the player is.
     PlayerFixed,
 
+    /// The output's length is checked before the numbers' ranges.
+    LengthBeforeRange,
+    /// A vertex draws its owner before its priority.
+    OwnerBeforePriority,
+    /// Targets are drawn modulo n - 1.
+    LastVertexNoTarget,
+    /// A draw is of the state before the step.
+    OldStateDrawn,
+    /// A draw is the low half of the state.
+    LowHalfDrawn,
+
     /// Numbers between two ranges have the kind of the range below.
     KindsWithoutGaps,
     /// The report drops a last half word.
@@ -101,7 +112,7 @@ pub enum Trap {
 
 impl Trap {
     /// Every trap, those of document 01 first.
-    pub const ALL: [Trap; 44] = [
+    pub const ALL: [Trap; 49] = [
         Trap::SomeMemberHasEdge,
         Trap::LittleBrothersByProse,
         Trap::MixedRowsExchanged,
@@ -142,6 +153,11 @@ impl Trap {
         Trap::HighestDecides,
         Trap::LowestOnWalk,
         Trap::PlayerFixed,
+        Trap::LengthBeforeRange,
+        Trap::OwnerBeforePriority,
+        Trap::LastVertexNoTarget,
+        Trap::OldStateDrawn,
+        Trap::LowHalfDrawn,
         Trap::KindsWithoutGaps,
         Trap::HalfWordDropped,
         Trap::ReportUnlimited,

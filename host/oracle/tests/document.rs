@@ -174,6 +174,22 @@ fn kinds() {
 }
 
 #[test]
+fn games_by_the_seed() {
+    // The first states of seed 1 are 1015568748, 1586005467, 2165703038 and 3027450565.
+    let mut memory = Memory { output: vec![7; 9], ..Memory::default() };
+    let answer = Oracle::exact().seed([1, 1, 2, 65_535], &mut memory);
+    assert_eq!(answer, Answer { vertices: 1, edges: 2, ..Answer::default() });
+    assert_eq!(memory.output, [1, 2, 15_496, 0, 0, 0, 0, 0, 7]);
+    let answer = Oracle::exact().seed([1, 3, 2, 4], &mut memory);
+    assert_eq!(answer, refused(32, 20));
+    assert_eq!(Oracle::exact().seed([1, 3, 17, 4], &mut memory), refused(31, 0));
+    memory.output = vec![7; 20];
+    Oracle::exact().seed([1, 3, 2, 4], &mut memory);
+    let table = [3, 6, 0, 0, 0, 0, 0, 1, 0, 0, 1, 1, 2, 2, 1, 1, 2, 0, 0, 2];
+    assert_eq!(memory.output, table);
+}
+
+#[test]
 fn report_of_b() {
     let bytes: Vec<u8> = B.iter().flat_map(|word| word.to_le_bytes()).collect();
     let text = "game 3 3\npasses 1\nclasses 2\n\

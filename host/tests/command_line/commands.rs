@@ -170,6 +170,29 @@ fn a_repeated_edge_is_one() {
 }
 
 #[test]
+fn games_by_the_seed() {
+    let game = [3, 6, 0, 0, 0, 0, 0, 1, 0, 0, 1, 1, 2, 2, 1, 1, 2, 0, 0, 2];
+    let seed = |options: &[&str]| run(&[&["seed", "1", "3", "2", "4"], options].concat());
+    let text = seed(&[]).text();
+    assert!(text.starts_with("# game of seed 1: vertices 3, degree 2, priorities 4\n"), "{text}");
+    assert_eq!(numbers(&text), game);
+    assert_eq!(seed(&["--as", "text"]).text(), text);
+    let binary = seed(&["--as", "words"]).bytes();
+    assert_eq!(words(&binary), game);
+    let [one, other] = [text.as_bytes(), &binary].map(|input| run_on(&["report"], input).text());
+    assert_eq!(one, other, "the same game as text and as words");
+    assert!(one.starts_with("game 3 5\n"), "{one}");
+    for numbers in [["0", "1", "1", "1"], ["4294967295", "256", "16", "65535"]] {
+        let mut memory = Memory { output: vec![0; 8706], ..Memory::default() };
+        let parsed = numbers.map(|number| number.parse().expect("a number"));
+        let answer = Oracle::exact().seed(parsed, &mut memory);
+        memory.output.truncate(2 + 2 * answer.vertices as usize + 2 * answer.edges as usize);
+        let written = run(&[&["seed", "--as=words"], &numbers[..]].concat()).bytes();
+        assert_eq!(words(&written), memory.output);
+    }
+}
+
+#[test]
 fn shipped_plans_win() {
     for (game, plan) in [("c.txt", "c.plan.txt"), ("lift-doors.txt", "lift-doors.plan.txt")] {
         let words = ["check-plan", &path(game), &path(plan), "--player", "even"];
@@ -182,9 +205,10 @@ fn shipped_plans_win() {
 
 #[test]
 fn explain_each_number() {
-    for number in (1..=16).chain(21..=24) {
+    for number in (1..=16).chain(21..=24).chain(31..=32) {
         let text = run(&["explain", &number.to_string()]).text();
-        assert!(text.starts_with(&format!("refusal {number}, about the ")), "{text}");
+        let about = if number < 31 { "the " } else { "a later addition\n" };
+        assert!(text.starts_with(&format!("refusal {number}, about {about}")), "{text}");
         let heads: Vec<&str> =
             text.lines().skip(1).filter_map(|line| line.split(':').next()).collect();
         assert_eq!(heads, ["meaning", "place", "what to do"]);
@@ -209,7 +233,7 @@ fn help_of_each_command_has_an_example_that_runs() {
     assert_eq!(run(&["help"]).text(), overview);
     let listed: Vec<&str> =
         overview.lines().filter_map(|line| line.strip_prefix("  ")?.split(' ').next()).collect();
-    assert_eq!(listed.len(), 9, "{listed:?}");
+    assert_eq!(listed.len(), 10, "{listed:?}");
     for command in listed {
         let help = run(&[command, "--help"]).text();
         assert_eq!(run(&["help", command]).text(), help);

@@ -35,15 +35,29 @@ fn commands_and_options() {
 fn numbers() {
     bad(&["explain"], &["arguments: 0 instead of 1"]);
     bad(&["explain", "-1"], &["no option -1"]);
-    for word in ["17", "0", "31", "x", "+8", "65544"] {
+    for word in ["17", "0", "33", "x", "+8", "65544"] {
         bad(
             &["explain", word],
-            &[&format!("`{word}` is no refusal number"), "1 to 16 and 21 to 24"],
+            &[&format!("`{word}` is no refusal number"), "1 to 16, 21 to 24, 31 and 32"],
         );
     }
     for vertex in ["3", "x", "-1", "+1", ""] {
         let parts = [&*format!("no vertex `{vertex}`"), "from 0 to 2"];
         bad(&["report", "games/b.txt", "--vertex", vertex], &parts);
+    }
+}
+
+#[test]
+fn numbers_of_a_seed() {
+    let usage = "usage: raskjomi seed SEED VERTICES DEGREE PRIORITIES [--as text|words]";
+    bad(&["seed", "1", "3", "2"], &["arguments: 3 instead of 4", usage]);
+    bad(&["seed", "1", "3", "2", "4", "--as", "dot"], &["no form `dot`", "raskjomi dot"]);
+    for (which, name) in ["SEED", "VERTICES", "DEGREE", "PRIORITIES"].into_iter().enumerate() {
+        for word in ["x", "", "+1", "1.5", "4294967296"] {
+            let mut words = ["seed", "1", "3", "2", "4"];
+            words[1 + which] = word;
+            bad(&words, &[&format!("seed: {name} `{word}` is no number from 0 to 4294967295")]);
+        }
     }
 }
 

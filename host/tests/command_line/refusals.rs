@@ -97,3 +97,13 @@ fn plans() {
         &["standard input: word 2 from 0 (position 0, at vertex 0), ", ": refused 15 at 0"],
     );
 }
+
+#[test]
+fn games_by_the_seed() {
+    for numbers in [["0", "2", "4"], ["257", "2", "4"], ["3", "17", "4"], ["3", "2", "65536"]] {
+        let [n, degree, priorities] = numbers;
+        let place = format!("raskjomi: {n} vertices, degree {degree}, {priorities} priorities: ");
+        let parts = [&*place, "refused 31 at 0: ", "; name 1 to 256 vertices, "];
+        assert_eq!(run(&["seed", "7", n, degree, priorities]).fails(1, &parts), "");
+    }
+}

@@ -14,10 +14,11 @@ pub enum Call {
     Quotient,
     Reduce,
     AcceptPlan,
+    Seed,
 }
 
 impl Call {
-    /// Every call but the one on plans works on a game and lent memory.
+    /// The calls on a game and lent memory.
     pub const ON_MEMORY: [Call; 6] = [
         Call::Read,
         Call::Order,
@@ -27,9 +28,15 @@ impl Call {
         Call::Reduce,
     ];
 
+    /// Every call with an answer.
+    pub fn all() -> impl Iterator<Item = Call> {
+        Call::ON_MEMORY.into_iter().chain([Call::AcceptPlan, Call::Seed])
+    }
+
     /// The refusals that docs/CONTRACT.md gives the call.
     pub fn refusals(self) -> Vec<u32> {
         let own = match self {
+            Call::Seed => return vec![31, 32],
             Call::Read => 0..=0,
             Call::Order => 21..=22,
             Call::AcceptRelation => 9..=10,
@@ -51,6 +58,8 @@ pub struct Case {
     pub memory: Memory,
     pub player: u32,
     pub plan: Vec<u16>,
+    /// A seed, and the numbers of vertices, of edges out of each, and of priorities.
+    pub seed: [u32; 4],
 }
 
 /// What a call leaves.
@@ -63,13 +72,19 @@ pub struct Outcome {
 impl Case {
     /// A call on a game and memory.
     pub fn on_memory(call: Call, game: &[u16], memory: Memory) -> Case {
-        Case { call, game: game.to_vec(), memory, player: 0, plan: vec![] }
+        Case { call, game: game.to_vec(), memory, player: 0, plan: vec![], seed: [0; 4] }
     }
 
     /// The judgement of a plan.
     pub fn of_plan(game: &[u16], player: u32, plan: Vec<u16>) -> Case {
-        let (call, memory) = (Call::AcceptPlan, Memory::default());
-        Case { call, game: game.to_vec(), memory, player, plan }
+        let case = Case::on_memory(Call::AcceptPlan, game, Memory::default());
+        Case { player, plan, ..case }
+    }
+
+    /// The drawing of a game into an output.
+    pub fn of_seed(seed: [u32; 4], output: Vec<u16>) -> Case {
+        let memory = Memory { output, ..Memory::default() };
+        Case { seed, ..Case::on_memory(Call::Seed, &[], memory) }
     }
 
     /// The outcome by the oracle.
@@ -83,6 +98,7 @@ impl Case {
             Call::Quotient => oracle.quotient(game, &mut memory),
             Call::Reduce => oracle.reduce(game, &mut memory),
             Call::AcceptPlan => oracle.accept_plan(game, self.player, &self.plan),
+            Call::Seed => oracle.seed(self.seed, &mut memory),
         };
         Outcome { answer, memory }
     }
@@ -90,7 +106,7 @@ impl Case {
     /// The outcome by the library's export. Lent memory stands between guards, which the call may
     /// not touch.
     pub fn actual(&self) -> Outcome {
-        let game = &self.game[..];
+        let (game, [seed, n, degree, priorities]) = (&self.game[..], self.seed);
         let (mut marks, mut spare) =
             (Guarded::new(&self.memory.marks), Guarded::new(&self.memory.spare));
         let (mut classes, mut output) =
@@ -104,6 +120,7 @@ impl Case {
             Call::Quotient => exports::quotient(game, m, s, c, o),
             Call::Reduce => exports::reduce(game, m, s, c, o),
             Call::AcceptPlan => exports::accept_plan(game, self.player, &self.plan),
+            Call::Seed => exports::seed(seed, n, degree, priorities, o),
         };
         let memory = Memory {
             marks: marks.content(),
@@ -128,6 +145,7 @@ impl Case {
             assert_eq!(size.different, size.edges, "each edge stands once");
             Answer { classes: size.vertices as u32, different: 0, ..of_size(size) }
         };
+        let of_seed = |(vertices, edges)| of_size(Size { vertices, edges, different: 0 });
         let of_classes = |classes| Answer { classes: classes as u32, ..Answer::default() };
         let verdict = match self.call {
             Call::Read => raskjomi::read(game).map(of_size),
@@ -141,6 +159,10 @@ impl Case {
             Call::Reduce => raskjomi::reduce(game, marks, spare, classes, output).map(of_table),
             Call::AcceptPlan => {
                 raskjomi::accept_plan(game, self.player, &self.plan).map(|()| Answer::default())
+            }
+            Call::Seed => {
+                let [seed, n, degree, priorities] = self.seed;
+                raskjomi::seed(seed, n, degree, priorities, output).map(of_seed)
             }
         };
         let refused = |Refusal { number, place }| Answer { number, place, ..Answer::default() };

@@ -38,6 +38,7 @@ pub fn largest_cases() -> Vec<Case> {
     }
     let (table, plan) = largest_plan(&mut Lcg::new(78));
     cases.extend([0, 1].map(|player| Case::of_plan(&table.words(), player, plan.words())));
+    cases.push(Case::of_seed([7, 256, 16, 65_535], vec![6; 8706]));
     cases
 }
 
@@ -84,8 +85,7 @@ fn one_byte_or_word_short_is_refused() {
     for (number, shorten) in shortened {
         let mut memory = exact_memory(&table);
         shorten(&mut memory);
-        let case =
-            Case { call: Call::Reduce, game: table.words(), memory, player: 0, plan: vec![] };
+        let case = Case::on_memory(Call::Reduce, &table.words(), memory);
         assert_eq!(agree(&case), number);
     }
 }

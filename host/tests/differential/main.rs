@@ -9,6 +9,7 @@ mod calls;
 mod limits;
 mod repeats;
 mod samples;
+mod seeds;
 mod tables;
 mod threads;
 mod traps;

@@ -2,8 +2,8 @@
 
 use crate::calls::{Call, Case};
 use generator::{
-    any_game, bent_plan, damaged, damaged_often, old_bytes, old_words, relation, solve,
-    strategy_plan, unfolded, Lcg, Plan, Solution, Table, REFUSALS,
+    any_game, bent_plan, damaged, damaged_often, old_bytes, old_words, relation, seed_numbers,
+    solve, strategy_plan, unfolded, Lcg, Plan, Solution, Table, REFUSALS,
 };
 use oracle::{Memory, Oracle};
 
@@ -89,10 +89,18 @@ fn any_strategy(lcg: &mut Lcg, table: &Table, solution: &Solution, start: usize)
     strategy_plan(table, solution.winner[start], start, &choice)
 }
 
+/// The drawing of a game of mostly at most `most` vertices into an output of several lengths.
+pub fn case_of_seed(lcg: &mut Lcg, most: usize) -> Case {
+    let numbers = seed_numbers(lcg, most);
+    let [n, degree] = [numbers[1], numbers[2]].map(|number| number.min(256) as usize);
+    Case::of_seed(numbers, old_words(lcg, 2 + 2 * n + 2 * n * degree.min(16)))
+}
+
 /// All cases of one game of at most `most` vertices.
 pub fn cases(lcg: &mut Lcg, most: usize) -> Vec<Case> {
     let table = any_game(lcg, most);
     let mut cases = cases_on_memory(lcg, &table);
     cases.extend(cases_of_plans(lcg, &table));
+    cases.push(case_of_seed(lcg, most));
     cases
 }

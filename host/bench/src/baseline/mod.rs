@@ -5,9 +5,11 @@ mod order;
 mod plan;
 mod reader;
 mod reduction;
+mod seed;
 
 pub use plan::accept_plan;
 pub use reduction::reduce;
+pub use seed::seed;
 
 use raskjomi::exports::RaskjomiAnswer;
 

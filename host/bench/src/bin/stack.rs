@@ -8,7 +8,7 @@ use std::os::unix::process::ExitStatusExt;
 use std::process::{Command, ExitStatus, Stdio};
 use std::thread;
 
-const CALLS: [&str; 9] = [
+const CALLS: [&str; 10] = [
     "no call",
     "kind",
     "read",
@@ -18,6 +18,7 @@ const CALLS: [&str; 9] = [
     "classes",
     "quotient",
     "reduce",
+    "seed",
 ];
 /// The sizes tried, in KiB: a page, the least that Rust gives a thread, and what it gives by default.
 const PAGE: usize = 4;
@@ -42,6 +43,7 @@ fn call(name: &str) -> impl FnOnce() -> u32 + Send + 'static {
         "quotient" => {
             exports::quotient(&game, &mut marks, &mut spare, &mut classes, &mut output).number
         }
+        "seed" => exports::seed(1, 256, 16, 8, &mut output).number,
         _ => exports::reduce(&game, &mut marks, &mut spare, &mut classes, &mut output).number,
     }
 }

@@ -4,8 +4,8 @@ use crate::analysis::{members, Game, Merged};
 use crate::arguments::{Arguments, Form};
 use crate::failure::Failure;
 use crate::help::{self, Command, COMMANDS};
-use crate::input::{number, Input, Unit};
-use crate::locate::{plan_refused, relation_refused};
+use crate::input::{self, number, Input, Unit};
+use crate::locate::{plan_refused, relation_refused, seed_refused};
 use crate::table::Table;
 use crate::{dot as picture, tell, text};
 use raskjomi::Kind;
@@ -166,13 +166,53 @@ pub fn check_plan(arguments: &Arguments) -> Written {
     }
 }
 
+/// The words of the longest table.
+const MOST_WORDS: usize = 8_706;
+
+/// `seed`.
+pub fn seed(arguments: &Arguments) -> Written {
+    let form = arguments.form()?;
+    if form == Form::Dot {
+        return Err(Failure::usage(
+            "seed: no form `dot`; write --as text or --as words, or hand the game on to raskjomi dot",
+        ));
+    }
+    let numbers = seed_numbers(arguments)?;
+    let [seed, n, degree, priorities] = numbers;
+    let mut words = vec![0; MOST_WORDS];
+    raskjomi::seed(seed, n, degree, priorities, &mut words)
+        .map_err(|refusal| seed_refused(refusal, numbers))?;
+    let table = Table::new(&words);
+    let title =
+        format!("game of seed {seed}: vertices {n}, degree {degree}, priorities {priorities}");
+    Ok(match form {
+        Form::Words => text::bytes(table.words()),
+        _ => text::table(&title, &table).into(),
+    })
+}
+
+/// The seed, and the numbers of vertices, of edges out of each, and of priorities.
+fn seed_numbers(arguments: &Arguments) -> Result<[u32; 4], Failure> {
+    let mut numbers = [0; 4];
+    for (i, (number, name)) in numbers.iter_mut().zip(help::SEED_NUMBERS).enumerate() {
+        let word = arguments.file(i);
+        *number = input::number(word, u32::MAX).ok_or_else(|| {
+            let most = u32::MAX;
+            Failure::usage(format!(
+                "seed: {name} `{word}` is no number from 0 to {most}; see raskjomi seed --help"
+            ))
+        })?;
+    }
+    Ok(numbers)
+}
+
 /// `explain`.
 pub fn explain(arguments: &Arguments) -> Written {
     let word = arguments.file(0);
     let number = number(word, u16::MAX).map(u32::from);
     let (number, told) =
         number.and_then(|n| Some((n, raskjomi::explain(n)?))).ok_or_else(|| {
-            Failure::usage(format!("`{word}` is no refusal number; they are 1 to 16 and 21 to 24"))
+            Failure::usage(format!("`{word}` is no refusal number; they are {}", help::NUMBERS))
         })?;
     let lines = [
         format!("refusal {number}, about {}", Kind::of(number)),

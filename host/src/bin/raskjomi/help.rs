@@ -23,6 +23,12 @@ pub struct Command {
     pub run: fn(&Arguments) -> Result<Vec<u8>, Failure>,
 }
 
+/// The refusal numbers that `explain` knows.
+pub const NUMBERS: &str = "1 to 16, 21 to 24, 31 and 32";
+
+/// What `seed` takes, in the sequence of its usage.
+pub const SEED_NUMBERS: [&str; 4] = ["SEED", "VERTICES", "DEGREE", "PRIORITIES"];
+
 const AS: &[Opt] = &[Opt { name: "--as", value: Some("text, words or dot") }];
 
 /// What a newcomer has to know of every game.
@@ -50,7 +56,7 @@ const TABLES: &str = "Text and words are game tables, which every command reads.
                       the game, with the members of each class.";
 
 /// The commands, in the sequence of the help.
-pub const COMMANDS: [Command; 9] = [
+pub const COMMANDS: [Command; 10] = [
     Command {
         name: "report",
         usage: "report [GAME] [--vertex V]",
@@ -138,11 +144,25 @@ pub const COMMANDS: [Command; 9] = [
         usage: "explain NUMBER",
         summary: "what a refusal number means, what its place counts, and what to do",
         details:
-            "A refused input gets one of the numbers 1 to 16 and 21 to 24; 7 no longer occurs.",
+            "A refused input gets one of the numbers 1 to 16, 21 to 24, 31 and 32; 7 no longer occurs.",
         example: "./raskjomi explain 8",
         files: 1..=1,
         options: &[],
         run: commands::explain,
+    },
+    Command {
+        name: "seed",
+        usage: "seed SEED VERTICES DEGREE PRIORITIES [--as text|words]",
+        summary: "a game drawn by a seed, the same on every machine",
+        details:
+            "SEED is any number below 4,294,967,296. There are VERTICES vertices, 1 to 256, with \
+                  DEGREE edges out of each, 1 to 16, and priorities below PRIORITIES, 1 to 65,535. \
+                  Owners and targets are drawn, too; equal edges count as one. Text and words are \
+                  game tables, which every command reads.",
+        example: "./raskjomi seed 1 8 2 4 --as words | ./raskjomi reduce",
+        files: 4..=4,
+        options: &[Opt { name: "--as", value: Some("text or words") }],
+        run: commands::seed,
     },
     Command {
         name: "dot",

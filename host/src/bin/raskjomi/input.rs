@@ -3,6 +3,7 @@
 use crate::failure::Failure;
 use std::fs::File;
 use std::io::{self, Read};
+use std::str::FromStr;
 
 /// What a number of the input is.
 #[derive(Clone, Copy, Debug, PartialEq, Eq)]
@@ -120,9 +121,9 @@ fn from_text(name: String, bytes: &[u8], unit: Unit) -> Result<Input, Failure> {
 }
 
 /// A decimal number, digits alone.
-pub fn number(digits: &str, most: u16) -> Option<u16> {
+pub fn number<T: FromStr + PartialOrd>(digits: &str, most: T) -> Option<T> {
     let decimal = digits.bytes().all(|byte| byte.is_ascii_digit());
-    digits.parse().ok().filter(|&number| decimal && number <= most)
+    digits.parse().ok().filter(|number| decimal && *number <= most)
 }
 
 fn bad_word(name: &str, (line, word): (usize, usize), digits: &str, most: u16) -> Failure {

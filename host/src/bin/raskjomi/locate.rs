@@ -65,6 +65,11 @@ pub fn plan_refused(refusal: Refusal, game: &Input, plan: &Input) -> Failure {
     tell(refusal, plan.at(index, &detail))
 }
 
+/// A refusal of the numbers of a game by the seed.
+pub fn seed_refused(refusal: Refusal, [_, n, degree, priorities]: [u32; 4]) -> Failure {
+    tell(refusal, format!("{n} vertices, degree {degree}, {priorities} priorities"))
+}
+
 /// Place, refusal and remedy in one line.
 fn tell(refusal: Refusal, place: String) -> Failure {
     let remedy = refusal.explanation().remedy;
