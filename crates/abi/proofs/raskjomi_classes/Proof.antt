@@ -1,4 +1,4 @@
--- An accepted game has at most 256 classes, so the count fits its field.
+-- An accepted game has few classes, so the count fits its field.
 use Rattle.abi.specs.FieldsLaws.{classification-small}
 use borrow.Author.Needs.{needs}
 use Rattle.abi.proofs.raskjomi_classes.Statement.{statement}

@@ -25,7 +25,7 @@ returns : tie.Need-returns
 returns c =
     let s = c .before .before .before .before .before .before in
     let few : vertexCount (s .args .game .now) ≤ vertexLimit = omega (arith, s .pre .0) in
-    c .first-at-least .ensures ∙ rw (c .before .before .before .clear-sources .ensures, s .pre .0 .vertices) (lacking-first (s .args .game .now) 256 few)
+    c .first-at-least .ensures ∙ rw (c .before .before .before .clear-sources .ensures, s .pre .0 .vertices) (lacking-first (s .args .game .now) vertexLimit few)
 
 pub first-lacking-spec : {M : Type 1} → statement M
 first-lacking-spec =
