@@ -76,8 +76,10 @@ same-length-2 c = search needs
 returns : tie.Need-returns
 returns c =
     let s = start (c .before) in
-    let e = sym (c .before .lowest-member .ensures) ∙ c .if1 .taken in
-    (rw (← class-new (preorder s) (numbered s) (vertex s) e), numbered-new (preorder s) (numbered s) (vertex s) e (omega arith) (omega (arith, few s)))
+    let e = sym (c .before .lowest-member .ensures) ∙ c .if1 .taken in (
+      ap (set (s .args .classes .now) (s .args .v)) (class-new (preorder s) (numbered s) (vertex s) e),
+      numbered-new (preorder s) (numbered s) (vertex s) e (omega arith) (omega (arith, few s)),
+    )
 
 mul-classes-2 : tie.Need-mul-classes-2
 mul-classes-2 c = omega (arith, earlier c)
