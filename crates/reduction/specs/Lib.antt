@@ -1,7 +1,7 @@
 pub mod TableCall
 pub mod TableRules
 pub mod TableRulesLaws
-pub mod Edges
-pub mod EdgesLaws
+pub mod Tables
+pub mod TablesLaws
 pub mod TableCallLaws
 pub mod SameTableLaws

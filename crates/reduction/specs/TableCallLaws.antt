@@ -24,7 +24,7 @@ use Rattle.classes.specs.declared.Memory.the-variants.{Short}
 use Rattle.reduction.specs.TableCall.{tableRows, tableCounts, classTable, TableCall}
 use Rattle.reduction.specs.TableRules.{TableFits}
 use Rattle.reduction.specs.TableRulesLaws.{table-clean}
-use Rattle.reduction.specs.Edges.{TableDone}
+use Rattle.reduction.specs.Tables.{TableDone}
 use Rattle.reduction.specs.declared.TableCounts.{TableCounts}
 
 -- the reader accepted

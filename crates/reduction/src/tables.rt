@@ -1,7 +1,7 @@
 // A part of this crate's calls; no host calls it.
 // The table of a game of classes.
 use crate::TableCounts;
-use class_edges::rows::class_row;
+use class_edges::listing::list_edges;
 use classes::numbering::number_classes;
 use order::marking::settle;
 use table::limits::EDGES;
@@ -9,10 +9,8 @@ use table::limits::VERTEX_STARTS;
 use table::limits::VERTICES;
 use table::words;
 ghost use mathlib.Core.Path.{_≡_};
-ghost use mathlib.Core.List.{map};
-ghost use Prim.Native.Nat.{_+_, _<_, _≤_};
+ghost use Prim.Native.Nat.{_+_, _≤_};
 ghost use lib.ListN.{length};
-ghost use Rattle.theory.specs.Range.{pairsOf};
 ghost use Rattle.theory.specs.Order.{order};
 ghost use Rattle.table.specs.Limits.{edgeLimit};
 ghost use Rattle.table.specs.Table.{vertexCount, tableEdges, tableLength, gameOf};
@@ -20,88 +18,9 @@ ghost use Rattle.table.specs.Verdict.{written};
 ghost use Rattle.table.specs.WellFormed.{WellFormed};
 ghost use Rattle.index.specs.Index.{EdgeIndex};
 ghost use Rattle.classes.specs.Numbering.{Ordered, classesIn, Represented};
-ghost use Rattle.class_edges.specs.Rows.{picked, edgeTo, gameBy, Prepared};
+ghost use Rattle.class_edges.specs.Rows.{gameBy};
 ghost use Rattle.reduction.specs.TableRules.{TableFits};
-ghost use Rattle.reduction.specs.Edges.{Appended, tableBy, TableFilled, TableDone};
-
-// Puts the edges of class c behind the first e edges. Returns how many edges there are then.
-fn append_class(
-    game: &[u16],
-    marks: &[u8],
-    classes: &[u16],
-    reps: &[u16],
-    starts: &[u16],
-    targets: &[u16],
-    k: usize,
-    drop: bool,
-    c: usize,
-    sources: &mut [u16],
-    ends: &mut [u16],
-    e: usize,
-) -> usize
-    requires { ⌜ Prepared (now game) (now marks) (now classes) (now reps) (now starts) (now targets) ⌝ }
-    requires { ⌜ (c < k) × (k ≡ classesIn (gameOf (now game))) ⌝ }
-    requires { ⌜ e + length (picked k (gameBy drop (gameOf (now game)) .edge c)) ≤ length (now sources) ⌝ }
-    requires { ⌜ e + length (picked k (gameBy drop (gameOf (now game)) .edge c)) ≤ length (now ends) ⌝ }
-    ensures { λ r. ⌜ Appended (map (edgeTo c) (picked k (gameBy drop (gameOf (now (game .entry))) .edge c))) e (now (sources .entry)) (now (sources .exit)) (now (ends .entry)) (now (ends .exit)) r ⌝ }
-{
-    let mut row = [0u16; VERTICES];
-    let r = class_row(
-        game,
-        marks,
-        classes,
-        reps,
-        starts,
-        targets,
-        k,
-        drop,
-        c,
-        &mut row,
-    );
-    words::fill(sources, e, r, c as u16);
-    words::copy(ends, e, &row, r);
-    e + r
-}
-
-// Lists the edges of the quotient or, with `drop`, of the reduced game, ascending. Returns how many there are.
-fn list_edges(
-    game: &[u16],
-    marks: &[u8],
-    classes: &[u16],
-    reps: &[u16],
-    starts: &[u16],
-    targets: &[u16],
-    k: usize,
-    drop: bool,
-    sources: &mut [u16],
-    ends: &mut [u16],
-) -> usize
-    requires { ⌜ Prepared (now game) (now marks) (now classes) (now reps) (now starts) (now targets) ⌝ }
-    requires { ⌜ k ≡ classesIn (gameOf (now game)) ⌝ }
-    requires { ⌜ (tableEdges (now game) ≤ length (now sources)) × (tableEdges (now game) ≤ length (now ends)) ⌝ }
-    ensures { λ r. ⌜ Appended (pairsOf k (gameBy drop (gameOf (now (game .entry))) .edge)) 0 (now (sources .entry)) (now (sources .exit)) (now (ends .entry)) (now (ends .exit)) r ⌝ }
-{
-    let mut e = 0;
-    let mut c = 0;
-    while c < k {
-        e = append_class(
-            game,
-            marks,
-            classes,
-            reps,
-            starts,
-            targets,
-            k,
-            drop,
-            c,
-            sources,
-            ends,
-            e,
-        );
-        c += 1;
-    }
-    e
-}
+ghost use Rattle.reduction.specs.Tables.{tableBy, TableFilled, TableDone};
 
 // Writes the table of the k classes and the first e edges: sizes, priorities and owners of the representatives, sources, targets.
 fn write_table(

@@ -10,7 +10,8 @@ use Rattle.table.specs.Table.{vertexCount, tableEdges, gameOf}
 use Rattle.classes.specs.Numbering.{Numbered, Classed, classesIn, Represented}
 use Rattle.classes.specs.NumberingLaws.{numbered-classed, numbered-represented, numbered-total}
 use Rattle.classes.specs.HoldingLaws.{ordered-preorder, ordered-words, ordered-numbered}
-use Rattle.reduction.specs.EdgesLaws.{edges-few, table-filled}
+use Rattle.class_edges.specs.ListingLaws.{edges-few}
+use Rattle.reduction.specs.TablesLaws.{table-filled}
 use borrow.Author.Needs.{needs}
 use Rattle.reduction.proofs.tables.fill_table.Statement.{statement}
 use Rattle.reduction.proofs.tables.fill_table.Tie as tie

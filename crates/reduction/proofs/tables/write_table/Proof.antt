@@ -7,10 +7,10 @@ use Rattle.theory.specs.ListLaws.{length-tabulate}
 use Rattle.theory.specs.QuotientLaws.{order-preorder}
 use Rattle.table.specs.Limits.{vertexLimit}
 use Rattle.table.specs.Table.{vertexCount, gameOf}
-use Rattle.reduction.specs.Edges.{tableBy}
+use Rattle.reduction.specs.Tables.{tableBy}
 use Rattle.classes.specs.NumberingLaws.{represented-lt}
 use Rattle.classes.specs.HoldingLaws.{classes-few}
-use Rattle.reduction.specs.EdgesLaws.{table-parts}
+use Rattle.reduction.specs.TablesLaws.{table-parts}
 use borrow.Author.Needs.{needs}
 use Rattle.reduction.proofs.tables.write_table.Statement.{statement}
 use Rattle.reduction.proofs.tables.write_table.Tie as tie

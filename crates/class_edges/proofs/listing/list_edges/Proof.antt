@@ -1,17 +1,17 @@
 -- Invariant: the edges of the classes before c are listed. They are at most the game's, so each row has room.
 use Rattle.class_edges.specs.Rows.{picked, gameBy}
 use mathlib.Core.Path.{_≡_}
 use Prim.Native.Nat.{_+_, _-_, _*_, _≤_}
 use native.Mathlib.Omega.{arith}
 use lib.ListN.{length}
 use Rattle.theory.specs.Range.{pairsBelow, pairsOf}
 use Rattle.table.specs.Table.{gameOf, tableEdges}
-use Rattle.reduction.specs.Edges.{Appended}
+use Rattle.class_edges.specs.Listing.{Appended}
 use Rattle.class_edges.specs.PickedLaws.{pairs-row}
-use Rattle.reduction.specs.EdgesLaws.{appended-none, appended-join, rows-few}
+use Rattle.class_edges.specs.ListingLaws.{appended-none, appended-join, rows-few}
 use borrow.Author.Needs.{needs}
-use Rattle.reduction.proofs.tables.list_edges.Statement.{statement}
-use Rattle.reduction.proofs.tables.list_edges.Tie as tie
+use Rattle.class_edges.proofs.listing.list_edges.Statement.{statement}
+use Rattle.class_edges.proofs.listing.list_edges.Tie as tie
 
 abbrev Inv-loop : tie.InvT-loop
 Inv-loop game marks classes reps starts targets k drop sources₀ ends₀ e₀ c₀ sources ends e c =

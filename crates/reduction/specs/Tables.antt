@@ -1,30 +1,16 @@
--- Edges listed in two parallel arrays, the words of a table as the code puts them together, and what is written in the end. No public
--- promise cites these.
+-- The words of a table as the code puts them together, and what is written in the end. No public promise cites these.
 use mathlib.Core.Path.{_≡_}
-use mathlib.Core.List.{List, _∷_, _++_, map}
+use mathlib.Core.List.{List, _∷_, _++_}
 use Prim.Native.Nat.{ℕ, _+_}
 use lib.ListN.{length, getD}
 use Rattle.theory.specs.Range.{tabulate}
 use Rattle.theory.specs.Game.{Game, edgeCount}
 use Rattle.table.specs.Table.{vertexCount, gameOf}
-use Rattle.table.specs.Placing.{placed}
 use Rattle.table.specs.Verdict.{written}
 use Rattle.order.specs.Clearing.{OrderDone}
 use Rattle.classes.specs.ClassesCall.{classTotal, classWords}
 use Rattle.reduction.specs.TableCall.{classTable}
 use Rattle.reduction.specs.declared.TableCounts.{TableCounts}
-
-abbrev pub sourcesOf : List (ℕ × ℕ) → List ℕ
-sourcesOf es = map (λ e. e .0) es
-
-abbrev pub targetsOf : List (ℕ × ℕ) → List ℕ
-targetsOf es = map (λ e. e .1) es
-
--- the edges es are put behind the first e edges, and r is their count then
-pub record Appended (es : List (ℕ × ℕ)) (e : ℕ) (sources sources′ targets targets′ : List ℕ) (r : ℕ) : Type 0 where
-  pub count : r ≡ e + length es
-  pub sources-after : sources′ ≡ placed e (sourcesOf es) sources
-  pub targets-after : targets′ ≡ placed e (targetsOf es) targets
 
 -- the words of k classes, by their representatives, and of e edges
 unfoldable pub tableBy : List ℕ → List ℕ → ℕ → List ℕ → List ℕ → ℕ → List ℕ

@@ -3,13 +3,13 @@ use Prim.Native.Nat.{_≤_}
 use native.Mathlib.Omega.{arith}
 use Rattle.table.specs.Limits.{vertexLimit}
 use Rattle.table.specs.Table.{gameOf}
 use Rattle.class_edges.specs.Rows.{gameBy}
 use Rattle.class_edges.specs.PickedLaws.{length-picked}
 use Rattle.classes.specs.HoldingLaws.{classes-few}
-use Rattle.reduction.specs.EdgesLaws.{appended-row}
+use Rattle.class_edges.specs.ListingLaws.{appended-row}
 use borrow.Author.Needs.{needs}
-use Rattle.reduction.proofs.tables.append_class.Statement.{statement}
-use Rattle.reduction.proofs.tables.append_class.Tie as tie
+use Rattle.class_edges.proofs.listing.append_class.Statement.{statement}
+use Rattle.class_edges.proofs.listing.append_class.Tie as tie
 
 abbrev start : tie.After-row → tie.Start
 start c = c .before .before .before .before .before .before .before .before .before

@@ -1,23 +1,17 @@
--- Laws of listed edges: class by class they become the ascending list, which has no more edges than the game; and the words that the
--- code puts together are the table of the game of classes.
+-- Laws of the table of a game of classes: the words that the code puts together are it.
 use mathlib.Core.Path.{_≡_, refl, sym, ap, _∙_}
 use mathlib.Core.Bool.{Bool, true, false}
-use mathlib.Core.List.{List, [], _∷_, _++_, map, map-append, append-assoc}
-use Prim.Native.Nat.{ℕ, zero, suc, _+_, _*_, _/_, _%_, _≤_, _<_}
-use native.Mathlib.Nat.{zero-mul, mul-le-mul-right}
+use mathlib.Core.List.{List, [], _∷_, _++_, map, append-assoc}
+use Prim.Native.Nat.{ℕ, zero, suc, _+_, _*_, _≤_, _<_}
 use native.Mathlib.Omega.{arith}
 use lib.ListN.{length, getD, set, length-append, length-map}
-use Rattle.theory.specs.Range.{tabulate, pairsBelow, pairsOf}
-use Rattle.theory.specs.CountLaws.{count-grows}
+use Rattle.theory.specs.Range.{tabulate, pairsOf}
 use Rattle.theory.specs.ListLaws.{tabulate-by}
-use Rattle.theory.specs.LinkLaws.{length-pairsBelow}
-use Rattle.theory.specs.Game.{Game, edgeCount}
+use Rattle.theory.specs.Game.{Game}
 use Rattle.theory.specs.Order.{order}
 use Rattle.theory.specs.Reduction.{representative, classGame, quotient, reduced}
 use Rattle.theory.specs.QuotientLaws.{rep-lt}
-use Rattle.theory.specs.SizeLaws.{quotient-edges, reduced-edges}
-use Rattle.table.specs.Table.{vertexCount, tableEdges, ownerAt, playerOf, gameOf}
-use Rattle.table.specs.TableLaws.{edges-listed}
+use Rattle.table.specs.Table.{vertexCount, ownerAt, playerOf, gameOf}
 use Rattle.table.specs.Verdict.{written}
 use Rattle.table.specs.VerdictLaws.{getD-written}
 use Rattle.table.specs.WellFormed.{WellFormed}
@@ -26,92 +20,12 @@ use Rattle.table.specs.TableWordsLaws.{length-edgesOf}
 use Rattle.classes.specs.ClassesCall.{classTotal, classWords}
 use Rattle.classes.specs.HoldingLaws.{tabulate-ext}
 use Rattle.table.specs.Placing.{placed}
-use Rattle.table.specs.PlacingLaws.{placed-written, placed-join, placed-start, written-join, written-two}
+use Rattle.table.specs.PlacingLaws.{placed-written, written-join, written-two}
 use Rattle.classes.specs.Numbering.{classesIn, Represented}
-use Rattle.class_edges.specs.Rows.{picked, edgeTo, gameBy}
-use Rattle.class_edges.specs.PickedLaws.{pairs-row}
-use Rattle.reduction.specs.Edges.{sourcesOf, targetsOf, Appended, tableBy, TableFilled}
-
--- ---- row after row
-
-pub appended-none : (r : ℕ → ℕ → Bool) (k : ℕ) (sources targets : List ℕ) → Appended (pairsBelow k r (0 * k)) 0 sources sources targets targets 0
-unfolding pairsBelow tabulate
-appended-none r k sources targets =
-    rw (zero-mul k) (record { count = refl; sources-after = placed-start 0 (λ i. i) sources; targets-after = placed-start 0 (λ i. i) targets })
-
-pub appended-join : (xs ys : List (ℕ × ℕ)) (e r : ℕ) (s₀ s₁ s₂ t₀ t₁ t₂ : List ℕ) → length xs ≤ length s₀ → length xs ≤ length t₀
-    → Appended xs 0 s₀ s₁ t₀ t₁ e → Appended ys e s₁ s₂ t₁ t₂ r → Appended (xs ++ ys) 0 s₀ s₂ t₀ t₂ r
-appended-join xs ys e r s₀ s₁ s₂ t₀ t₁ t₂ hs ht a b = record {
-  count = omega (arith, a .count, b .count, length-append xs ys);
-  sources-after = part (λ p. p .0) s₀ s₁ s₂ hs (a .sources-after) (b .sources-after);
-  targets-after = part (λ p. p .1) t₀ t₁ t₂ ht (a .targets-after) (b .targets-after);
-}
-  where
-    part : (f : ℕ × ℕ → ℕ) (o m n : List ℕ) → length xs ≤ length o → m ≡ placed 0 (map f xs) o → n ≡ placed e (map f ys) m
-        → n ≡ placed 0 (map f (xs ++ ys)) o
-    part f o m n h p q =
-        let l = length-map xs f in
-        let at : e ≡ 0 + length (map f xs) = omega (arith, a .count) in
-        q ∙ rw (p, at, map-append f xs ys) (placed-join 0 (map f xs) (map f ys) o (omega arith))
-
--- the row of class c, as its class and its ends are put
-module _ (c : ℕ) where
-  row-sources : (xs : List ℕ) → tabulate (length xs) (λ i. c) ≡ sourcesOf (map (edgeTo c) xs)
-  unfolding tabulate
-  row-sources [] = refl
-  row-sources (x ∷ xs) = ap (λ (l : List ℕ). c ∷ l) (row-sources xs)
-
-  row-targets : (xs : List ℕ) → xs ≡ targetsOf (map (edgeTo c) xs)
-  row-targets [] = refl
-  row-targets (x ∷ xs) = ap (λ (l : List ℕ). x ∷ l) (row-targets xs)
-
-  pub appended-row : (xs row old : List ℕ) (e r : ℕ) (s s′ t t′ : List ℕ) → r ≡ length xs → row ≡ written xs old
-      → s′ ≡ placed e (tabulate r (λ i. c)) s → t′ ≡ placed e (tabulate r (λ i. getD row i 0)) t → Appended (map (edgeTo c) xs) e s s′ t t′ (e + r)
-  appended-row xs row old e r s s′ t t′ n w p q =
-      let read : xs ≡ tabulate (length xs) (λ i. getD (written xs old) i 0) =
-      tabulate-by (length xs) _ 0 xs refl (λ i h. sym (getD-written xs old i 0 h)) in record {
-        count = omega (arith, n, length-map xs (edgeTo c));
-        sources-after = p ∙ rw (n, row-sources xs);
-        targets-after = q ∙ rw (n, w) (ap (λ (l : List ℕ). placed e l t) (sym read ∙ row-targets xs));
-      }
-
--- ---- as many as the game of classes has, and so no more than the table
-
-gameBy-n : (drop : Bool) (G : Game) → gameBy drop G .n ≡ classesIn G
-unfolding gameBy quotient reduced classGame
-gameBy-n true G = refl
-gameBy-n false G = refl
-
-gameBy-edges : (drop : Bool) (G : Game) → edgeCount (gameBy drop G) ≤ edgeCount G
-unfolding gameBy
-gameBy-edges true G = reduced-edges G
-gameBy-edges false G = quotient-edges G
-
-module _ (game : List ℕ) (drop : Bool) (k : ℕ) (e : k ≡ classesIn (gameOf game)) where
-  abbrev E : ℕ → ℕ → Bool
-  E = gameBy drop (gameOf game) .edge
-
-  pub edges-few : length (pairsOf k E) ≤ tableEdges game
-  edges-few =
-      let n = ap (λ (n : ℕ). length (pairsOf n E)) (e ∙ sym (gameBy-n drop (gameOf game))) in
-      omega (arith, n, length-edgesOf (gameBy drop (gameOf game)), gameBy-edges drop (gameOf game), edges-listed game)
-
-  -- the rows up to c
-  pub rows-few : (c : ℕ) → c < k → length (pairsBelow k E (c * k)) + length (picked k (E c)) ≤ tableEdges game
-  unfolding pairsOf
-  rows-few c h =
-      let p = ap length (pairs-row k E c) in
-      let up : (c + 1) * k ≤ k * k = mul-le-mul-right k (omega arith) in
-      omega (
-        arith,
-        p,
-        length-append (pairsBelow k E (c * k)) (map (edgeTo c) (picked k (E c))),
-        length-map (picked k (E c)) (edgeTo c),
-        length-pairsBelow k E ((c + 1) * k),
-        length-pairsBelow k E (k * k),
-        count-grows ((c + 1) * k) (k * k) (λ i. E (i / k) (i % k)) up,
-        edges-few,
-      )
+use Rattle.class_edges.specs.Rows.{gameBy}
+use Rattle.class_edges.specs.Listing.{sourcesOf, targetsOf, Appended}
+use Rattle.class_edges.specs.ListingLaws.{gameBy-n}
+use Rattle.reduction.specs.Tables.{tableBy, TableFilled}
 
 -- ---- the words of a table, part by part
 
