@@ -2,7 +2,7 @@
 -- has the definition; no public promise cites these.
 use mathlib.Core.Bool.{Bool, not, cond}
 use mathlib.Core.List.{List}
-use Prim.Native.Nat.{ℕ, _<_}
+use Prim.Native.Nat.{ℕ, _≤_, _<_}
 use lib.Dec.{eqb}
 use lib.ListN.{length, getD}
 use Rattle.theory.specs.Bools.{_&_}
@@ -11,6 +11,18 @@ use Rattle.theory.specs.Passes.{Rel}
 use Rattle.theory.specs.Game.{Player, even, odd, Game}
 use Rattle.theory.specs.Order.{order}
 use Rattle.theory.specs.Reduction.{representative, noBetter}
+use Rattle.table.specs.Table.{gameOf}
+use Rattle.table.specs.WellFormed.{WellFormed}
+use Rattle.classes.specs.Numbering.{Ordered, classesIn, Represented}
+
+-- what a comparison asks: class c of a game whose order the marks hold, the representatives, and q edges, whose targets are classes
+pub record Compared (game marks reps edges : List ℕ) (q c : ℕ) : Type 0 where
+  pub well : WellFormed game
+  pub ordered : Ordered (gameOf game) marks
+  pub represented : Represented (gameOf game .n) (order (gameOf game)) reps
+  pub class : c < classesIn (gameOf game)
+  pub few : q ≤ length edges
+  pub inside : (j : ℕ) → j < q → getD edges j 0 < classesIn (gameOf game)
 
 abbrev pub playerBy : Bool → Player
 playerBy b = cond b even odd

@@ -5,13 +5,11 @@ ghost use mathlib.Core.Path.{_≡_};
 ghost use Prim.Native.Nat.{ℕ, _<_, _≤_};
 ghost use lib.ListN.{length, getD};
 ghost use Rattle.theory.specs.Range.{anyBelow};
-ghost use Rattle.theory.specs.Order.{order};
 ghost use Rattle.table.specs.Limits.{vertexLimit};
 ghost use Rattle.table.specs.Table.{gameOf};
-ghost use Rattle.table.specs.WellFormed.{WellFormed};
 ghost use Rattle.pairs.specs.Marks.{marksLength, relation};
-ghost use Rattle.classes.specs.Numbering.{Ordered, classesIn, Represented};
-ghost use Rattle.class_edges.specs.LittleBrothers.{playerBy, HasVertex, littleBrother, droppedBy};
+ghost use Rattle.classes.specs.Numbering.{classesIn};
+ghost use Rattle.class_edges.specs.LittleBrothers.{Compared, playerBy, HasVertex, littleBrother, droppedBy};
 
 // Whether d is a little brother of e for a player: another class, and by the marks its representative is no better than that of e. Below
 // is worse for Even, and better for Odd.
@@ -71,10 +69,8 @@ pub fn is_dropped(
     c: usize,
     d: usize,
 ) -> bool
-    requires { ⌜ WellFormed (now game) ⌝ }
-    requires { ⌜ Ordered (gameOf (now game)) (now marks) × Represented (gameOf (now game) .n) (order (gameOf (now game))) (now reps) ⌝ }
-    requires { ⌜ (c < classesIn (gameOf (now game))) × (d < classesIn (gameOf (now game))) ⌝ }
-    requires { ⌜ (q ≤ length (now edges)) × ((j : ℕ) → j < q → getD (now edges) j 0 < classesIn (gameOf (now game))) ⌝ }
+    requires { ⌜ Compared (now game) (now marks) (now reps) (now edges) q c ⌝ }
+    requires { ⌜ d < classesIn (gameOf (now game)) ⌝ }
     ensures { λ r. ⌜ r ≡ droppedBy (gameOf (now (game .entry))) (now (edges .entry)) q c d ⌝ }
 {
     let n = game[0] as usize;

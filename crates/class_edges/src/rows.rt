@@ -15,7 +15,8 @@ ghost use Rattle.table.specs.Table.{vertexCount, gameOf};
 ghost use Rattle.table.specs.Verdict.{written};
 ghost use Rattle.table.specs.WellFormed.{WellFormed};
 ghost use Rattle.index.specs.Index.{Indexed, EdgeIndex};
-ghost use Rattle.classes.specs.Numbering.{Ordered, Classed, classesIn, Represented};
+ghost use Rattle.classes.specs.Numbering.{Classed, classesIn};
+ghost use Rattle.class_edges.specs.LittleBrothers.{Compared};
 ghost use Rattle.class_edges.specs.Rows.{runReaches, ClassesBelow, memberReaches, raise, Raised, Counted, keeps, picked, gameBy, Prepared};
 
 // A count that is s becomes s + 1.
@@ -128,10 +129,8 @@ fn is_kept(
     c: usize,
     d: usize,
 ) -> bool
-    requires { ⌜ WellFormed (now game) ⌝ }
-    requires { ⌜ Ordered (gameOf (now game)) (now marks) × Represented (gameOf (now game) .n) (order (gameOf (now game))) (now reps) ⌝ }
-    requires { ⌜ (c < classesIn (gameOf (now game))) × (d < classesIn (gameOf (now game))) × (d < length (now counts)) ⌝ }
-    requires { ⌜ (q ≤ length (now edges)) × ((j : ℕ) → j < q → getD (now edges) j 0 < classesIn (gameOf (now game))) ⌝ }
+    requires { ⌜ Compared (now game) (now marks) (now reps) (now edges) q c ⌝ }
+    requires { ⌜ (d < classesIn (gameOf (now game))) × (d < length (now counts)) ⌝ }
     ensures { λ r. ⌜ r ≡ keeps (gameOf (now (game .entry))) (now (counts .entry)) s (now (edges .entry)) q c d ⌝ }
 {
     if counts[d] != s {
@@ -153,10 +152,8 @@ fn collect(
     k: usize,
     row: &mut [u16],
 ) -> usize
-    requires { ⌜ WellFormed (now game) ⌝ }
-    requires { ⌜ Ordered (gameOf (now game)) (now marks) × Represented (gameOf (now game) .n) (order (gameOf (now game))) (now reps) ⌝ }
-    requires { ⌜ (c < k) × (k ≡ classesIn (gameOf (now game))) × (k ≤ vertexLimit) × (k ≤ length (now counts)) × (k ≤ length (now row)) ⌝ }
-    requires { ⌜ (q ≤ length (now edges)) × ((j : ℕ) → j < q → getD (now edges) j 0 < k) ⌝ }
+    requires { ⌜ Compared (now game) (now marks) (now reps) (now edges) q c ⌝ }
+    requires { ⌜ (k ≡ classesIn (gameOf (now game))) × (k ≤ vertexLimit) × (k ≤ length (now counts)) × (k ≤ length (now row)) ⌝ }
     ensures { λ r. ⌜ r ≡ length (picked k (keeps (gameOf (now (game .entry))) (now (counts .entry)) s (now (edges .entry)) q c)) ⌝ }
     ensures { λ r. ⌜ now (row .exit) ≡ written (picked k (keeps (gameOf (now (game .entry))) (now (counts .entry)) s (now (edges .entry)) q c)) (now (row .entry)) ⌝ }
 {

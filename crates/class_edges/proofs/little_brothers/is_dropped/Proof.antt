@@ -18,10 +18,10 @@ start c = c .before .before .before .before .before
 -- a class has a vertex
 vertex : (s : tie.Start) (d : ℕ) → d < classesIn (gameOf (s .args .game .now)) → HasVertex (vertexCount (s .args .game .now)) (s .args .reps .now) d
 unfolding gameOf
-vertex s d h = represented-lt (order-preorder (gameOf (s .args .game .now))) (s .pre .1 .0 .1) d h
+vertex s d h = represented-lt (order-preorder (gameOf (s .args .game .now))) (s .pre .0 .represented) d h
 
 low-c : (s : tie.Start) → HasVertex (vertexCount (s .args .game .now)) (s .args .reps .now) (s .args .c)
-low-c s = vertex s (s .args .c) (s .pre .1 .1 .0 .0)
+low-c s = vertex s (s .args .c) (s .pre .0 .class)
 
 shared-slice-read-n : tie.Need-shared-slice-read-n
 shared-slice-read-n c = search needs
@@ -39,33 +39,33 @@ shared-slice-read-even : tie.Need-shared-slice-read-even
 shared-slice-read-even c = omega (arith, low-c (start (c .before)))
 
 cast-even : tie.Need-cast-even
-cast-even c = let s = start (c .before) in omega (arith, low-c s, s .pre .0 .vertices)
+cast-even c = let s = start (c .before) in omega (arith, low-c s, s .pre .0 .well .vertices)
 
 add-even-2 : tie.Need-add-even-2
-add-even-2 c = let s = start (c .before) in omega (arith, low-c s, s .pre .0 .vertices)
+add-even-2 c = let s = start (c .before) in omega (arith, low-c s, s .pre .0 .well .vertices)
 
 mul-even-2 : tie.Need-mul-even-2
-mul-even-2 c = let s = start (c .before) in omega (arith, low-c s, s .pre .0 .vertices)
+mul-even-2 c = let s = start (c .before) in omega (arith, low-c s, s .pre .0 .well .vertices)
 
 shared-slice-read-even-2 : tie.Need-shared-slice-read-even-2
-shared-slice-read-even-2 c = let s = start (c .before .before) in omega (arith, low-c s, s .pre .0 .size)
+shared-slice-read-even-2 c = let s = start (c .before .before) in omega (arith, low-c s, s .pre .0 .well .size)
 
 is-little-brother-of-some-requires : tie.Need-is-little-brother-of-some-requires
 unfolding gameOf
 is-little-brother-of-some-requires c κs =
     let s = start (c .before .before) in
-    let p = s .pre in
-    ((p .0 .vertices, p .1 .0 .0 .long), (vertex s _ (p .1 .1 .0 .1), (p .1 .1 .1 .0, λ j h. vertex s _ (p .1 .1 .1 .1 j h))))
+    let p = s .pre .0 in
+    ((p .well .vertices, p .ordered .long), (vertex s _ (s .pre .1), (p .few, λ j h. vertex s _ (p .inside j h))))
 
 returns : tie.Need-returns
 unfolding gameOf playerOf
 returns c =
     let s = start (c .before .before .before) in
-    let p = s .pre in
+    let p = s .pre .0 in
     let g = s .args .game .now in
     c .is-little-brother-of-some .ensures
-    ∙ dropped-marks _ _ _ _ (p .1 .0 .0) (p .1 .0 .1) _ _ _ _ (p .1 .1 .0 .1) (p .1 .1 .1 .1)
-    (ap (λ (v : ℕ). playerOf (ownerAt g v)) (p .1 .0 .1 .lowest _ (p .1 .1 .0 .0)))
+    ∙ dropped-marks _ _ _ _ (p .ordered) (p .represented) _ _ _ _ (s .pre .1) (p .inside)
+    (ap (λ (v : ℕ). playerOf (ownerAt g v)) (p .represented .lowest _ (p .class)))
 
 pub is-dropped-spec : {M : Type 1} → statement M
 is-dropped-spec =

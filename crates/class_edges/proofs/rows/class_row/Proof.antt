@@ -83,8 +83,10 @@ collect-requires c κs =
     let a = c .before .before .before in
     let s = start (a .before) in
     let p = s .pre .0 in
-    let b = s .pre .1 in
-    (p .well, ((p .ordered, p .represented), ((b .0, b .1, few s, omega (arith, a .count-members .kept, few s), few s), (omega arith, λ j h. absurd (omega arith)))))
+    let b = s .pre .1 in (
+      record { well = p .well; ordered = p .ordered; represented = p .represented; class = omega (arith, b); few = omega arith; inside = λ j h. absurd (omega arith) },
+      (b .1, few s, omega (arith, a .count-members .kept, few s), few s),
+    )
 
 slice-aggregate-collect-3 : tie.Need-slice-aggregate-collect-3
 slice-aggregate-collect-3 c = search needs
@@ -99,7 +101,17 @@ collect-requires-2 c κs =
     let s = start (a .before) in
     let p = s .pre .0 in
     let b = s .pre .1 in
-    (p .well, ((p .ordered, p .represented), ((b .0, b .1, few s, omega (arith, a .count-members .kept, few s), b .2), inside j)))
+    let e = inside j in (
+      record {
+        well = p .well;
+        ordered = p .ordered;
+        represented = p .represented;
+        class = omega (arith, b);
+        few = e .0;
+        inside = λ i h. omega (arith, b, e .1 i h);
+      },
+      (b .1, few s, omega (arith, a .count-members .kept, few s), b .2),
+    )
 
 same-length : tie.Need-same-length
 same-length c = search needs

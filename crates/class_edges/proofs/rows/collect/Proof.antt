@@ -32,16 +32,13 @@ unfolding picked written
 loop-holds c = (search needs, search needs, refl, refl)
 
 is-kept-requires : tie.Need-is-kept-requires Inv-loop μ-loop
-is-kept-requires c κs =
-    let p = start c .pre in
-    let b = p .1 .1 .0 in
-    (p .0, (p .1 .0, ((omega (arith, b), omega (arith, b), omega (arith, b)), (p .1 .1 .1 .0, λ j h. omega (arith, b, p .1 .1 .1 .1 j h)))))
+is-kept-requires c κs = let p = start c .pre in (p .0, (omega (arith, p .1), omega (arith, p .1)))
 
 push-requires : tie.Need-push-requires Inv-loop μ-loop
 push-requires c κs =
     let i = c .before .before in
-    let b = start i .pre .1 .1 .0 in
-    (omega (arith, b, few i), omega (arith, b))
+    let p = start i .pre .1 in
+    (omega (arith, p, few i), omega (arith, p))
 
 add-d : tie.Need-add-d Inv-loop μ-loop
 add-d c = search needs
@@ -54,12 +51,12 @@ loop-again c =
     let a = c .before .before in
     let i = a .before .before .before in
     let l = i .before .loop in
-    let b = start i .pre .1 .1 .0 in
+    let p = start i .pre .1 in
     let e = a .before .before .is-kept .ensures in (
       search needs,
       omega (arith, a .push .kept, l .inv .1),
       a .push .ensures .0 ∙ rw e (picked-count _ (l .d) (l .r) (l .inv .2)),
-      a .push .ensures .1 ∙ rw e (picked-push _ (l .d) (l .r) (l .inv .2) _ _ (l .inv .3) (omega (arith, b, few i))),
+      a .push .ensures .1 ∙ rw e (picked-push _ (l .d) (l .r) (l .inv .2) _ _ (l .inv .3) (omega (arith, p, few i))),
     )
 
 same-length : tie.Need-same-length Inv-loop μ-loop

@@ -19,7 +19,7 @@ unfolding keeps _&_
 returns c = rw (ne-eqb _ _ (c .if1 .taken))
 
 is-dropped-requires : tie.Need-is-dropped-requires
-is-dropped-requires c κs = let p = c .before .before .before .before .before .before .before .pre in (p .0, (p .1 .0, ((p .1 .1 .0 .0, p .1 .1 .0 .1), p .1 .1 .1)))
+is-dropped-requires c κs = search needs
 
 returns-2 : tie.Need-returns-2
 unfolding keeps _&_
