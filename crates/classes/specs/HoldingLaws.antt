@@ -12,7 +12,7 @@ use Rattle.theory.specs.Bools.{_&_}
 use Rattle.theory.specs.Range.{count, nth, tabulate}
 use Rattle.theory.specs.RangeLaws.{first-ext, first-le}
 use Rattle.theory.specs.CountLaws.{count-ext}
-use Rattle.theory.specs.ListLaws.{length-tabulate, getD-tabulate, tabulate-by}
+use Rattle.theory.specs.ListLaws.{tabulate-ext}
 use Rattle.theory.specs.Passes.{Rel, marked, relOf}
 use Rattle.theory.specs.Order.{order, orderMarks, Preorder}
 use Rattle.theory.specs.OrderLaws.{length-orderMarks}
@@ -37,9 +37,6 @@ nth-ext : (n : ℕ) (p q : ℕ → Bool) → ((i : ℕ) → i < n → p i ≡ q 
 unfolding nth
 nth-ext zero p q f c = refl
 nth-ext (suc n) p q f c = rw (count-ext n p q (λ i h. f i (omega arith)), nth-ext n p q (λ i h. f i (omega arith)) c)
-
-pub tabulate-ext : (n : ℕ) (f g : ℕ → ℕ) → ((i : ℕ) → i < n → f i ≡ g i) → tabulate n f ≡ tabulate n g
-tabulate-ext n f g h = tabulate-by n g 0 (tabulate n f) (length-tabulate n f) (λ i l. getD-tabulate n f 0 i l ∙ h i l)
 
 -- ---- two relations that agree on the n vertices
 

@@ -6,7 +6,7 @@ use Prim.Native.Nat.{ℕ, zero, suc, _+_, _*_, _≤_, _<_}
 use native.Mathlib.Omega.{arith}
 use lib.ListN.{length, getD, set, length-append, length-map}
 use Rattle.theory.specs.Range.{tabulate, pairsOf}
-use Rattle.theory.specs.ListLaws.{tabulate-by}
+use Rattle.theory.specs.ListLaws.{tabulate-by, tabulate-ext}
 use Rattle.theory.specs.Game.{Game}
 use Rattle.theory.specs.Order.{order}
 use Rattle.theory.specs.Reduction.{representative, classGame, quotient, reduced}
@@ -18,7 +18,6 @@ use Rattle.table.specs.WellFormed.{WellFormed}
 use Rattle.table.specs.TableWords.{ownerWord, edgesOf, tableWords}
 use Rattle.table.specs.TableWordsLaws.{length-edgesOf}
 use Rattle.classes.specs.ClassesCall.{classTotal, classWords}
-use Rattle.classes.specs.HoldingLaws.{tabulate-ext}
 use Rattle.table.specs.Placing.{placed}
 use Rattle.table.specs.PlacingLaws.{placed-written, written-join, written-two}
 use Rattle.classes.specs.Numbering.{classesIn, Represented}
