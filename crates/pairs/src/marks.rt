@@ -1,9 +1,12 @@
 // Marks in memory. Every read of a mark goes through here, so that callers know the relation and not its bytes.
+use index::Run;
 ghost use mathlib.Core.Path.{_≡_};
-ghost use Prim.Native.Nat.{_<_, _≤_};
-ghost use lib.ListN.{length};
+ghost use Prim.Native.Nat.{ℕ, _+_, _*_, _<_, _≤_};
+ghost use lib.ListN.{length, getD};
+ghost use Rattle.theory.specs.Range.{anyFrom};
 ghost use Rattle.table.specs.Limits.{vertexLimit};
 ghost use Rattle.pairs.specs.Marks.{marksLength, InMarks, isMark, relation, firstHigh};
+ghost use Rattle.pairs.specs.Search.{hasMark};
 
 // How many bytes hold the marks of n vertices.
 pub fn length_for(n: usize) -> usize
@@ -42,4 +45,32 @@ pub fn first_high(marks: &[u8], size: usize) -> usize
         i += 1;
     }
     i
+}
+
+// Whether a target y of the run has the wanted mark, the innermost loop of the pair test; y's mark is number base + y * stride.
+pub fn finds(
+    marks: &[u8],
+    targets: &[u16],
+    ys: Run,
+    base: usize,
+    stride: usize,
+    wanted: bool,
+) -> bool
+    requires { ⌜ ys .end ≤ length (now targets) ⌝ }
+    requires { ⌜ ((k : ℕ) → ys .from ≤ k → k < ys .end → InMarks (now marks) (base + getD (now targets) k 0 * stride)) ⌝ }
+    ensures { λ r. ⌜ r ≡ anyFrom (ys .from) (ys .end) (hasMark (now (marks .entry)) (now (targets .entry)) base stride wanted) ⌝ }
+{
+    let end = ys.end;
+    let mut k = ys.from;
+    let found = loop {
+        if k >= end {
+            break false;
+        }
+        let at = base + (targets[k] as usize) * stride;
+        if (marks[at] == 1) == wanted {
+            break true;
+        }
+        k += 1;
+    };
+    found
 }

@@ -1,40 +1,19 @@
 // The pair test of direct simulation, over an index of the edges.
-use crate::marks::is_mark;
+use crate::marks::finds;
 use index::Run;
 use index::run_of;
 ghost use mathlib.Core.Path.{_≡_};
-ghost use Prim.Native.Nat.{ℕ, _+_, _*_, _<_, _≤_};
-ghost use lib.ListN.{length, getD};
+ghost use Prim.Native.Nat.{_<_, _≤_};
+ghost use lib.ListN.{length};
 ghost use Rattle.theory.specs.Range.{anyFrom};
 ghost use Rattle.theory.specs.Game.{even};
 ghost use Rattle.theory.specs.Order.{equalPriority, test};
 ghost use Rattle.table.specs.Limits.{vertexLimit};
 ghost use Rattle.table.specs.Table.{vertexCount, gameOf};
 ghost use Rattle.table.specs.WellFormed.{WellFormed};
-ghost use Rattle.pairs.specs.Marks.{InMarks, relation};
+ghost use Rattle.pairs.specs.Marks.{relation};
 ghost use Rattle.pairs.specs.Ready.{PairReady};
-ghost use Rattle.pairs.specs.Search.{hasMark, searchEnds, Reaches};
-
-// Whether a target y of the run has the wanted mark; y's mark is number base + y * stride.
-fn finds(marks: &[u8], targets: &[u16], ys: Run, base: usize, stride: usize, wanted: bool) -> bool
-    requires { ⌜ ys .end ≤ length (now targets) ⌝ }
-    requires { ⌜ ((k : ℕ) → ys .from ≤ k → k < ys .end → InMarks (now marks) (base + getD (now targets) k 0 * stride)) ⌝ }
-    ensures { λ r. ⌜ r ≡ anyFrom (ys .from) (ys .end) (hasMark (now (marks .entry)) (now (targets .entry)) base stride wanted) ⌝ }
-{
-    let end = ys.end;
-    let mut k = ys.from;
-    let found = loop {
-        if k >= end {
-            break false;
-        }
-        let at = base + (targets[k] as usize) * stride;
-        if is_mark(marks, at) == wanted {
-            break true;
-        }
-        k += 1;
-    };
-    found
-}
+ghost use Rattle.pairs.specs.Search.{searchEnds, Reaches};
 
 // Whether for some target x of xs the search for a target y of ys with the wanted mark ends as `found`; the mark of x and y is number
 // x * across + y * down.
