@@ -8,8 +8,8 @@ use Rattle.theory.specs.Range.{tabulate, pairsOf}
 use Rattle.theory.specs.Game.{Player, even, odd, Game, edgeCount}
 use Rattle.theory.specs.Order.{order, orderPasses}
 use Rattle.theory.specs.Plan.{Plan, linked, Wins, Won}
-use Rattle.theory.specs.TransferLaws.{transfer}
 use Rattle.theory.specs.Reduction.{quotient, reduced, classOf}
+use Rattle.theory.specs.CarryLaws.{transfer}
 use Rattle.theory.specs.KeptWinners.{mutual-winner, reduced-winner}
 use Rattle.theory.specs.PlanTestLaws.{surely-wins}
 use Rattle.theory.specs.Compute.{compute}
@@ -107,10 +107,7 @@ unfoldable pub won-5 : Won even gameD 5
 unfolding compute gameD
 won-5 = reduced-winner gameD even 5 (omega arith) .1 (classPlan, classPlan-wins)
 
--- the plan found: 19 positions, of which 0, 9 and 17 are played: 5 to 2 to 4, and there for ever
-pub won-5-plan : won-5 .0 ≡ record {
-  vertices = 5 ∷ 0 ∷ 5 ∷ 5 ∷ 5 ∷ 5 ∷ 5 ∷ 5 ∷ 5 ∷ 2 ∷ 5 ∷ 5 ∷ 5 ∷ 5 ∷ 5 ∷ 5 ∷ 5 ∷ 4 ∷ 5 ∷ [];
-  links = (0, 9) ∷ (1, 9) ∷ (2, 9) ∷ (3, 9) ∷ (4, 9) ∷ (5, 9) ∷ (6, 9) ∷ (7, 9) ∷ (8, 9) ∷ (9, 17) ∷ (10, 9) ∷ (11, 9) ∷ (12, 9) ∷ (13, 9) ∷ (14, 9) ∷ (15, 9) ∷ (16, 9) ∷ (17, 17) ∷ (18, 9) ∷ [];
-}
+-- the plan found: from 5 to 2 to 4, and there for ever
+pub won-5-plan : won-5 .0 ≡ record { vertices = 5 ∷ 2 ∷ 4 ∷ []; links = (0, 1) ∷ (1, 2) ∷ (2, 2) ∷ [] }
 unfolding compute gameD classPlan won-5 reduced-winner mutual-winner transfer
 won-5-plan = refl

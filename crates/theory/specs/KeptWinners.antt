@@ -8,9 +8,9 @@ use Rattle.theory.specs.SimulationLaws.{below-dual}
 use Rattle.theory.specs.Order.{order}
 use Rattle.theory.specs.OrderLaws.{order-out, order-largest}
 use Rattle.theory.specs.Plan.{Won}
-use Rattle.theory.specs.TransferLaws.{transfer}
 use Rattle.theory.specs.Reduction.{quotientEdge, reducedEdge, quotient, reduced, classOf}
 use Rattle.theory.specs.ReductionLaws.{class-above, class-below, quotient-enough, reduced-enough, classOf-quotient, classOf-reduced}
+use Rattle.theory.specs.CarryLaws.{transfer}
 
 -- the order contains every direct simulation
 pub order-contains : (g : Game) (H : ℕ → ℕ → Type 0) → DirectSimulation g g H → (v w : ℕ) → v < g .n → w < g .n → H v w → So (order g v w)

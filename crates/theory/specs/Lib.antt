@@ -22,7 +22,6 @@ pub mod Plays
 pub mod PlaysLaws
 pub mod StrategyLaws
 pub mod WinnerLaws
-pub mod Transfer
 pub mod TransferLaws
 pub mod Reduction
 pub mod ClassEdges
@@ -32,6 +31,10 @@ pub mod QuotientLaws
 pub mod ReductionLaws
 pub mod SizeLaws
 pub mod MixedLaws
+pub mod BreadthFirst
+pub mod BreadthFirstLaws
+pub mod Carry
+pub mod CarryLaws
 pub mod KeptWinners
 pub mod Agreement
 pub mod AgreementLaws
@@ -39,3 +42,4 @@ pub mod PlanTest
 pub mod PlanTestLaws
 pub mod Compute
 pub mod Examples
+pub mod CarryExamples

@@ -52,6 +52,10 @@ linked-one-out k l i j t =
 
 -- ---- links by their number
 
+-- a pair is its two numbers
+pub pair-is : {x : ℕ × ℕ} {i j : ℕ} → x .0 ≡ i → x .1 ≡ j → x ≡ (i, j)
+pair-is p q = ap₂ {C = ℕ × ℕ} (λ x y. (x, y)) p q
+
 pub linked-at : (ls : List (ℕ × ℕ)) (k : ℕ) → k < length ls → So (linked ls (getD ls k (0, 0) .0) (getD ls k (0, 0) .1))
 unfolding linked
 linked-at [] k h = absurd (not-suc-le-zero h)
@@ -62,27 +66,30 @@ pub linked-find : (ls : List (ℕ × ℕ)) (i j : ℕ) → So (linked ls i j) �
 unfolding linked
 linked-find [] i j t = absurd (false≢true t)
 linked-find (l ∷ ls) i j t = elim (or-out t) [
-  | inl a ↦ (let p = and-out a in (zero, omega arith, pair (eqb-true (l .0) i (p .0)) (eqb-true (l .1) j (p .1))))
+  | inl a ↦ (let p = and-out a in (zero, omega arith, pair-is (eqb-true (l .0) i (p .0)) (eqb-true (l .1) j (p .1))))
   | inr b ↦ (let r = linked-find ls i j b in (suc (r .0), omega arith, r .2))
 ]
-  where
-    pair : {x y : ℕ} → x ≡ i → y ≡ j → _≡_ {A = ℕ × ℕ} (x, y) (i, j)
-    pair p q = ap₂ {C = ℕ × ℕ} (λ x y. (x, y)) p q
+
+-- R holds of each link and every later one
+abbrev pub AllPairs : (ℕ × ℕ → ℕ × ℕ → Type 0) → List (ℕ × ℕ) → Type 0
+AllPairs R ls = (i j : ℕ) → i < j → j < length ls → R (getD ls i (0, 0)) (getD ls j (0, 0))
 
 -- each link stands in the list a single time
 abbrev pub Single : List (ℕ × ℕ) → Type 0
-Single ls = (i j : ℕ) → i < j → j < length ls → getD ls i (0, 0) ≡ getD ls j (0, 0) → ⊥
+Single ls = AllPairs (λ x y. x ≡ y → ⊥) ls
 
 -- each link stands before the next
 abbrev pub Ascending : List (ℕ × ℕ) → Type 0
-Ascending ls = (i j : ℕ) → i < j → j < length ls → Before (getD ls i (0, 0)) (getD ls j (0, 0))
+Ascending ls = AllPairs Before ls
 
 before-apart : {x y : ℕ × ℕ} → Before x y → x ≡ y → ⊥
 before-apart {x} {y} (inl l) e = let q = ap (λ (z : ℕ × ℕ). z .0) e in omega arith
 before-apart {x} {y} (inr l) e = let q = ap (λ (z : ℕ × ℕ). z .1) e in omega (arith, l .1)
 
-ascending-snoc : (ls : List (ℕ × ℕ)) (x : ℕ × ℕ) → Ascending ls → ((i : ℕ) → i < length ls → Before (getD ls i (0, 0)) x) → Ascending (ls ++ (x ∷ []))
-ascending-snoc ls x up last i j h l =
+-- one link more
+pub pairs-snoc : (R : ℕ × ℕ → ℕ × ℕ → Type 0) (ls : List (ℕ × ℕ)) (x : ℕ × ℕ) → AllPairs R ls
+    → ((i : ℕ) → i < length ls → R (getD ls i (0, 0)) x) → AllPairs R (ls ++ (x ∷ []))
+pairs-snoc R ls x up last i j h l =
     let old : (k : ℕ) → k < length ls → getD (ls ++ (x ∷ [])) k (0, 0) ≡ getD ls k (0, 0) = λ k b. List·getD-append ls (x ∷ []) (0, 0) k b in
     elim (decLt j (length ls)) [
       | yes b ↦ rw (old i (omega arith), old j b) (up i j h b)
@@ -156,7 +163,7 @@ module _ (n : ℕ) (r : ℕ → ℕ → Bool) where
   pairsBelow-ascend some (suc k) = go (r (k / n) (k % n)) (pairsBelow-ascend some k)
     where
       go : (b : Bool) → Ascending (pairsBelow n r k) → Ascending (pairsBelow n r k ++ cond b ((k / n, k % n) ∷ []) [])
-      go true up = ascending-snoc (pairsBelow n r k) (k / n, k % n) up (λ i h.
+      go true up = pairs-snoc Before (pairsBelow n r k) (k / n, k % n) up (λ i h.
           let p = pairsBelow-out k _ _ (linked-at (pairsBelow n r k) i h) in
           subst₂ (λ (x y : ℕ). Before (x, y) (k / n, k % n)) (p .row) (p .column) (digits-before n (p .number) k some (p .inside)))
       go false up = rw (append-nil (pairsBelow n r k)) up
