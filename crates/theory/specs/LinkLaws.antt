@@ -1,5 +1,5 @@
 -- Laws of lists of links.
-use mathlib.Core.Path.{_≡_, refl, sym, ap, ap₂, _∙_, subst, subst₂}
+use mathlib.Core.Path.{_≡_, refl, ap, ap₂, subst₂}
 use mathlib.Core.Logic.{_⊎_, inl, inr}
 use mathlib.Core.Bool.{Bool, true, false, cond, So, false≢true}
 use mathlib.Core.List.{List, [], _∷_, _++_, append-nil}
@@ -16,7 +16,7 @@ use Rattle.theory.specs.Bools.{_&_, bit}
 use Rattle.theory.specs.BoolsLaws.{and-in, and-out, or-left, or-right, or-out}
 use Rattle.theory.specs.Range.{count, Before, pairsBelow, pairsOf}
 use Rattle.theory.specs.RangeLaws.{below-suc}
-use Rattle.theory.specs.CountLaws.{row-lt, col-lt, pair-ext}
+use Rattle.theory.specs.CountLaws.{row-lt, col-lt}
 use Rattle.theory.specs.Plan.{linked}
 
 -- ---- a link of two lists is one of either

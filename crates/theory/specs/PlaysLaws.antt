@@ -158,6 +158,14 @@ module _ (a : Player) (G : Game) (ρ : Strategy a G) (σ : Strategy (other a) G)
   mover-legal h u l =
       elim (decide (own G a u)) [ inl t ↦ rw t (ρ .legal h u l t) | inr f ↦ rw f (σ .legal h u l (opponent u f)) ]
 
+  mover-mine : (h : List ℕ) (u : ℕ) → So (own G a u) → mover h u ≡ ρ .move h u
+  unfolding mover
+  mover-mine h u m = rw m
+
+  mover-theirs : (h : List ℕ) (u : ℕ) → So (own G (other a) u) → mover h u ≡ σ .move h u
+  unfolding mover
+  mover-theirs h u m = let f : own G a u ≡ false = not-out (sym (same-other a (G .owner u)) ∙ m) in rw f
+
   -- the vertices before time t, and the token's
   trail : ℕ → List ℕ × ℕ
   trail zero = ([], v)
@@ -171,13 +179,13 @@ module _ (a : Player) (G : Game) (ρ : Strategy a G) (σ : Strategy (other a) G)
     pub theirs : Consistent (other a) G σ π
 
   pub outcome : Outcome
-  unfolding trail mover history
+  unfolding trail history
   outcome = record {
     π = π;
     play = record { inside = within; along = λ t. mover-legal (trail t .0) (π t) (within t) .along };
     start = refl;
-    mine = λ t m. rw (before t, m);
-    theirs = λ t m. let f : own G a (π t) ≡ false = not-out (sym (same-other a (G .owner (π t))) ∙ m) in rw (before t, f);
+    mine = λ t m. rw (before t) (mover-mine (trail t .0) (π t) m);
+    theirs = λ t m. rw (before t) (mover-theirs (trail t .0) (π t) m);
   }
     where
       π : ℕ → ℕ
