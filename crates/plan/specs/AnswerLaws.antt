@@ -15,7 +15,7 @@ use Rattle.theory.specs.RangeLaws.{all-out, all-fails, any-in, any-out, from-in
 use Rattle.theory.specs.Game.{own}
 use Rattle.table.specs.Table.{vertexCount, tableEdges, ownerAt, sourceAt, targetAt, playerOf, gameOf}
 use Rattle.table.specs.WellFormed.{WellFormed}
-use Rattle.table.specs.TableLaws.{player-zero, player-one, own-even, own-one, edge-in, edge-out}
+use Rattle.table.specs.TableLaws.{own-number, edge-in, edge-out}
 use Rattle.index.specs.Index.{among}
 use Rattle.index.specs.IndexLaws.{group-order, among-any}
 use Rattle.links.specs.PlanTable.{positionCount, vertexAt, anyLink}
@@ -27,15 +27,6 @@ use Rattle.plan.specs.Stamps.{standsAt, unanswered, LackSpace}
 pub space-kept : {g : List ℕ} {player : ℕ} {w starts targets edgeStarts edgeTargets stamps stamps′ : List ℕ} → LackSpace g player w starts targets edgeStarts edgeTargets stamps
     → length stamps′ ≡ length stamps → LackSpace g player w starts targets edgeStarts edgeTargets stamps′
 space-kept s e = record { pass = s .pass; links = s .links; edges = s .edges; room = omega (arith, s .room) }
-
--- the player moves at v exactly if v's owner word is the player's number
-own-number : (g : List ℕ) → WellFormed g → (player v : ℕ) → player ≤ 1 → v < vertexCount g → own (gameOf g) (playerOf player) v ≡ eqb (ownerAt g v) player
-own-number g well player v h l = elim (ℕ-discrete player 0) [
-  | yes e ↦ rw (e, player-zero) (own-even g v)
-  | no d ↦ (
-      let e : player ≡ 1 = omega arith in
-      rw (e, player-one) (own-one g well v l))
-]
 
 -- a range is empty exactly if it ends where it starts
 empty-range : (a e : ℕ) → a ≤ e → not (anyFrom a e (λ t. true)) ≡ eqb a e

@@ -4,6 +4,7 @@ use mathlib.Core.Path.{_≡_, refl, sym, _∙_}
 use mathlib.Core.Bool.{Bool, true, false, cond, not, So}
 use mathlib.Core.List.{List}
 use Prim.Native.Nat.{ℕ, zero, suc, _*_, _/_, _%_, _≤_, _<_}
+use native.Mathlib.Decide.{ℕ-discrete}
 use native.Mathlib.Omega.{arith}
 use lib.Dec.{eqb}
 use lib.ListN.{getD}
@@ -29,11 +30,11 @@ game-n g = refl
 
 -- ---- owners: 0 is Even, 1 is Odd
 
-pub player-zero : playerOf 0 ≡ even
+player-zero : playerOf 0 ≡ even
 unfolding playerOf
 player-zero = refl
 
-pub player-one : playerOf 1 ≡ odd
+player-one : playerOf 1 ≡ odd
 unfolding playerOf
 player-one = refl
 
@@ -97,10 +98,19 @@ module _ (g : List ℕ) (well : WellFormed g) where
       (w, edge-succ v w (edge-in g v w (t .0) (record { inside = t .1; source = t .2; target = refl })))
 
   -- an owner that isn't Even's word is Odd's
-  pub own-one : (v : ℕ) → v < vertexCount g → own (gameOf g) odd v ≡ eqb (ownerAt g v) 1
+  own-one : (v : ℕ) → v < vertexCount g → own (gameOf g) odd v ≡ eqb (ownerAt g v) 1
   own-one v h = own-odd g v ∙ go (ownerAt g v) (well .owners v h)
     where
       go : (w : ℕ) → w ≤ 1 → not (eqb w 0) ≡ eqb w 1
       go zero l = refl
       go (suc zero) l = refl
       go (suc (suc w)) l = absurd (omega arith)
+
+  -- the player moves at v exactly if v's owner word is the player's number
+  pub own-number : (player v : ℕ) → player ≤ 1 → v < vertexCount g → own (gameOf g) (playerOf player) v ≡ eqb (ownerAt g v) player
+  own-number player v h l = elim (ℕ-discrete player 0) [
+    | yes e ↦ rw (e, player-zero) (own-even g v)
+    | no d ↦ (
+        let e : player ≡ 1 = omega arith in
+        rw (e, player-one) (own-one v l))
+  ]

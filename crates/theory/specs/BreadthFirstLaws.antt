@@ -1,5 +1,5 @@
 -- Laws of the search: what holds of the start and along moves holds of every pair; with as many steps as there can be pairs, it ends with
--- the moves of every pair followed (`all-done`).
+-- the moves of every pair followed (`all-done`). Then its steps, one pair at a time.
 use mathlib.Core.Path.{_≡_, refl, sym, ap, _∙_, subst}
 use mathlib.Core.Logic.{_⊎_, inl, inr}
 use mathlib.Core.Bool.{Bool, true, false, cond, So, false≢true}
@@ -11,7 +11,7 @@ use native.Mathlib.Omega.{arith}
 use lib.Dec.{ltb}
 use lib.ListN.{length, getD, length-append, List·getD-append}
 use lib.Seq.{getD-append-seam}
-use borrow.Author.Tests.{eqb-true, eq-eqb, ltb-true, ltb-false}
+use borrow.Author.Tests.{eqb-true, eq-eqb, ltb-true, ltb-false, lt-ltb, le-ltb}
 use Rattle.theory.specs.BoolsLaws.{and-in, and-out}
 use Rattle.theory.specs.RangeLaws.{below-suc, first-le, first-passes, first-least}
 use Rattle.theory.specs.CountLaws.{count-inject, count-all}
@@ -258,3 +258,47 @@ module _ (moves : ℕ × ℕ → List (ℕ × ℕ)) (P : ℕ × ℕ → Type 0) 
           | inl q ↦ subst (λ (k : ℕ). Done k s) q (e .done)
           | inr q ↦ subst (λ (k : ℕ). Done k s) (omega (arith, q, e .done .upto, few (e .upto) s (e .done))) (e .done)
         ]
+
+-- ---- steps of the search
+
+pub visits-append : (k : ℕ) (s : Found) (xs ys : List (ℕ × ℕ)) → visits k s (xs ++ ys) ≡ visits k (visits k s xs) ys
+unfolding visits
+visits-append k s [] ys = refl
+visits-append k s (x ∷ xs) ys = visits-append k (visit k s x) xs ys
+
+visits-links : (k : ℕ) (s : Found) (xs : List (ℕ × ℕ)) → length (s .links) ≤ length (visits k s xs .links)
+unfolding visits visit
+visits-links k s [] = le-refl (length (s .links))
+visits-links k s (x ∷ xs) =
+    omega (arith, length-append (s .links) ((k, numberOf (s .pairs) (x .0) (x .1)) ∷ []), visits-links k (visit k s x) xs)
+
+-- s′ has at least as many pairs and links as s: a limit that is passed on the way is passed at the end
+pub record NoFewer (s s′ : Found) : Type 0 where
+  pub pairs : size s ≤ size s′
+  pub links : length (s .links) ≤ length (s′ .links)
+
+pub visits-no-fewer : (k : ℕ) (s : Found) (xs : List (ℕ × ℕ)) → NoFewer s (visits k s xs)
+visits-no-fewer k s xs = record { pairs = visited k s xs .more; links = visits-links k s xs }
+
+pub no-fewer-trans : {s s′ s″ : Found} → NoFewer s s′ → NoFewer s′ s″ → NoFewer s s″
+no-fewer-trans a b = record { pairs = le-trans (a .pairs) (b .pairs); links = le-trans (a .links) (b .links) }
+
+module _ (moves : ℕ × ℕ → List (ℕ × ℕ)) where
+  pub search-step : (f k : ℕ) (s : Found) → k < size s → search moves (suc f) k s ≡ search moves f (suc k) (visits k s (moves (pairAt s k)))
+  unfolding search
+  search-step f k s l = rw (lt-ltb k (size s) l)
+
+  pub search-end : (f k : ℕ) (s : Found) → size s ≤ k → search moves f k s ≡ s
+  unfolding search
+  search-end zero k s l = refl
+  search-end (suc f) k s l = rw (le-ltb k (size s) l)
+
+  pub search-no-fewer : (f k : ℕ) (s : Found) → NoFewer s (search moves f k s)
+  unfolding search
+  search-no-fewer zero k s = record { pairs = le-refl (size s); links = le-refl (length (s .links)) }
+  search-no-fewer (suc f) k s =
+      go (ltb k (size s)) (no-fewer-trans (visits-no-fewer k s (moves (pairAt s k))) (search-no-fewer f (suc k) (visits k s (moves (pairAt s k)))))
+    where
+      go : (b : Bool) {r : Found} → NoFewer s r → NoFewer s (cond b r s)
+      go true l = l
+      go false l = record { pairs = le-refl (size s); links = le-refl (length (s .links)) }
