@@ -1,0 +1,4 @@
+pub mod Replies
+pub mod SeatedLaws
+pub mod ChainLaws
+pub mod RepliesLaws

@@ -1,0 +1,192 @@
+// What answers a move where a plan is carried: the links of the old plan, each position's in a chain. Parts of the calls that carry a plan;
+// no host calls these.
+use pairs::marks::is_marked;
+use table::words;
+ghost use mathlib.Core.Path.{_≡_};
+ghost use Prim.Native.Nat.{ℕ, _≤_, _<_};
+ghost use lib.ListN.{length, getD};
+ghost use Rattle.theory.specs.Range.{first};
+ghost use Rattle.theory.specs.Game.{own};
+ghost use Rattle.theory.specs.Reduction.{noBetter};
+ghost use Rattle.table.specs.Limits.{vertexLimit};
+ghost use Rattle.table.specs.Table.{vertexCount, playerOf, gameOf};
+ghost use Rattle.table.specs.WellFormed.{WellFormed};
+ghost use Rattle.pairs.specs.Marks.{marksLength, relation};
+ghost use Rattle.links.specs.PlanTable.{positionCount, linkCount, linkSource, linkTarget};
+ghost use Rattle.links.specs.PlanFormed.{PlanFormed, PlanSized};
+ghost use Rattle.replies.specs.Replies.{Seated, LinkChains, Readable, needed, linkTo, replied, replyTo};
+
+// Whether vertex v is the player's.
+pub fn owns(game: &[u16], player: u32, v: usize) -> bool
+    requires { ⌜ WellFormed (now game) × (player ≤ 1) × (v < vertexCount (now game)) ⌝ }
+    ensures { λ r. ⌜ r ≡ own (gameOf (now (game .entry))) (playerOf player) v ⌝ }
+{
+    let n = game[0] as usize;
+    game[2 + n + v] as u32 == player
+}
+
+// Whether x is no better than w for the player: x below w for Even, w below x for Odd.
+pub fn no_better(marks: &[u8], n: usize, player: u32, x: usize, w: usize) -> bool
+    requires { ⌜ (x < n) × (w < n) × (n ≤ vertexLimit) × (marksLength n ≤ length (now marks)) ⌝ }
+    ensures { λ r. ⌜ r ≡ noBetter (playerOf player) (relation n (now (marks .entry))) x w ⌝ }
+{
+    if player == 0 {
+        return is_marked(marks, n, x, w);
+    }
+    is_marked(marks, n, w, x)
+}
+
+// Chains the links of each position, from the last link back.
+pub fn chain_links(plan: &[u16], firsts: &mut [u16], follow: &mut [u16])
+    requires { ⌜ PlanSized (now plan) ⌝ }
+    requires { ⌜ ((k : ℕ) → k < linkCount (now plan) → linkSource (now plan) k < positionCount (now plan)) ⌝ }
+    requires { ⌜ (positionCount (now plan) ≤ length (now firsts)) × (linkCount (now plan) ≤ length (now follow)) ⌝ }
+    ensures { λ r. ⌜ LinkChains (linkSource (now (plan .entry))) (linkCount (now (plan .entry))) (positionCount (now (plan .entry))) (now (firsts .exit)) (now (follow .exit)) ⌝ }
+{
+    let p = plan[0] as usize;
+    words::fill(firsts, 0, p, plan[1]);
+    let mut k = plan[1] as usize;
+    while 0 < k {
+        k -= 1;
+        let i = plan[2 + p + k] as usize;
+        follow[k] = firsts[i];
+        firsts[i] = k as u16;
+    }
+}
+
+// Whether link k leads to a position that keeps the order where the new vertex is w.
+fn link_keeps(
+    game: &[u16],
+    player: u32,
+    plan: &[u16],
+    seats: &[u16],
+    marks: &[u8],
+    k: usize,
+    w: usize,
+) -> bool
+    requires { ⌜ Seated (now game) player (now plan) (now seats) (now marks) ⌝ }
+    requires { ⌜ (k < linkCount (now plan)) × (w < vertexCount (now game)) ⌝ }
+    ensures { λ r. ⌜ r ≡ needed (now (game .entry)) player (getD (now (seats .entry)) (linkTarget (now (plan .entry)) k) 0) w ⌝ }
+{
+    let n = game[0] as usize;
+    let p = plan[0] as usize;
+    let l = plan[1] as usize;
+    let j = plan[2 + p + l + k] as usize;
+    no_better(marks, n, player, seats[j] as usize, w)
+}
+
+// The link followed from position i where the new vertex is w: the first that keeps the order; where i is at the player's the first link or
+// none. The number of links where there is none.
+fn answer(
+    game: &[u16],
+    player: u32,
+    plan: &[u16],
+    seats: &[u16],
+    marks: &[u8],
+    edges: &[u8],
+    firsts: &[u16],
+    follow: &[u16],
+    i: usize,
+    w: usize,
+) -> usize
+    requires { ⌜ Readable (now game) player (now plan) (now seats) (now marks) (now edges) (now firsts) (now follow) ⌝ }
+    requires { ⌜ (i < positionCount (now plan)) × (w < vertexCount (now game)) ⌝ }
+    ensures { λ r. ⌜ r ≡ linkTo (now (game .entry)) player (now (plan .entry)) (now (seats .entry)) i w ⌝ }
+{
+    let l = plan[1] as usize;
+    let lone = owns(game, player, seats[i] as usize);
+    let mut k = firsts[i] as usize;
+    while k < l {
+        if link_keeps(game, player, plan, seats, marks, k, w) {
+            return k;
+        }
+        if lone {
+            return l;
+        }
+        k = follow[k] as usize;
+    }
+    l
+}
+
+// The position that answers the move from u to w at position i; the number of positions where none does.
+pub fn reply(
+    game: &[u16],
+    player: u32,
+    plan: &[u16],
+    seats: &[u16],
+    marks: &[u8],
+    edges: &[u8],
+    firsts: &[u16],
+    follow: &[u16],
+    i: usize,
+    u: usize,
+    w: usize,
+) -> usize
+    requires { ⌜ Readable (now game) player (now plan) (now seats) (now marks) (now edges) (now firsts) (now follow) ⌝ }
+    requires { ⌜ (i < positionCount (now plan)) × (u < vertexCount (now game)) × (w < vertexCount (now game)) ⌝ }
+    ensures { λ r. ⌜ r ≡ replyTo (now (game .entry)) player (now (plan .entry)) (now (seats .entry)) i u w ⌝ }
+{
+    let n = game[0] as usize;
+    let p = plan[0] as usize;
+    let l = plan[1] as usize;
+    if is_marked(edges, n, u, w) {
+        let k = answer(
+            game,
+            player,
+            plan,
+            seats,
+            marks,
+            edges,
+            firsts,
+            follow,
+            i,
+            w,
+        );
+        if k < l {
+            return plan[2 + p + l + k] as usize;
+        }
+    }
+    p
+}
+
+// The lowest successor of u that is answered at position i; the number of vertices where there is none.
+pub fn lowest_reply(
+    game: &[u16],
+    player: u32,
+    plan: &[u16],
+    seats: &[u16],
+    marks: &[u8],
+    edges: &[u8],
+    firsts: &[u16],
+    follow: &[u16],
+    i: usize,
+    u: usize,
+) -> usize
+    requires { ⌜ Readable (now game) player (now plan) (now seats) (now marks) (now edges) (now firsts) (now follow) ⌝ }
+    requires { ⌜ (i < positionCount (now plan)) × (u < vertexCount (now game)) ⌝ }
+    ensures { λ r. ⌜ r ≡ first (replied (now (game .entry)) player (now (plan .entry)) (now (seats .entry)) i u) 0 (vertexCount (now (game .entry))) ⌝ }
+{
+    let n = game[0] as usize;
+    let p = plan[0] as usize;
+    let mut w = 0;
+    while w < n {
+        let j = reply(
+            game,
+            player,
+            plan,
+            seats,
+            marks,
+            edges,
+            firsts,
+            follow,
+            i,
+            u,
+            w,
+        );
+        if j < p {
+            return w;
+        }
+        w += 1;
+    }
+    w
+}
