@@ -1,0 +1,42 @@
+-- Laws of the moves of a pair.
+use mathlib.Core.Path.{_≡_, refl}
+use mathlib.Core.Logic.{_⊎_, inl, inr}
+use mathlib.Core.Bool.{true, false}
+use mathlib.Core.List.{List, [], append-nil}
+use Prim.Native.Nat.{ℕ, _≤_}
+use native.Mathlib.Omega.{arith}
+use lib.ListN.{take}
+use Rattle.theory.specs.Game.{own}
+use Rattle.theory.specs.Carry.{movesOf}
+use Rattle.table.specs.Table.{vertexCount, playerOf, gameOf}
+use Rattle.replies.specs.RepliesLaws.{movesBelow-prefix}
+use Rattle.pair_search.specs.Memory.{Memory, Moved}
+use Rattle.pair_search.specs.Search.{tableMovesBelow, tableMoves, Over, Expanded}
+
+pub expanded-all : (k p : ℕ) (xs : List (ℕ × ℕ)) (m m′ : Memory) → Moved k xs p m m′ → Expanded k xs p m m′
+expanded-all k p xs m m′ v = record { did = xs; left = []; whole = append-nil xs; moved = v; why = inl refl }
+
+module _ (game : List ℕ) (player : ℕ) (plan seats : List ℕ) (i u : ℕ) where
+  -- the moves below w were made, and that is all, or too much
+  pub expanded-below : (k p : ℕ) (m m′ : Memory) (w n : ℕ) → w ≤ n → Moved k (tableMovesBelow game player plan seats i u w) p m m′
+      → (n ≤ w) ⊎ Over (m′ .pairs) (m′ .links) → Expanded k (tableMovesBelow game player plan seats i u n) p m m′
+  expanded-below k p m m′ w n h v (inl l) =
+      let e : w ≡ n = omega arith in
+      rw e at (expanded-all k p (tableMovesBelow game player plan seats i u w) m m′ v)
+  expanded-below k p m m′ w n h v (inr q) =
+      let r = movesBelow-prefix game player plan seats i u w n h in
+      record { did = tableMovesBelow game player plan seats i u w; left = r .0; whole = r .1; moved = v; why = inr q }
+
+module _ (game : List ℕ) (player : ℕ) (plan seats : List ℕ) (x : ℕ × ℕ) (k p : ℕ) (m m′ : Memory) where
+  -- the player's moves, and the opponent's
+  pub expanded-own : own (gameOf game) (playerOf player) (x .1) ≡ true
+      → Expanded k (take 1 (tableMovesBelow game player plan seats (x .0) (x .1) (vertexCount game))) p m m′
+      → Expanded k (tableMoves game player plan seats x) p m m′
+  unfolding movesOf gameOf
+  expanded-own t e = rw t e
+
+  pub expanded-other : own (gameOf game) (playerOf player) (x .1) ≡ false
+      → Expanded k (tableMovesBelow game player plan seats (x .0) (x .1) (vertexCount game)) p m m′
+      → Expanded k (tableMoves game player plan seats x) p m m′
+  unfolding movesOf gameOf
+  expanded-other f e = rw f e

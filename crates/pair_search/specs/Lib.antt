@@ -1,0 +1,12 @@
+pub mod Last
+pub mod LastLaws
+pub mod Chains
+pub mod PairsInLaws
+pub mod ChainsLaws
+pub mod Memory
+pub mod MemoryLaws
+pub mod Search
+pub mod ExpandLaws
+pub mod FreshLaws
+pub mod SearchLaws
+pub mod RunLaws

@@ -1,0 +1,85 @@
+-- Laws of the search at a game table and a plan table, pair after pair.
+use mathlib.Core.Path.{_≡_}
+use mathlib.Core.Bool.{Bool, true, false, cond}
+use mathlib.Core.List.{List, [], _∷_}
+use Prim.Native.Nat.{ℕ, _+_, _*_, _≤_, _<_}
+use native.Mathlib.Omega.{arith}
+use lib.ListN.{getD, take}
+use Rattle.theory.specs.ListLaws.{length-tabulate}
+use Rattle.theory.specs.Game.{own}
+use Rattle.theory.specs.LinkLaws.{linked-left}
+use Rattle.theory.specs.BreadthFirst.{startAt, search}
+use Rattle.theory.specs.BreadthFirstLaws.{Among}
+use Rattle.theory.specs.Carry.{movesOf, foundFrom}
+use Rattle.table.specs.Table.{vertexCount, playerOf, gameOf}
+use Rattle.links.specs.PlanTable.{positionCount}
+use Rattle.replies.specs.Replies.{Readable, seated}
+use Rattle.replies.specs.RepliesLaws.{moves-inside}
+use Rattle.pair_search.specs.Memory.{Memory, foundIn, Ready, Within}
+use Rattle.pair_search.specs.Search.{tableMovesBelow, tableMoves, tableFound, Over, Expanded, Ran}
+use Rattle.pair_search.specs.SearchLaws.{Inside, Running, running-start, running-inside, running-end, running-next, running-over}
+
+lone-among : (xs : List (ℕ × ℕ)) (x : ℕ × ℕ) → Among x (take 1 xs) → Among x xs
+lone-among [] x t = t
+lone-among (y ∷ xs) x t = linked-left (y ∷ []) xs (x .0) (x .1) t
+
+module _ (game : List ℕ) (player : ℕ) (plan seats marks edges firsts follow : List ℕ) where
+  -- the moves of a position and a vertex lead to such
+  pub closed : Readable game player plan seats marks edges firsts follow → (x y : ℕ × ℕ) → Inside (positionCount plan) (vertexCount game) x
+      → Among y (tableMoves game player plan seats x) → Inside (positionCount plan) (vertexCount game) y
+  unfolding movesOf gameOf
+  closed readable x y h = go (own (gameOf game) (playerOf player) (x .1))
+    where
+      xs : List (ℕ × ℕ)
+      xs = tableMovesBelow game player plan seats (x .0) (x .1) (vertexCount game)
+
+      inside : Among y xs → Inside (positionCount plan) (vertexCount game) y
+      inside t =
+          let q = moves-inside game player plan seats (x .0) (x .1) (readable .board) (vertexCount game) y t in
+          record { old-lt = q .0; new-lt = q .1 }
+
+      go : (b : Bool) → Among y (cond b (take 1 xs) xs) → Inside (positionCount plan) (vertexCount game) y
+      go true t = inside (lone-among xs y t)
+      go false t = inside t
+
+  -- what the definition finds, by the number of positions
+  whole-is : (w : ℕ) → search (tableMoves game player plan seats) (positionCount plan * vertexCount game) 0 (startAt (0, w))
+      ≡ tableFound game player plan seats w
+  unfolding foundFrom seated gameOf
+  whole-is w = rw (length-tabulate (positionCount plan) (λ i. getD seats i 0))
+
+  -- all that the loop knows: the pairs below k are done
+  pub record Runs (w k : ℕ) (m : Memory) : Type 0 where
+    pub readable : Readable game player plan seats marks edges firsts follow
+    pub ready : Ready (positionCount plan) m
+    pub within : Within (m .pairs) (m .links)
+    pub running : Running (tableMoves game player plan seats) (positionCount plan) (vertexCount game) (closed readable) w k (foundIn m)
+
+  pub runs-start : Readable game player plan seats marks edges firsts follow → (w : ℕ) → w < vertexCount game → (m : Memory) → Ready (positionCount plan) m
+      → m .pairs ≡ 1 → m .links ≡ 0 → getD (m .olds) 0 0 ≡ 0 → getD (m .vertices) 0 0 ≡ w → Runs w 0 m
+  runs-start readable w l m ready e f g h = record {
+    readable = readable;
+    ready = ready;
+    within = record { few-pairs = omega arith; few-links = omega arith };
+    running = running-start _ _ _ (closed readable) w m e f g h (readable .board .formed .sized .some) l;
+  }
+
+  module _ (w k : ℕ) (m : Memory) (r : Runs w k m) where
+    pub runs-inside : k < m .pairs → Inside (positionCount plan) (vertexCount game) (getD (m .olds) k 0, getD (m .vertices) k 0)
+    runs-inside h = running-inside _ _ _ _ _ k m (r .running) h
+
+    pub runs-end : m .pairs ≤ k → Ran (tableFound game player plan seats w) m
+    runs-end h = rw (← (whole-is w)) (running-end _ _ _ _ _ k m (r .running) (r .ready) (r .within) h)
+
+    module _ (m′ : Memory) (h : k < m .pairs)
+        (x : Expanded k (tableMoves game player plan seats (getD (m .olds) k 0, getD (m .vertices) k 0)) (positionCount plan) m m′) where
+      pub runs-next : Within (m′ .pairs) (m′ .links) → Runs w (k + 1) m′
+      runs-next i = record {
+        readable = r .readable;
+        ready = x .moved .ready;
+        within = i;
+        running = running-next _ _ _ _ _ k m (r .running) m′ h x i;
+      }
+
+      pub runs-over : Over (m′ .pairs) (m′ .links) → Ran (tableFound game player plan seats w) m′
+      runs-over q = rw (← (whole-is w)) (running-over _ _ _ _ _ k m (r .running) m′ h x q)
