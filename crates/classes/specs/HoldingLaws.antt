@@ -98,7 +98,7 @@ module _ {n : ℕ} {le : Rel} {marks : List ℕ} (holding : Holding n le marks) 
 -- ---- the order of a game
 
 -- what the order call leaves is the order
-ordered-written : (game old : List ℕ) → marksLength (vertexCount game) ≤ length old → Ordered (gameOf game) (written (orderBytes game) old)
+pub ordered-written : (game old : List ℕ) → marksLength (vertexCount game) ≤ length old → Ordered (gameOf game) (written (orderBytes game) old)
 unfolding gameOf order relOf
 ordered-written game old h =
     let marks = orderMarks (gameOf game) in

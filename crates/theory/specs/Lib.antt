@@ -35,6 +35,7 @@ pub mod BreadthFirst
 pub mod BreadthFirstLaws
 pub mod Carry
 pub mod CarryLaws
+pub mod CarryClassLaws
 pub mod KeptWinners
 pub mod Agreement
 pub mod AgreementLaws

@@ -1,0 +1,93 @@
+-- What the parts of the calls that carry a plan assume and promise of each other. No public promise cites these.
+use mathlib.Core.Path.{_≡_}
+use mathlib.Core.Bool.{Bool, true, false}
+use mathlib.Core.List.{List, [], _∷_, _++_}
+use Prim.Native.Nat.{ℕ, _≤_, _<_}
+use lib.ListN.{length, getD, take}
+use Rattle.theory.specs.Range.{tabulate}
+use Rattle.theory.specs.Passes.{Rel}
+use Rattle.theory.specs.Game.{Game}
+use Rattle.theory.specs.Order.{order}
+use Rattle.theory.specs.Plan.{Plan}
+use Rattle.theory.specs.Reduction.{representative, noBetter, reduced}
+use Rattle.theory.specs.Carry.{carried, carriedPlan, classNoBetter, carriedClassPlan}
+use Rattle.table.specs.Table.{vertexCount, tableLength, playerOf, gameOf}
+use Rattle.table.specs.Verdict.{Row, Answer, judge, after}
+use Rattle.table.specs.WellFormed.{WellFormed}
+use Rattle.classes.specs.Numbering.{Ordered, classesIn}
+use Rattle.reduction.specs.TableCall.{tableCounts, classTable}
+use Rattle.reduction.specs.declared.TableCounts.{TableCounts}
+use Rattle.links.specs.PlanTable.{positionCount, vertexAt, planOf}
+use Rattle.links.specs.PlanFormed.{PlanFormed}
+use Rattle.plan.specs.Acceptance.{planRows}
+use Rattle.replies.specs.Replies.{seated, needed}
+use Rattle.carry.specs.CarryCall.{carriedRows}
+
+-- ---- whether the plan is on the game itself or, by class, on the reduced game
+
+-- the vertex as which a vertex of the plan's game compares
+unfoldable pub seatOf : Bool → Game → ℕ → ℕ
+seatOf false g x = x
+seatOf true g c = representative (g .n) (order g) c
+
+-- each position has its seat
+pub record Seats (byClass : Bool) (game plan seats : List ℕ) : Type 0 where
+  pub at : (i : ℕ) → i < positionCount plan → getD seats i 0 ≡ seatOf byClass (gameOf game) (vertexAt plan i)
+
+-- the needed order, and the carried plan
+unfoldable pub neededBy : Bool → List ℕ → ℕ → Rel
+neededBy false game player = noBetter (playerOf player) (order (gameOf game))
+neededBy true game player = classNoBetter (playerOf player) (gameOf game)
+
+unfoldable pub carriedBy : Bool → List ℕ → ℕ → List ℕ → ℕ → Plan
+carriedBy false game player plan y = carriedPlan (playerOf player) (gameOf game) (planOf plan) y
+carriedBy true game player plan y = carriedClassPlan (playerOf player) (gameOf game) (planOf plan) y
+
+abbrev pub arrivalRows : Bool → List ℕ → ℕ → List ℕ → ℕ → List ℕ → List Row
+arrivalRows byClass game player plan y output =
+    carriedRows (vertexCount game) (neededBy byClass game player) (vertexAt plan 0) y (carriedBy byClass game player plan y) output
+
+-- ---- what is written
+
+-- a plan by the first p vertices and the first l sources and targets
+unfoldable pub planBy : List ℕ → List ℕ → List ℕ → ℕ → ℕ → Plan
+planBy vertices sources targets p l = record {
+  vertices = tabulate p (λ i. getD vertices i 0);
+  links = tabulate l (λ k. (getD sources k 0, getD targets k 0));
+}
+
+-- the plan that the search finds
+abbrev pub carriedSeated : List ℕ → ℕ → List ℕ → List ℕ → ℕ → Plan
+carriedSeated game player plan seats y =
+    carried (playerOf player) (gameOf game) (gameOf game) (needed game player) (seated plan seats) y
+
+-- the answer by these rows, and the output after them: the plan's words where all are passed
+pub record Arrived (rows : List Row) (counts words output : List ℕ) (answer : Answer) (output′ : List ℕ) : Type 0 where
+  pub verdict : answer ≡ judge rows counts
+  pub output-after : output′ ≡ after rows words output
+
+-- ---- what is known once 11 to 16 are passed
+
+-- how many vertices the plan's game has
+unfoldable pub planVertices : Bool → List ℕ → ℕ
+planVertices false game = vertexCount game
+planVertices true game = classesIn (gameOf game)
+
+-- a plan to carry, and marks that hold the order
+pub record Carriable (byClass : Bool) (game : List ℕ) (player : ℕ) (plan marks : List ℕ) : Type 0 where
+  pub well : WellFormed game
+  pub number : player ≤ 1
+  pub formed : PlanFormed (planVertices byClass game) plan
+  pub ordered : Ordered (gameOf game) marks
+
+-- the reduced game's table in memory, beside marks that hold the order
+pub record ReducedHeld (game marks reduction : List ℕ) (counts : TableCounts) : Type 0 where
+  pub well : WellFormed game
+  pub ordered : Ordered (gameOf game) marks
+  pub totals : counts .classes ∷ counts .vertices ∷ counts .edges ∷ [] ≡ tableCounts reduced game
+  pub long : tableLength (counts .vertices) (counts .edges) ≤ length reduction
+  pub table : take (tableLength (counts .vertices) (counts .edges)) reduction ≡ classTable reduced game
+
+-- 11 to 16 about the reduced game, then 33 to 35
+abbrev pub reducedRows : List ℕ → ℕ → List ℕ → ℕ → List ℕ → List Row
+reducedRows game player plan y output = planRows (classTable reduced game) player plan ++ arrivalRows true game player plan y output

@@ -1,0 +1,106 @@
+-- The calls that carry a plan: document 02, CR 4, with their tables of refusals. The plan is on the game itself or, in the second call, on
+-- the reduced game.
+use mathlib.Core.Path.{_≡_}
+use mathlib.Core.Bool.{not}
+use mathlib.Core.List.{List, [], _∷_, _++_, map}
+use Prim.Native.Nat.{ℕ}
+use lib.Dec.{ltb}
+use lib.ListN.{length}
+use Rattle.theory.specs.Bools.{_&_, _or_}
+use Rattle.theory.specs.Passes.{Rel}
+use Rattle.theory.specs.Order.{order}
+use Rattle.theory.specs.Plan.{Plan}
+use Rattle.theory.specs.Reduction.{noBetter, reduced}
+use Rattle.theory.specs.Carry.{carriedPlan, classNoBetter, carriedClassPlan}
+use Rattle.table.specs.Limits.{positionLimit, linkLimit}
+use Rattle.table.specs.Table.{vertexCount, playerOf, gameOf}
+use Rattle.table.specs.Verdict.{Row, row, memoryRow, Answer, accepted, refused, judge, after}
+use Rattle.order.specs.OrderCall.{orderRows, orderBytes}
+use Rattle.classes.specs.ClassesCall.{classWords}
+use Rattle.reduction.specs.TableCall.{tableRows, tableCounts, classTable}
+use Rattle.links.specs.PlanTable.{vertexAt, planLength, planOf}
+use Rattle.plan.specs.Acceptance.{planRows}
+use Rattle.carry.specs.declared.Carrying.{Carrying}
+use Rattle.carry.specs.declared.ClassCarrying.{ClassCarrying}
+
+-- ---- the plan that is written
+
+-- a plan in words: sizes, the vertex of each position, the links' sources, their targets
+unfoldable pub planWords : Plan → List ℕ
+planWords P =
+    length (P .vertices) ∷ length (P .links) ∷ (P .vertices ++ (map (λ x. x .0) (P .links) ++ map (λ x. x .1) (P .links)))
+
+-- p and l
+abbrev pub planCounts : Plan → List ℕ
+planCounts P = length (P .vertices) ∷ length (P .links) ∷ []
+
+-- 34 and 35, for a plan C
+unfoldable pub sizeRows : Plan → List ℕ → List Row
+sizeRows C output =
+    row 34 (ltb positionLimit (length (C .vertices)) or ltb linkLimit (length (C .links))) 0
+    ∷ memoryRow 35 (planLength (length (C .vertices)) (length (C .links))) output
+    ∷ []
+
+-- 33 to 35, for a plan C that is carried from x to the vertex y of n. K is the needed order.
+unfoldable pub carriedRows : ℕ → Rel → ℕ → ℕ → Plan → List ℕ → List Row
+carriedRows n K x y C output = row 33 (not (ltb y n & K x y)) y ∷ sizeRows C output
+
+-- ---- the plan is on the game itself
+
+-- what the cases of the verdict say: accepted with p and l
+abbrev pub carryingAnswer : Carrying → Answer
+carryingAnswer (Carrying.Accepted c) = accepted (c .positions ∷ c .links ∷ [])
+carryingAnswer (Carrying.Refused f) = refused (f .number) (f .place)
+
+module _ (game : List ℕ) (player : ℕ) (plan : List ℕ) (vertex : ℕ) where
+  abbrev pub carriedTo : Plan
+  carriedTo = carriedPlan (playerOf player) (gameOf game) (planOf plan) vertex
+
+  -- 1 to 8, 21, 22, 11 to 16: what is judged before the order is written
+  unfoldable pub judgedRows : List ℕ → List ℕ → List Row
+  judgedRows marks spare = orderRows game marks spare ++ planRows game player plan
+
+  -- then 33 to 35
+  unfoldable pub carryRows : List ℕ → List ℕ → List ℕ → List Row
+  carryRows marks spare output =
+      judgedRows marks spare
+      ++ carriedRows (vertexCount game) (noBetter (playerOf player) (order (gameOf game))) (vertexAt plan 0) vertex carriedTo output
+
+-- the promise: the verdict, and every lent word
+pub record CarryCall (game : List ℕ) (player : ℕ) (plan : List ℕ) (vertex : ℕ) (marks spare output : List ℕ) (answer : Answer)
+    (marks′ spare′ output′ : List ℕ) : Type 0 where
+  pub verdict : answer ≡ judge (carryRows game player plan vertex marks spare output) (planCounts (carriedTo game player plan vertex))
+  pub marks-after : marks′ ≡ after (judgedRows game player plan vertex marks spare) (orderBytes game) marks
+  pub spare-after : spare′ ≡ after (judgedRows game player plan vertex marks spare) (orderBytes game) spare
+  pub output-after : output′ ≡ after (carryRows game player plan vertex marks spare output) (planWords (carriedTo game player plan vertex)) output
+
+-- ---- the plan is on the reduced game
+
+-- accepted with the counts of the classes, of the reduced game and of the plan
+abbrev pub classCarryingAnswer : ClassCarrying → Answer
+classCarryingAnswer (ClassCarrying.Accepted c) = accepted (c .classes ∷ c .vertices ∷ c .edges ∷ c .positions ∷ c .links ∷ [])
+classCarryingAnswer (ClassCarrying.Refused f) = refused (f .number) (f .place)
+
+module _ (game : List ℕ) (player : ℕ) (plan : List ℕ) (vertex : ℕ) where
+  abbrev pub carriedFromClass : Plan
+  carriedFromClass = carriedClassPlan (playerOf player) (gameOf game) (planOf plan) vertex
+
+  -- 1 to 8, 21 to 24, before order, classes and reduction are written; then 11 to 16 about the reduced game, and 33 to 35
+  unfoldable pub carryClassRows : List ℕ → List ℕ → List ℕ → List ℕ → List ℕ → List Row
+  carryClassRows marks spare classes reduction output =
+      tableRows game marks spare classes reduction
+      ++ (planRows (classTable reduced game) player plan
+      ++ carriedRows (vertexCount game) (classNoBetter (playerOf player) (gameOf game)) (vertexAt plan 0) vertex carriedFromClass output)
+
+pub record CarryClassCall (game : List ℕ) (player : ℕ) (plan : List ℕ) (vertex : ℕ) (marks spare classes reduction output : List ℕ) (answer : Answer)
+    (marks′ spare′ classes′ reduction′ output′ : List ℕ) : Type 0 where
+  pub verdict : answer
+      ≡ judge (carryClassRows game player plan vertex marks spare classes reduction output)
+      (tableCounts reduced game ++ planCounts (carriedFromClass game player plan vertex))
+  pub marks-after : marks′ ≡ after (tableRows game marks spare classes reduction) (orderBytes game) marks
+  pub spare-after : spare′ ≡ after (tableRows game marks spare classes reduction) (orderBytes game) spare
+  pub classes-after : classes′ ≡ after (tableRows game marks spare classes reduction) (classWords game) classes
+  pub reduction-after : reduction′ ≡ after (tableRows game marks spare classes reduction) (classTable reduced game) reduction
+  pub output-after : output′
+      ≡ after (carryClassRows game player plan vertex marks spare classes reduction output)
+      (planWords (carriedFromClass game player plan vertex)) output

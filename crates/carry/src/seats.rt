@@ -1,0 +1,45 @@
+// A part of this crate's calls; no host calls it.
+// The vertex as which each position of a plan compares: its own or, on the reduced game, the lowest member of its class.
+use classes::numbering::number_classes;
+use table::limits::VERTICES;
+use table::words;
+ghost use mathlib.Core.Bool.{true};
+ghost use Prim.Native.Nat.{_≤_};
+ghost use lib.ListN.{length};
+ghost use Rattle.links.specs.PlanTable.{positionCount};
+ghost use Rattle.carry.specs.Arrival.{Seats, Carriable};
+
+// The lowest member of each position's class. The classes and their lowest members are in local arrays of 1,024 bytes.
+fn seat_classes(game: &[u16], player: u32, plan: &[u16], marks: &[u8], seats: &mut [u16])
+    requires { ⌜ Carriable true (now game) player (now plan) (now marks) ⌝ }
+    requires { ⌜ positionCount (now plan) ≤ length (now seats) ⌝ }
+    ensures { λ r. ⌜ Seats true (now (game .entry)) (now (plan .entry)) (now (seats .exit)) ⌝ }
+{
+    let n = game[0] as usize;
+    let p = plan[0] as usize;
+    let mut classes = [0u16; VERTICES];
+    let mut reps = [0u16; VERTICES];
+    number_classes(marks, n, &mut classes, &mut reps);
+    words::gather(seats, 0, &reps, 0, &plan[2..2 + p], p);
+}
+
+// The same for a plan on the game itself or, by class, on the reduced game.
+pub fn seat_positions(
+    game: &[u16],
+    player: u32,
+    plan: &[u16],
+    marks: &[u8],
+    by_class: bool,
+    seats: &mut [u16],
+)
+    requires { ⌜ Carriable «by_class» (now game) player (now plan) (now marks) ⌝ }
+    requires { ⌜ positionCount (now plan) ≤ length (now seats) ⌝ }
+    ensures { λ r. ⌜ Seats «by_class» (now (game .entry)) (now (plan .entry)) (now (seats .exit)) ⌝ }
+{
+    if by_class {
+        seat_classes(game, player, plan, marks, seats);
+        return;
+    }
+    let p = plan[0] as usize;
+    words::copy(seats, 0, &plan[2..2 + p], p);
+}
