@@ -33,8 +33,10 @@ use Rattle.reduction.specs.declared.TableCounts.{TableCounts}
 use Rattle.links.specs.PlanFormed.{WordsPass}
 use Rattle.plan.specs.Acceptance.{planRows}
 use Rattle.plan.specs.AcceptanceLaws.{clean-words}
-use Rattle.carry.specs.CarryCall.{planWords, planCounts, carriedTo, judgedRows, carryRows, CarryCall, carriedFromClass, carryClassRows, CarryClassCall}
-use Rattle.carry.specs.Arrival.{neededBy, carriedBy, arrivalRows, Arrived, planVertices, Carriable, ReducedHeld, reducedRows}
+use Rattle.arrival.specs.PlanWords.{planWords, planCounts}
+use Rattle.carry.specs.CarryCall.{carriedTo, judgedRows, carryRows, CarryCall, carriedFromClass, carryClassRows, CarryClassCall}
+use Rattle.arrival.specs.Arrival.{neededBy, carriedBy, arrivalRows, Arrived, planVertices, Carriable}
+use Rattle.carry.specs.Reduced.{ReducedHeld, reducedRows}
 
 -- ---- a plan that passes 11 to 16 can be carried
 

@@ -1,6 +1,3 @@
 pub mod CarryCall
-pub mod Arrival
-pub mod ArrivalLaws
-pub mod OutputLaws
-pub mod FoundLaws
+pub mod Reduced
 pub mod CarryCallLaws

@@ -1,8 +1,5 @@
 // Plans carried to another vertex.
-mod arrival;
-mod output;
-mod seats;
-
+use arrival::Carrying;
 use arrival::carry_to;
 use pairs::marks::length_for;
 use plan::judge_plan;
@@ -16,20 +13,11 @@ use table::refusal_of;
 ghost use mathlib.Core.List.{_++_};
 ghost use Rattle.theory.specs.Reduction.{reduced};
 ghost use Rattle.reduction.specs.TableCall.{tableCounts};
-ghost use Rattle.carry.specs.CarryCall.{planWords, planCounts, carryingAnswer, CarryCall, classCarryingAnswer, CarryClassCall};
-ghost use Rattle.carry.specs.Arrival.{carriedBy, Arrived, ReducedHeld, reducedRows};
+ghost use Rattle.arrival.specs.PlanWords.{planWords, planCounts, carryingAnswer};
+ghost use Rattle.carry.specs.CarryCall.{CarryCall, classCarryingAnswer, CarryClassCall};
+ghost use Rattle.arrival.specs.Arrival.{carriedBy, Arrived};
+ghost use Rattle.carry.specs.Reduced.{ReducedHeld, reducedRows};
 ghost use mathlib.Core.Bool.{true};
-
-// The positions and links of the plan that is written.
-pub struct PlanCounts {
-    pub positions: usize,
-    pub links: usize,
-}
-
-pub enum Carrying {
-    Accepted(PlanCounts),
-    Refused(Refusal),
-}
 
 // The number of classes, the vertices and edges of the reduced game, and the positions and links of the plan that is written.
 pub struct ClassPlanCounts {

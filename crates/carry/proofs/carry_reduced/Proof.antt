@@ -11,7 +11,6 @@ use Rattle.table.specs.WellFormed.{WellFormed}
 use Rattle.table.specs.Acceptance.{acceptanceAnswer}
 use Rattle.reduction.specs.TableCall.{classTable}
 use Rattle.plan.specs.Acceptance.{planRows}
-use Rattle.carry.specs.CarryCall.{carryingAnswer}
 use Rattle.carry.specs.CarryCallLaws.{reduced-well, reduced-judged, class-can, reduced-refused, reduced-accepted}
 use borrow.Author.Needs.{needs}
 use Rattle.carry.proofs.carry_reduced.Statement.{statement}

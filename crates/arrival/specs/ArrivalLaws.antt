@@ -29,8 +29,8 @@ use Rattle.table.specs.WellFormed.{WellFormed}
 use Rattle.links.specs.PlanTable.{positionCount, vertexAt, planOf}
 use Rattle.links.specs.PlanFormed.{PlanFormed}
 use Rattle.replies.specs.Replies.{seated, Seated, needed}
-use Rattle.carry.specs.CarryCall.{planWords, planCounts, sizeRows, carriedRows}
-use Rattle.carry.specs.Arrival.{seatOf, Seats, neededBy, carriedBy, arrivalRows, carriedSeated, Arrived, planVertices, Carriable}
+use Rattle.arrival.specs.PlanWords.{planWords, planCounts, sizeRows, carriedRows}
+use Rattle.arrival.specs.Arrival.{seatOf, Seats, neededBy, carriedBy, arrivalRows, carriedSeated, Arrived, planVertices, Carriable}
 
 -- ---- seats
 

@@ -3,10 +3,10 @@ use Prim.Native.Nat.{ℕ}
 use native.Mathlib.Omega.{arith}
 use lib.ListN.{length-replicate}
 use Rattle.theory.specs.ListLaws.{zeros}
-use Rattle.carry.specs.FoundLaws.{found-arrives}
+use Rattle.arrival.specs.FoundLaws.{found-arrives}
 use borrow.Author.Needs.{needs}
-use Rattle.carry.proofs.arrival.carry_seated.Statement.{statement}
-use Rattle.carry.proofs.arrival.carry_seated.Tie as tie
+use Rattle.arrival.proofs.carry_seated.Statement.{statement}
+use Rattle.arrival.proofs.carry_seated.Tie as tie
 
 abbrev start : tie.After-search → tie.Start
 start c = c .before .before .before .before .before .before .before .before .before .before .before .before

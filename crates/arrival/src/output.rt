@@ -1,4 +1,4 @@
-// A part of this crate's calls; no host calls it.
+// A part of the calls that carry a plan; no host calls it.
 // The plan that was found, as words of the output.
 use crate::Carrying;
 use crate::PlanCounts;
@@ -12,8 +12,8 @@ ghost use lib.ListN.{length};
 ghost use Rattle.table.specs.Limits.{positionLimit, linkLimit};
 ghost use Rattle.table.specs.Verdict.{written};
 ghost use Rattle.links.specs.PlanTable.{planLength};
-ghost use Rattle.carry.specs.CarryCall.{planWords, planCounts, carryingAnswer, sizeRows};
-ghost use Rattle.carry.specs.Arrival.{planBy, Arrived};
+ghost use Rattle.arrival.specs.PlanWords.{planWords, planCounts, carryingAnswer, sizeRows};
+ghost use Rattle.arrival.specs.Arrival.{planBy, Arrived};
 
 // Writes the plan: sizes, vertices, sources and targets of links.
 fn write_plan(

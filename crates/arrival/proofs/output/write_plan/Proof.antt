@@ -2,10 +2,10 @@
 use mathlib.Core.Path.{_≡_, refl, _∙_}
 use native.Mathlib.Omega.{arith}
 use lib.ListN.{length, length-set}
-use Rattle.carry.specs.OutputLaws.{plan-parts}
+use Rattle.arrival.specs.OutputLaws.{plan-parts}
 use borrow.Author.Needs.{needs}
-use Rattle.carry.proofs.output.write_plan.Statement.{statement}
-use Rattle.carry.proofs.output.write_plan.Tie as tie
+use Rattle.arrival.proofs.output.write_plan.Statement.{statement}
+use Rattle.arrival.proofs.output.write_plan.Tie as tie
 
 abbrev entry1 : tie.After-copy → tie.Start
 entry1 c = c .before .before .before .before .before .before

@@ -3,11 +3,11 @@ use mathlib.Core.Path.{_≡_, sym, subst}
 use mathlib.Core.Bool.{Bool}
 use native.Mathlib.Omega.{arith}
 use Rattle.links.specs.PlanTable.{positionCount}
-use Rattle.carry.specs.Arrival.{Seats, Carriable}
-use Rattle.carry.specs.ArrivalLaws.{length-part, seats-copied}
+use Rattle.arrival.specs.Arrival.{Seats, Carriable}
+use Rattle.arrival.specs.ArrivalLaws.{length-part, seats-copied}
 use borrow.Author.Needs.{needs}
-use Rattle.carry.proofs.seats.seat_positions.Statement.{statement}
-use Rattle.carry.proofs.seats.seat_positions.Tie as tie
+use Rattle.arrival.proofs.seats.seat_positions.Statement.{statement}
+use Rattle.arrival.proofs.seats.seat_positions.Tie as tie
 
 seat-classes-requires : tie.Need-seat-classes-requires
 seat-classes-requires c κs =

@@ -11,11 +11,11 @@ use Rattle.classes.specs.Numbering.{Represented}
 use Rattle.links.specs.PlanTable.{positionCount, vertexAt}
 use Rattle.classes.specs.NumberingLaws.{numbered-represented, represented-lt}
 use Rattle.classes.specs.HoldingLaws.{ordered-preorder, ordered-numbered}
-use Rattle.carry.specs.Arrival.{seatOf, planVertices}
-use Rattle.carry.specs.ArrivalLaws.{part-vertex, length-part, seats-gathered}
+use Rattle.arrival.specs.Arrival.{seatOf, planVertices}
+use Rattle.arrival.specs.ArrivalLaws.{part-vertex, length-part, seats-gathered}
 use borrow.Author.Needs.{needs}
-use Rattle.carry.proofs.seats.seat_classes.Statement.{statement}
-use Rattle.carry.proofs.seats.seat_classes.Tie as tie
+use Rattle.arrival.proofs.seats.seat_classes.Statement.{statement}
+use Rattle.arrival.proofs.seats.seat_classes.Tie as tie
 
 abbrev start : tie.After-number-classes → tie.Start
 start c = c .before .before .before .before .before .before .before .before .before

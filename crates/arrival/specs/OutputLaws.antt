@@ -19,8 +19,8 @@ use Rattle.table.specs.PlacingLaws.{written-two, written-join}
 use Rattle.table.specs.Verdict.{Clean, accepted, refused, judge, after, written}
 use Rattle.table.specs.VerdictLaws.{judge-hit, judge-next, judge-clean, after-clean, after-refused}
 use Rattle.links.specs.PlanTable.{planLength}
-use Rattle.carry.specs.CarryCall.{planWords, planCounts, sizeRows}
-use Rattle.carry.specs.Arrival.{planBy, Arrived}
+use Rattle.arrival.specs.PlanWords.{planWords, planCounts, sizeRows}
+use Rattle.arrival.specs.Arrival.{planBy, Arrived}
 
 -- ---- the words, part by part
 

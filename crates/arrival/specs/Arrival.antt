@@ -1,27 +1,24 @@
 -- What the parts of the calls that carry a plan assume and promise of each other. No public promise cites these.
 use mathlib.Core.Path.{_≡_}
 use mathlib.Core.Bool.{Bool, true, false}
-use mathlib.Core.List.{List, [], _∷_, _++_}
+use mathlib.Core.List.{List}
 use Prim.Native.Nat.{ℕ, _≤_, _<_}
-use lib.ListN.{length, getD, take}
+use lib.ListN.{getD}
 use Rattle.theory.specs.Range.{tabulate}
 use Rattle.theory.specs.Passes.{Rel}
 use Rattle.theory.specs.Game.{Game}
 use Rattle.theory.specs.Order.{order}
 use Rattle.theory.specs.Plan.{Plan}
-use Rattle.theory.specs.Reduction.{representative, noBetter, reduced}
+use Rattle.theory.specs.Reduction.{representative, noBetter}
 use Rattle.theory.specs.Carry.{carried, carriedPlan, classNoBetter, carriedClassPlan}
-use Rattle.table.specs.Table.{vertexCount, tableLength, playerOf, gameOf}
+use Rattle.table.specs.Table.{vertexCount, playerOf, gameOf}
 use Rattle.table.specs.Verdict.{Row, Answer, judge, after}
 use Rattle.table.specs.WellFormed.{WellFormed}
 use Rattle.classes.specs.Numbering.{Ordered, classesIn}
-use Rattle.reduction.specs.TableCall.{tableCounts, classTable}
-use Rattle.reduction.specs.declared.TableCounts.{TableCounts}
 use Rattle.links.specs.PlanTable.{positionCount, vertexAt, planOf}
 use Rattle.links.specs.PlanFormed.{PlanFormed}
-use Rattle.plan.specs.Acceptance.{planRows}
 use Rattle.replies.specs.Replies.{seated, needed}
-use Rattle.carry.specs.CarryCall.{carriedRows}
+use Rattle.arrival.specs.PlanWords.{carriedRows}
 
 -- ---- whether the plan is on the game itself or, by class, on the reduced game
 
@@ -79,15 +76,3 @@ pub record Carriable (byClass : Bool) (game : List ℕ) (player : ℕ) (plan mar
   pub number : player ≤ 1
   pub formed : PlanFormed (planVertices byClass game) plan
   pub ordered : Ordered (gameOf game) marks
-
--- the reduced game's table in memory, beside marks that hold the order
-pub record ReducedHeld (game marks reduction : List ℕ) (counts : TableCounts) : Type 0 where
-  pub well : WellFormed game
-  pub ordered : Ordered (gameOf game) marks
-  pub totals : counts .classes ∷ counts .vertices ∷ counts .edges ∷ [] ≡ tableCounts reduced game
-  pub long : tableLength (counts .vertices) (counts .edges) ≤ length reduction
-  pub table : take (tableLength (counts .vertices) (counts .edges)) reduction ≡ classTable reduced game
-
--- 11 to 16 about the reduced game, then 33 to 35
-abbrev pub reducedRows : List ℕ → ℕ → List ℕ → ℕ → List ℕ → List Row
-reducedRows game player plan y output = planRows (classTable reduced game) player plan ++ arrivalRows true game player plan y output

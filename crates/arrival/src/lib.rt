@@ -1,12 +1,14 @@
-// A part of this crate's calls; no host calls it.
-// The plan that is found from the start and the new vertex: 33 to 35, and its words.
-use crate::Carrying;
-use crate::output::write_found;
-use crate::seats::seat_positions;
+// What arrives at the new vertex: 33 to 35, and the words of the plan that is found. Parts of the calls that carry a plan; no host calls
+// these.
+mod output;
+mod seats;
+
+use output::write_found;
 use pair_search::Counts;
 use pair_search::find_pairs;
 use replies::chain_links;
 use replies::no_better;
+use seats::seat_positions;
 use table::Refusal;
 use table::flags::flag_edges;
 use table::limits::LINKS;
@@ -19,8 +21,19 @@ ghost use Rattle.links.specs.PlanTable.{positionCount};
 ghost use Rattle.replies.specs.Replies.{seated, Seated, needed};
 ghost use Rattle.pair_search.specs.Memory.{memory};
 ghost use Rattle.pair_search.specs.Search.{Fresh, Ran};
-ghost use Rattle.carry.specs.CarryCall.{planWords, planCounts, carryingAnswer, sizeRows};
-ghost use Rattle.carry.specs.Arrival.{carriedBy, arrivalRows, carriedSeated, Arrived, Carriable};
+ghost use Rattle.arrival.specs.PlanWords.{planWords, planCounts, carryingAnswer, sizeRows};
+ghost use Rattle.arrival.specs.Arrival.{carriedBy, arrivalRows, carriedSeated, Arrived, Carriable};
+
+// The positions and links of the plan that is written.
+pub struct PlanCounts {
+    pub positions: usize,
+    pub links: usize,
+}
+
+pub enum Carrying {
+    Accepted(PlanCounts),
+    Refused(Refusal),
+}
 
 // The search. Flags of the edges and chains of the plan's links are in local arrays of 106,496 bytes.
 fn search(

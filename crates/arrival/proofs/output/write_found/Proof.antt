@@ -1,10 +1,10 @@
 -- Each way out is row 34, row 35, or the plan's words.
 use mathlib.Core.Logic.{inl, inr}
 use native.Mathlib.Omega.{arith}
-use Rattle.carry.specs.OutputLaws.{found-many, found-short, found-written}
+use Rattle.arrival.specs.OutputLaws.{found-many, found-short, found-written}
 use borrow.Author.Needs.{needs}
-use Rattle.carry.proofs.output.write_found.Statement.{statement}
-use Rattle.carry.proofs.output.write_found.Tie as tie
+use Rattle.arrival.proofs.output.write_found.Statement.{statement}
+use Rattle.arrival.proofs.output.write_found.Tie as tie
 
 returns : tie.Need-returns
 returns c = found-many _ _ _ _ _ _ (inl (c .if1 .taken))

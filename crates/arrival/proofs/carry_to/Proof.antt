@@ -8,11 +8,11 @@ use Rattle.table.specs.Table.{gameOf, vertexCount}
 use Rattle.links.specs.PlanTable.{vertexAt}
 use Rattle.replies.specs.Replies.{Seated, needed}
 use Rattle.replies.specs.RepliesLaws.{needed-is}
-use Rattle.carry.specs.Arrival.{seatOf}
-use Rattle.carry.specs.ArrivalLaws.{seats-seated, arrives-beyond, arrives-not, arrives}
+use Rattle.arrival.specs.Arrival.{seatOf}
+use Rattle.arrival.specs.ArrivalLaws.{seats-seated, arrives-beyond, arrives-not, arrives}
 use borrow.Author.Needs.{needs}
-use Rattle.carry.proofs.arrival.carry_to.Statement.{statement}
-use Rattle.carry.proofs.arrival.carry_to.Tie as tie
+use Rattle.arrival.proofs.carry_to.Statement.{statement}
+use Rattle.arrival.proofs.carry_to.Tie as tie
 
 abbrev start : tie.After-seat-positions → tie.Start
 start c = c .before .before .before .before .before .before .before .before

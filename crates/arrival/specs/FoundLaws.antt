@@ -28,9 +28,9 @@ use Rattle.replies.specs.Replies.{seated, needed}
 use Rattle.pair_search.specs.Chains.{pairsIn}
 use Rattle.pair_search.specs.Memory.{Memory, foundIn, Within}
 use Rattle.pair_search.specs.Search.{Over, Ran}
-use Rattle.carry.specs.CarryCall.{planWords, planCounts, sizeRows}
-use Rattle.carry.specs.Arrival.{planBy, carriedSeated, Arrived}
-use Rattle.carry.specs.OutputLaws.{map-tabulate, arrived-many, many-refused, many-old}
+use Rattle.arrival.specs.PlanWords.{planWords, planCounts, sizeRows}
+use Rattle.arrival.specs.Arrival.{planBy, carriedSeated, Arrived}
+use Rattle.arrival.specs.OutputLaws.{map-tabulate, arrived-many, many-refused, many-old}
 
 -- ---- the flags of the edges
 

@@ -1,4 +1,4 @@
-// A part of this crate's calls; no host calls it.
+// A part of the calls that carry a plan; no host calls it.
 // The vertex as which each position of a plan compares: its own or, on the reduced game, the lowest member of its class.
 use classes::numbering::number_classes;
 use table::limits::VERTICES;
@@ -7,7 +7,7 @@ ghost use mathlib.Core.Bool.{true};
 ghost use Prim.Native.Nat.{_≤_};
 ghost use lib.ListN.{length};
 ghost use Rattle.links.specs.PlanTable.{positionCount};
-ghost use Rattle.carry.specs.Arrival.{Seats, Carriable};
+ghost use Rattle.arrival.specs.Arrival.{Seats, Carriable};
 
 // The lowest member of each position's class. The classes and their lowest members are in local arrays of 1,024 bytes.
 fn seat_classes(game: &[u16], player: u32, plan: &[u16], marks: &[u8], seats: &mut [u16])

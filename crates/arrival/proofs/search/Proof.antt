@@ -6,10 +6,10 @@ use lib.ListN.{length, length-replicate}
 use Rattle.table.specs.Limits.{pairLimit}
 use Rattle.table.specs.FlagsLaws.{filled}
 use Rattle.replies.specs.Replies.{Readable}
-use Rattle.carry.specs.FoundLaws.{game-sized, game-inside, flags-hold}
+use Rattle.arrival.specs.FoundLaws.{game-sized, game-inside, flags-hold}
 use borrow.Author.Needs.{needs}
-use Rattle.carry.proofs.arrival.search.Statement.{statement}
-use Rattle.carry.proofs.arrival.search.Tie as tie
+use Rattle.arrival.proofs.search.Statement.{statement}
+use Rattle.arrival.proofs.search.Tie as tie
 
 abbrev start : tie.After-flag-edges → tie.Start
 start c = c .before .before .before .before .before .before .before .before .before .before .before .before .before .before
