@@ -8,8 +8,9 @@ use Rattle.order.specs.OrderCall.{OrderCall}
 use Rattle.classes.specs.ClassesCall.{ClassesCall}
 use Rattle.reduction.specs.TableCall.{TableCall}
 use Rattle.seed.specs.SeedCall.{SeedCall}
-use Rattle.abi.specs.Fields.{orderFields, classesFields, tableFields, seedFields}
-use Rattle.abi.specs.declared.RaskjomiAnswer.{RaskjomiAnswer}
+use Rattle.carry.specs.CarryCall.{CarryCall, CarryClassCall}
+use Rattle.answer.specs.Fields.{orderFields, classesFields, tableFields, seedFields, carryFields, classCarryFields}
+use Rattle.answer.specs.declared.RaskjomiAnswer.{RaskjomiAnswer}
 
 pub record OrderExport (game marks spare : List ℕ) (r : RaskjomiAnswer) (marks′ spare′ : List ℕ) : Type 0 where
   pub answer : Answer
@@ -30,3 +31,15 @@ pub record SeedExport (seed n d c : ℕ) (output : List ℕ) (r : RaskjomiAnswer
   pub answer : Answer
   pub fields : r ≡ seedFields answer
   pub call : SeedCall seed n d c output answer output′
+
+pub record CarryExport (game : List ℕ) (player : ℕ) (plan : List ℕ) (vertex : ℕ) (marks spare output : List ℕ) (r : RaskjomiAnswer)
+    (marks′ spare′ output′ : List ℕ) : Type 0 where
+  pub answer : Answer
+  pub fields : r ≡ carryFields answer
+  pub call : CarryCall game player plan vertex marks spare output answer marks′ spare′ output′
+
+pub record CarryClassExport (game : List ℕ) (player : ℕ) (plan : List ℕ) (vertex : ℕ) (marks spare classes reduction output : List ℕ)
+    (r : RaskjomiAnswer) (marks′ spare′ classes′ reduction′ output′ : List ℕ) : Type 0 where
+  pub answer : Answer
+  pub fields : r ≡ classCarryFields answer
+  pub call : CarryClassCall game player plan vertex marks spare classes reduction output answer marks′ spare′ classes′ reduction′ output′

@@ -1,64 +1,21 @@
 // The exports for a Rust host: numbers and slices in, one answer by value out. A slice passes as a pointer and a length.
-use classes::Classification;
-use order::Ordering;
-use reduction::Tabulation;
-use seed::Seeding;
-use table::Acceptance;
-use table::Reading;
-use table::Refusal;
+use answer::RaskjomiAnswer;
+use answer::of_acceptance;
+use answer::of_carrying;
+use answer::of_class_carrying;
+use answer::of_classification;
+use answer::of_ordering;
+use answer::of_reading;
+use answer::of_seeding;
+use answer::of_tabulation;
 ghost use mathlib.Core.Path.{_≡_};
-ghost use Rattle.table.specs.Reading.{readAnswer, readingAnswer};
-ghost use Rattle.table.specs.Acceptance.{acceptanceAnswer};
+ghost use Rattle.theory.specs.Reduction.{quotient, reduced};
+ghost use Rattle.table.specs.Reading.{readAnswer};
 ghost use Rattle.table.specs.Kind.{kindOf};
-ghost use Rattle.order.specs.OrderCall.{orderingAnswer};
 ghost use Rattle.relation.specs.RelationCall.{relationAnswer};
 ghost use Rattle.plan.specs.Acceptance.{planAnswer};
-ghost use Rattle.theory.specs.Reduction.{quotient, reduced};
-ghost use Rattle.classes.specs.ClassesCall.{classificationAnswer};
-ghost use Rattle.reduction.specs.TableCall.{tabulationAnswer};
-ghost use Rattle.seed.specs.SeedCall.{seedingAnswer};
-ghost use Rattle.abi.specs.Exports.{OrderExport, ClassesExport, TableExport, SeedExport};
-ghost use Rattle.abi.specs.Fields.{counted, turnedDown, readFields, orderFields, acceptFields, classesFields, tableFields, seedFields, SmallSizes, SmallSeeding, SmallCount, SmallCounts};
-
-// Number 0 for accepted, with the counts of the call; otherwise the refusal. All other fields are 0.
-#[repr(C)]
-pub struct RaskjomiAnswer {
-    pub number: u32,
-    pub passes: u32,
-    pub classes: u32,
-    pub vertices: u32,
-    pub edges: u32,
-    pub different: u32,
-    pub place: usize,
-}
-
-fn accepted(passes: u32, classes: u32, vertices: u32, edges: u32, different: u32) -> RaskjomiAnswer
-    ensures { λ r. ⌜ r ≡ counted passes classes vertices edges different ⌝ }
-{
-    RaskjomiAnswer {
-        number: 0,
-        passes,
-        classes,
-        vertices,
-        edges,
-        different,
-        place: 0,
-    }
-}
-
-fn refused(refusal: Refusal) -> RaskjomiAnswer
-    ensures { λ r. ⌜ r ≡ turnedDown (refusal .number) (refusal .place) ⌝ }
-{
-    RaskjomiAnswer {
-        number: refusal.number,
-        passes: 0,
-        classes: 0,
-        vertices: 0,
-        edges: 0,
-        different: 0,
-        place: refusal.place,
-    }
-}
+ghost use Rattle.answer.specs.Fields.{readFields, acceptFields};
+ghost use Rattle.abi.specs.Exports.{OrderExport, ClassesExport, TableExport, SeedExport, CarryExport, CarryClassExport};
 
 // The kind of a refusal number.
 #[no_mangle]
@@ -68,46 +25,12 @@ pub extern "C" fn raskjomi_kind(number: u32) -> u32
     table::kind(number)
 }
 
-fn of_reading(reading: Reading) -> RaskjomiAnswer
-    requires { ⌜ SmallSizes reading ⌝ }
-    ensures { λ r. ⌜ r ≡ readFields (readingAnswer reading) ⌝ }
-{
-    match reading {
-        Reading::Accepted(sizes) => accepted(
-            0,
-            0,
-            sizes.vertices as u32,
-            sizes.edges as u32,
-            sizes.different as u32,
-        ),
-        Reading::Refused(refusal) => refused(refusal),
-    }
-}
-
 // The reader.
 #[no_mangle]
 pub extern "C" fn raskjomi_read(game: &[u16]) -> RaskjomiAnswer
     ensures { λ r. ⌜ r ≡ readFields (readAnswer (now (game .entry))) ⌝ }
 {
     of_reading(table::read(game))
-}
-
-fn of_ordering(ordering: Ordering) -> RaskjomiAnswer
-    ensures { λ r. ⌜ r ≡ orderFields (orderingAnswer ordering) ⌝ }
-{
-    match ordering {
-        Ordering::Accepted(count) => accepted(count.passes, 0, 0, 0, 0),
-        Ordering::Refused(refusal) => refused(refusal),
-    }
-}
-
-fn of_acceptance(acceptance: Acceptance) -> RaskjomiAnswer
-    ensures { λ r. ⌜ r ≡ acceptFields (acceptanceAnswer acceptance) ⌝ }
-{
-    match acceptance {
-        Acceptance::Accepted(_) => accepted(0, 0, 0, 0, 0),
-        Acceptance::Refused(refusal) => refused(refusal),
-    }
 }
 
 // The relation acceptor.
@@ -134,16 +57,6 @@ pub extern "C" fn raskjomi_accept_plan(game: &[u16], player: u32, plan: &[u16]) 
     of_acceptance(plan::accept_plan(game, player, plan))
 }
 
-fn of_classification(classification: Classification) -> RaskjomiAnswer
-    requires { ⌜ SmallCount classification ⌝ }
-    ensures { λ r. ⌜ r ≡ classesFields (classificationAnswer classification) ⌝ }
-{
-    match classification {
-        Classification::Accepted(count) => accepted(0, count.classes as u32, 0, 0, 0),
-        Classification::Refused(refusal) => refused(refusal),
-    }
-}
-
 // The classes, and the order.
 #[no_mangle]
 pub extern "C" fn raskjomi_classes(
@@ -155,22 +68,6 @@ pub extern "C" fn raskjomi_classes(
     ensures { λ r. ⌜ ClassesExport (now (game .entry)) (now (marks .entry)) (now (spare .entry)) (now (classes .entry)) r (now (marks .exit)) (now (spare .exit)) (now (classes .exit)) ⌝ }
 {
     of_classification(classes::write_classes(game, marks, spare, classes))
-}
-
-fn of_tabulation(tabulation: Tabulation) -> RaskjomiAnswer
-    requires { ⌜ SmallCounts tabulation ⌝ }
-    ensures { λ r. ⌜ r ≡ tableFields (tabulationAnswer tabulation) ⌝ }
-{
-    match tabulation {
-        Tabulation::Accepted(counts) => accepted(
-            0,
-            counts.classes as u32,
-            counts.vertices as u32,
-            counts.edges as u32,
-            0,
-        ),
-        Tabulation::Refused(refusal) => refused(refusal),
-    }
 }
 
 // The quotient game, the classes and the order.
@@ -201,18 +98,6 @@ pub extern "C" fn raskjomi_reduce(
     of_tabulation(reduction::write_reduced(game, marks, spare, classes, output))
 }
 
-fn of_seeding(seeding: Seeding) -> RaskjomiAnswer
-    requires { ⌜ SmallSeeding seeding ⌝ }
-    ensures { λ r. ⌜ r ≡ seedFields (seedingAnswer seeding) ⌝ }
-{
-    match seeding {
-        Seeding::Accepted(counts) => {
-            accepted(0, 0, counts.vertices as u32, counts.edges as u32, 0)
-        }
-        Seeding::Refused(refusal) => refused(refusal),
-    }
-}
-
 // A game by the seed: the table of n vertices with `degree` edges each and priorities below `priorities`.
 #[no_mangle]
 pub extern "C" fn raskjomi_seed(
@@ -225,4 +110,48 @@ pub extern "C" fn raskjomi_seed(
     ensures { λ r. ⌜ SeedExport seed vertices degree priorities (now (output .entry)) r (now (output .exit)) ⌝ }
 {
     of_seeding(seed::write_seeded(seed, vertices, degree, priorities, output))
+}
+
+// A plan on the game, carried to the vertex, into output; and the order.
+#[no_mangle]
+pub extern "C" fn raskjomi_carry(
+    game: &[u16],
+    player: u32,
+    plan: &[u16],
+    vertex: u32,
+    marks: &mut [u8],
+    spare: &mut [u8],
+    output: &mut [u16],
+) -> RaskjomiAnswer
+    ensures { λ r. ⌜ CarryExport (now (game .entry)) player (now (plan .entry)) vertex (now (marks .entry)) (now (spare .entry)) (now (output .entry)) r (now (marks .exit)) (now (spare .exit)) (now (output .exit)) ⌝ }
+{
+    of_carrying(carry::carry_plan(game, player, plan, vertex, marks, spare, output))
+}
+
+// A plan on the reduced game, carried to the vertex, into output; the reduced game, the classes and the order.
+#[no_mangle]
+pub extern "C" fn raskjomi_carry_class(
+    game: &[u16],
+    player: u32,
+    plan: &[u16],
+    vertex: u32,
+    marks: &mut [u8],
+    spare: &mut [u8],
+    classes: &mut [u16],
+    reduction: &mut [u16],
+    output: &mut [u16],
+) -> RaskjomiAnswer
+    ensures { λ r. ⌜ CarryClassExport (now (game .entry)) player (now (plan .entry)) vertex (now (marks .entry)) (now (spare .entry)) (now (classes .entry)) (now (reduction .entry)) (now (output .entry)) r (now (marks .exit)) (now (spare .exit)) (now (classes .exit)) (now (reduction .exit)) (now (output .exit)) ⌝ }
+{
+    of_class_carrying(carry::carry_class_plan(
+        game,
+        player,
+        plan,
+        vertex,
+        marks,
+        spare,
+        classes,
+        reduction,
+        output,
+    ))
 }

@@ -1,7 +1,7 @@
 -- The quotient has no more vertices and edges than the game, so the counts fit their fields.
 use Rattle.theory.specs.Reduction.{quotient}
 use Rattle.theory.specs.SizeLaws.{quotient-size, quotient-edges}
-use Rattle.abi.specs.FieldsLaws.{tabulation-small}
+use Rattle.answer.specs.FieldsLaws.{tabulation-small}
 use borrow.Author.Needs.{needs}
 use Rattle.abi.proofs.raskjomi_quotient.Statement.{statement}
 use Rattle.abi.proofs.raskjomi_quotient.Tie as tie

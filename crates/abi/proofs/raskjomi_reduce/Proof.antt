@@ -1,7 +1,7 @@
 -- The reduced game has no more vertices and edges than the game, so the counts fit their fields.
 use Rattle.theory.specs.Reduction.{reduced}
 use Rattle.theory.specs.SizeLaws.{reduced-size, reduced-edges}
-use Rattle.abi.specs.FieldsLaws.{tabulation-small}
+use Rattle.answer.specs.FieldsLaws.{tabulation-small}
 use borrow.Author.Needs.{needs}
 use Rattle.abi.proofs.raskjomi_reduce.Statement.{statement}
 use Rattle.abi.proofs.raskjomi_reduce.Tie as tie

@@ -8,46 +8,79 @@ use Rattle.table.specs.declared.Reading.the-variants.{Accepted, Refused}
 use Rattle.seed.specs.declared.Seeding.{Seeding}
 use Rattle.classes.specs.declared.Classification.{Classification}
 use Rattle.reduction.specs.declared.Tabulation.{Tabulation}
-use Rattle.abi.specs.declared.RaskjomiAnswer.{RaskjomiAnswer}
+use Rattle.arrival.specs.declared.Carrying.{Carrying}
+use Rattle.carry.specs.declared.ClassCarrying.{ClassCarrying}
+use Rattle.answer.specs.declared.RaskjomiAnswer.{RaskjomiAnswer}
 
 -- the answer of an accepted call: its counts, and 0 for those that it doesn't have
-abbrev pub counted : ℕ → ℕ → ℕ → ℕ → ℕ → RaskjomiAnswer
-counted passes classes vertices edges different =
-    record { number = 0; passes = passes; classes = classes; vertices = vertices; edges = edges; different = different; place = 0 }
+abbrev pub counted : ℕ → ℕ → ℕ → ℕ → ℕ → ℕ → ℕ → RaskjomiAnswer
+counted passes classes vertices edges different positions links =
+    record {
+      number = 0;
+      passes = passes;
+      classes = classes;
+      vertices = vertices;
+      edges = edges;
+      different = different;
+      positions = positions;
+      links = links;
+      place = 0;
+    }
 
 -- the answer of a refused call
 abbrev pub turnedDown : ℕ → ℕ → RaskjomiAnswer
-turnedDown number place = record { number = number; passes = 0; classes = 0; vertices = 0; edges = 0; different = 0; place = place }
+turnedDown number place =
+    record {
+      number = number;
+      passes = 0;
+      classes = 0;
+      vertices = 0;
+      edges = 0;
+      different = 0;
+      positions = 0;
+      links = 0;
+      place = place;
+    }
 
 -- the reader: n, m and the different edges
 abbrev pub readFields : Answer → RaskjomiAnswer
-readFields (accepted counts) = counted 0 0 (getD counts 0 0) (getD counts 1 0) (getD counts 2 0)
+readFields (accepted counts) = counted 0 0 (getD counts 0 0) (getD counts 1 0) (getD counts 2 0) 0 0
 readFields (refused number place) = turnedDown number place
 
 -- the order: its passes
 abbrev pub orderFields : Answer → RaskjomiAnswer
-orderFields (accepted counts) = counted (getD counts 0 0) 0 0 0 0
+orderFields (accepted counts) = counted (getD counts 0 0) 0 0 0 0 0 0
 orderFields (refused number place) = turnedDown number place
 
 -- an acceptor: none
 abbrev pub acceptFields : Answer → RaskjomiAnswer
-acceptFields (accepted counts) = counted 0 0 0 0 0
+acceptFields (accepted counts) = counted 0 0 0 0 0 0 0
 acceptFields (refused number place) = turnedDown number place
 
 -- classes: their number
 abbrev pub classesFields : Answer → RaskjomiAnswer
-classesFields (accepted counts) = counted 0 (getD counts 0 0) 0 0 0
+classesFields (accepted counts) = counted 0 (getD counts 0 0) 0 0 0 0 0
 classesFields (refused number place) = turnedDown number place
 
 -- a call that writes a game table: the classes, then the table's vertices and edges
 abbrev pub tableFields : Answer → RaskjomiAnswer
-tableFields (accepted counts) = counted 0 (getD counts 0 0) (getD counts 1 0) (getD counts 2 0) 0
+tableFields (accepted counts) = counted 0 (getD counts 0 0) (getD counts 1 0) (getD counts 2 0) 0 0 0
 tableFields (refused number place) = turnedDown number place
 
 -- games by the seed: n and m
 abbrev pub seedFields : Answer → RaskjomiAnswer
-seedFields (accepted counts) = counted 0 0 (getD counts 0 0) (getD counts 1 0) 0
+seedFields (accepted counts) = counted 0 0 (getD counts 0 0) (getD counts 1 0) 0 0 0
 seedFields (refused number place) = turnedDown number place
+
+-- a plan that is carried: its positions and links
+abbrev pub carryFields : Answer → RaskjomiAnswer
+carryFields (accepted counts) = counted 0 0 0 0 0 (getD counts 0 0) (getD counts 1 0)
+carryFields (refused number place) = turnedDown number place
+
+-- from the reduced game: the classes, the reduced game's vertices and edges, then the plan's positions and links
+abbrev pub classCarryFields : Answer → RaskjomiAnswer
+classCarryFields (accepted counts) = counted 0 (getD counts 0 0) (getD counts 1 0) (getD counts 2 0) 0 (getD counts 3 0) (getD counts 4 0)
+classCarryFields (refused number place) = turnedDown number place
 
 -- a reading whose sizes fit the answer's fields
 abbrev pub SmallSizes : Reading → Type 0
@@ -67,3 +100,13 @@ SmallCount (Classification.Refused refusal) = Unit
 abbrev pub SmallCounts : Tabulation → Type 0
 SmallCounts (Tabulation.Accepted counts) = (counts .classes < 4294967296) × (counts .vertices < 4294967296) × (counts .edges < 4294967296)
 SmallCounts (Tabulation.Refused refusal) = Unit
+
+-- the same of a carried plan's counts
+abbrev pub SmallCarrying : Carrying → Type 0
+SmallCarrying (Carrying.Accepted counts) = (counts .positions < 4294967296) × (counts .links < 4294967296)
+SmallCarrying (Carrying.Refused refusal) = Unit
+
+abbrev pub SmallClassCarrying : ClassCarrying → Type 0
+SmallClassCarrying (ClassCarrying.Accepted found) =
+    (found .classes < 4294967296) × (found .vertices < 4294967296) × (found .edges < 4294967296) × (found .positions < 4294967296) × (found .links < 4294967296)
+SmallClassCarrying (ClassCarrying.Refused refusal) = Unit

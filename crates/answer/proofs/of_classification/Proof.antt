@@ -3,10 +3,10 @@ use mathlib.Core.Path.{sym, ap, _∙_, subst}
 use native.Mathlib.Omega.{arith}
 use Rattle.classes.specs.declared.Classification.{Classification}
 use Rattle.classes.specs.ClassesCall.{classificationAnswer}
-use Rattle.abi.specs.Fields.{classesFields, SmallCount}
+use Rattle.answer.specs.Fields.{classesFields, SmallCount}
 use borrow.Author.Needs.{needs}
-use Rattle.abi.proofs.of_classification.Statement.{statement}
-use Rattle.abi.proofs.of_classification.Tie as tie
+use Rattle.answer.proofs.of_classification.Statement.{statement}
+use Rattle.answer.proofs.of_classification.Tie as tie
 
 enum-known-classification : tie.Need-enum-known-classification
 enum-known-classification c = search needs

@@ -2,10 +2,10 @@
 use mathlib.Core.Path.{sym, ap, _∙_}
 use Rattle.table.specs.declared.Acceptance.{Acceptance}
 use Rattle.table.specs.Acceptance.{acceptanceAnswer}
-use Rattle.abi.specs.Fields.{acceptFields}
+use Rattle.answer.specs.Fields.{acceptFields}
 use borrow.Author.Needs.{needs}
-use Rattle.abi.proofs.of_acceptance.Statement.{statement}
-use Rattle.abi.proofs.of_acceptance.Tie as tie
+use Rattle.answer.proofs.of_acceptance.Statement.{statement}
+use Rattle.answer.proofs.of_acceptance.Tie as tie
 
 enum-told : tie.Need-enum-told
 enum-told c = search needs

@@ -3,10 +3,10 @@ use mathlib.Core.Path.{sym, ap, _∙_, subst}
 use native.Mathlib.Omega.{arith}
 use Rattle.reduction.specs.declared.Tabulation.{Tabulation}
 use Rattle.reduction.specs.TableCall.{tabulationAnswer}
-use Rattle.abi.specs.Fields.{tableFields, SmallCounts}
+use Rattle.answer.specs.Fields.{tableFields, SmallCounts}
 use borrow.Author.Needs.{needs}
-use Rattle.abi.proofs.of_tabulation.Statement.{statement}
-use Rattle.abi.proofs.of_tabulation.Tie as tie
+use Rattle.answer.proofs.of_tabulation.Statement.{statement}
+use Rattle.answer.proofs.of_tabulation.Tie as tie
 
 enum-known-tabulation : tie.Need-enum-known-tabulation
 enum-known-tabulation c = search needs

@@ -2,10 +2,10 @@
 use mathlib.Core.Path.{sym, ap, _∙_}
 use Rattle.order.specs.declared.Ordering.{Ordering}
 use Rattle.order.specs.OrderCall.{orderingAnswer}
-use Rattle.abi.specs.Fields.{orderFields}
+use Rattle.answer.specs.Fields.{orderFields}
 use borrow.Author.Needs.{needs}
-use Rattle.abi.proofs.of_ordering.Statement.{statement}
-use Rattle.abi.proofs.of_ordering.Tie as tie
+use Rattle.answer.proofs.of_ordering.Statement.{statement}
+use Rattle.answer.proofs.of_ordering.Tie as tie
 
 enum-known-ordering : tie.Need-enum-known-ordering
 enum-known-ordering c = search needs

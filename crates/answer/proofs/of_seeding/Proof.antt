@@ -3,10 +3,10 @@ use mathlib.Core.Path.{sym, ap, _∙_, subst}
 use native.Mathlib.Omega.{arith}
 use Rattle.seed.specs.declared.Seeding.{Seeding}
 use Rattle.seed.specs.SeedCall.{seedingAnswer}
-use Rattle.abi.specs.Fields.{seedFields, SmallSeeding}
+use Rattle.answer.specs.Fields.{seedFields, SmallSeeding}
 use borrow.Author.Needs.{needs}
-use Rattle.abi.proofs.of_seeding.Statement.{statement}
-use Rattle.abi.proofs.of_seeding.Tie as tie
+use Rattle.answer.proofs.of_seeding.Statement.{statement}
+use Rattle.answer.proofs.of_seeding.Tie as tie
 
 enum-known-seeding : tie.Need-enum-known-seeding
 enum-known-seeding c = search needs

@@ -3,10 +3,10 @@ use mathlib.Core.Path.{sym, ap, _∙_, subst}
 use native.Mathlib.Omega.{arith}
 use Rattle.table.specs.declared.Reading.{Reading}
 use Rattle.table.specs.Reading.{readingAnswer}
-use Rattle.abi.specs.Fields.{readFields, SmallSizes}
+use Rattle.answer.specs.Fields.{readFields, SmallSizes}
 use borrow.Author.Needs.{needs}
-use Rattle.abi.proofs.of_reading.Statement.{statement}
-use Rattle.abi.proofs.of_reading.Tie as tie
+use Rattle.answer.proofs.of_reading.Statement.{statement}
+use Rattle.answer.proofs.of_reading.Tie as tie
 
 enum-known-reading : tie.Need-enum-known-reading
 enum-known-reading c = search needs

@@ -1,0 +1,186 @@
+// The answer of the exports, by value, and what each verdict of the library is in its fields.
+use arrival::Carrying;
+use carry::ClassCarrying;
+use classes::Classification;
+use order::Ordering;
+use reduction::Tabulation;
+use seed::Seeding;
+use table::Acceptance;
+use table::Reading;
+use table::Refusal;
+ghost use mathlib.Core.Path.{_≡_};
+ghost use Rattle.table.specs.Reading.{readingAnswer};
+ghost use Rattle.table.specs.Acceptance.{acceptanceAnswer};
+ghost use Rattle.order.specs.OrderCall.{orderingAnswer};
+ghost use Rattle.classes.specs.ClassesCall.{classificationAnswer};
+ghost use Rattle.reduction.specs.TableCall.{tabulationAnswer};
+ghost use Rattle.seed.specs.SeedCall.{seedingAnswer};
+ghost use Rattle.arrival.specs.PlanWords.{carryingAnswer};
+ghost use Rattle.carry.specs.CarryCall.{classCarryingAnswer};
+ghost use Rattle.answer.specs.Fields.{counted, turnedDown, readFields, orderFields, acceptFields, classesFields, tableFields, seedFields, carryFields, classCarryFields, SmallSizes, SmallSeeding, SmallCount, SmallCounts, SmallCarrying, SmallClassCarrying};
+
+// Number 0 for accepted, with the counts of the call; otherwise the refusal. All other fields are 0.
+#[repr(C)]
+pub struct RaskjomiAnswer {
+    pub number: u32,
+    pub passes: u32,
+    pub classes: u32,
+    pub vertices: u32,
+    pub edges: u32,
+    pub different: u32,
+    pub positions: u32,
+    pub links: u32,
+    pub place: usize,
+}
+
+fn accepted(
+    passes: u32,
+    classes: u32,
+    vertices: u32,
+    edges: u32,
+    different: u32,
+    positions: u32,
+    links: u32,
+) -> RaskjomiAnswer
+    ensures { λ r. ⌜ r ≡ counted passes classes vertices edges different positions links ⌝ }
+{
+    RaskjomiAnswer {
+        number: 0,
+        passes,
+        classes,
+        vertices,
+        edges,
+        different,
+        positions,
+        links,
+        place: 0,
+    }
+}
+
+fn refused(refusal: Refusal) -> RaskjomiAnswer
+    ensures { λ r. ⌜ r ≡ turnedDown (refusal .number) (refusal .place) ⌝ }
+{
+    RaskjomiAnswer {
+        number: refusal.number,
+        passes: 0,
+        classes: 0,
+        vertices: 0,
+        edges: 0,
+        different: 0,
+        positions: 0,
+        links: 0,
+        place: refusal.place,
+    }
+}
+
+pub fn of_reading(reading: Reading) -> RaskjomiAnswer
+    requires { ⌜ SmallSizes reading ⌝ }
+    ensures { λ r. ⌜ r ≡ readFields (readingAnswer reading) ⌝ }
+{
+    match reading {
+        Reading::Accepted(sizes) => accepted(
+            0,
+            0,
+            sizes.vertices as u32,
+            sizes.edges as u32,
+            sizes.different as u32,
+            0,
+            0,
+        ),
+        Reading::Refused(refusal) => refused(refusal),
+    }
+}
+
+pub fn of_ordering(ordering: Ordering) -> RaskjomiAnswer
+    ensures { λ r. ⌜ r ≡ orderFields (orderingAnswer ordering) ⌝ }
+{
+    match ordering {
+        Ordering::Accepted(count) => accepted(count.passes, 0, 0, 0, 0, 0, 0),
+        Ordering::Refused(refusal) => refused(refusal),
+    }
+}
+
+pub fn of_acceptance(acceptance: Acceptance) -> RaskjomiAnswer
+    ensures { λ r. ⌜ r ≡ acceptFields (acceptanceAnswer acceptance) ⌝ }
+{
+    match acceptance {
+        Acceptance::Accepted(_) => accepted(0, 0, 0, 0, 0, 0, 0),
+        Acceptance::Refused(refusal) => refused(refusal),
+    }
+}
+
+pub fn of_classification(classification: Classification) -> RaskjomiAnswer
+    requires { ⌜ SmallCount classification ⌝ }
+    ensures { λ r. ⌜ r ≡ classesFields (classificationAnswer classification) ⌝ }
+{
+    match classification {
+        Classification::Accepted(count) => accepted(0, count.classes as u32, 0, 0, 0, 0, 0),
+        Classification::Refused(refusal) => refused(refusal),
+    }
+}
+
+pub fn of_tabulation(tabulation: Tabulation) -> RaskjomiAnswer
+    requires { ⌜ SmallCounts tabulation ⌝ }
+    ensures { λ r. ⌜ r ≡ tableFields (tabulationAnswer tabulation) ⌝ }
+{
+    match tabulation {
+        Tabulation::Accepted(counts) => accepted(
+            0,
+            counts.classes as u32,
+            counts.vertices as u32,
+            counts.edges as u32,
+            0,
+            0,
+            0,
+        ),
+        Tabulation::Refused(refusal) => refused(refusal),
+    }
+}
+
+pub fn of_seeding(seeding: Seeding) -> RaskjomiAnswer
+    requires { ⌜ SmallSeeding seeding ⌝ }
+    ensures { λ r. ⌜ r ≡ seedFields (seedingAnswer seeding) ⌝ }
+{
+    match seeding {
+        Seeding::Accepted(counts) => {
+            accepted(0, 0, counts.vertices as u32, counts.edges as u32, 0, 0, 0)
+        }
+        Seeding::Refused(refusal) => refused(refusal),
+    }
+}
+
+pub fn of_carrying(carrying: Carrying) -> RaskjomiAnswer
+    requires { ⌜ SmallCarrying carrying ⌝ }
+    ensures { λ r. ⌜ r ≡ carryFields (carryingAnswer carrying) ⌝ }
+{
+    match carrying {
+        Carrying::Accepted(counts) => accepted(
+            0,
+            0,
+            0,
+            0,
+            0,
+            counts.positions as u32,
+            counts.links as u32,
+        ),
+        Carrying::Refused(refusal) => refused(refusal),
+    }
+}
+
+pub fn of_class_carrying(carrying: ClassCarrying) -> RaskjomiAnswer
+    requires { ⌜ SmallClassCarrying carrying ⌝ }
+    ensures { λ r. ⌜ r ≡ classCarryFields (classCarryingAnswer carrying) ⌝ }
+{
+    match carrying {
+        ClassCarrying::Accepted(found) => accepted(
+            0,
+            found.classes as u32,
+            found.vertices as u32,
+            found.edges as u32,
+            0,
+            found.positions as u32,
+            found.links as u32,
+        ),
+        ClassCarrying::Refused(refusal) => refused(refusal),
+    }
+}
