@@ -16,6 +16,8 @@ pub struct RaskjomiAnswer {
     pub vertices: u32,
     pub edges: u32,
     pub different: u32,
+    pub positions: u32,
+    pub links: u32,
     pub place: usize,
 }
 
@@ -56,6 +58,26 @@ extern "C" {
         player: u32,
         plan: *const u16, plan_len: usize,
     ) -> RaskjomiAnswer;
+    fn raskjomi_carry(
+        game: *const u16, game_len: usize,
+        player: u32,
+        plan: *const u16, plan_len: usize,
+        vertex: u32,
+        marks: *mut u8, marks_len: usize,
+        spare: *mut u8, spare_len: usize,
+        output: *mut u16, output_len: usize,
+    ) -> RaskjomiAnswer;
+    fn raskjomi_carry_class(
+        game: *const u16, game_len: usize,
+        player: u32,
+        plan: *const u16, plan_len: usize,
+        vertex: u32,
+        marks: *mut u8, marks_len: usize,
+        spare: *mut u8, spare_len: usize,
+        classes: *mut u16, classes_len: usize,
+        reduction: *mut u16, reduction_len: usize,
+        output: *mut u16, output_len: usize,
+    ) -> RaskjomiAnswer;
     fn raskjomi_seed(
         seed: u32, vertices: u32, degree: u32, priorities: u32,
         output: *mut u16, output_len: usize,
@@ -64,12 +86,18 @@ extern "C" {
 }
 
 /// Calls an export with the slices that it reads, then those lent to it: each goes as a pointer, then
-/// a length.
+/// a length. A number goes between two slices.
 macro_rules! call {
-    ($export:ident; shared $($shared:ident),*; lent $($lent:ident),*) => {
+    ($export:ident; shared $($shared:ident $(then $number:ident)?),*; lent $($lent:ident),*) => {
         // SAFETY: each pointer and length are those of one live slice, the lent slices are borrowed
-        // for this call alone, and the exports are proved for slices of any length and content.
-        unsafe { $export($($shared.as_ptr(), $shared.len(),)* $($lent.as_mut_ptr(), $lent.len(),)*) }
+        // for this call alone, and the exports are proved for slices of any length and content, and
+        // for any number.
+        unsafe {
+            $export(
+                $($shared.as_ptr(), $shared.len(), $($number,)?)*
+                $($lent.as_mut_ptr(), $lent.len(),)*
+            )
+        }
     };
 }
 
@@ -122,8 +150,39 @@ pub fn reduce(
 
 /// The plan acceptor.
 pub fn accept_plan(game: &[u16], player: u32, plan: &[u16]) -> RaskjomiAnswer {
-    // SAFETY: as in `call!`; the player goes as a number between the two slices.
-    unsafe { raskjomi_accept_plan(game.as_ptr(), game.len(), player, plan.as_ptr(), plan.len()) }
+    call!(raskjomi_accept_plan; shared game then player, plan; lent)
+}
+
+/// The plan carried to another vertex.
+pub fn carry(
+    game: &[u16],
+    player: u32,
+    plan: &[u16],
+    vertex: u32,
+    marks: &mut [u8],
+    spare: &mut [u8],
+    output: &mut [u16],
+) -> RaskjomiAnswer {
+    call!(raskjomi_carry; shared game then player, plan then vertex; lent marks, spare, output)
+}
+
+/// The plan on the reduced game carried to a vertex of the game.
+#[allow(clippy::too_many_arguments)]
+pub fn carry_class(
+    game: &[u16],
+    player: u32,
+    plan: &[u16],
+    vertex: u32,
+    marks: &mut [u8],
+    spare: &mut [u8],
+    classes: &mut [u16],
+    reduction: &mut [u16],
+    output: &mut [u16],
+) -> RaskjomiAnswer {
+    call!(
+        raskjomi_carry_class; shared game then player, plan then vertex;
+        lent marks, spare, classes, reduction, output
+    )
 }
 
 /// A game by the seed.

@@ -7,9 +7,10 @@
 //! n priorities, n owners (0 [`EVEN`], 1 [`ODD`]), m sources and m targets. An edge may stand there
 //! several times; it counts as one, though m and all lengths count it each time. The library judges
 //! such tables, writes their direct simulation order, classes, quotient and reduced game, judges
-//! foreign relations and winning plans, and draws games by a seed. Every call works in memory that the
-//! caller lends, of any length and content. docs/CONTRACT.md in the repository has the definitions,
-//! each call's checks in order, every refusal, and what each buffer holds afterwards.
+//! foreign relations and winning plans, carries a plan to another vertex, and draws games by a seed.
+//! Every call works in memory that the caller lends, of any length and content. docs/CONTRACT.md in
+//! the repository has the definitions, each call's checks in order, every refusal, and what each buffer
+//! holds afterwards.
 //!
 //! ```
 //! // Three vertices with priorities 0, 1, 0 and owners Even, Even, Odd, and an edge from each to 1.
@@ -62,6 +63,25 @@ impl Size {
     }
 }
 
+/// The words of the longest plan: an output of so many takes every plan that a call writes.
+pub const MOST_PLAN_WORDS: usize = 36_866;
+
+/// The sizes of a plan.
+#[derive(Clone, Copy, Debug, PartialEq, Eq)]
+pub struct PlanSize {
+    /// The number p of positions, at most 4,096.
+    pub positions: usize,
+    /// The number l of links, at most 16,384.
+    pub links: usize,
+}
+
+impl PlanSize {
+    /// The words of a plan of this size: 2 + p + 2l.
+    pub fn words(&self) -> usize {
+        2 + self.positions + 2 * self.links
+    }
+}
+
 /// The answer if it accepts, else its refusal.
 fn verdict(answer: RaskjomiAnswer) -> Result<RaskjomiAnswer, Refusal> {
     match answer.number {
@@ -80,6 +100,11 @@ fn size(answer: RaskjomiAnswer, different: u32) -> Size {
 /// The size of a table that a call has written: each edge stands there once.
 fn written(answer: RaskjomiAnswer) -> Size {
     size(answer, answer.edges)
+}
+
+/// The size of a plan that a call has written.
+fn carried(answer: RaskjomiAnswer) -> PlanSize {
+    PlanSize { positions: answer.positions as usize, links: answer.links as usize }
 }
 
 /// Judges a game table.
@@ -204,6 +229,84 @@ pub fn reduce(
 /// ```
 pub fn accept_plan(game: &[u16], player: u32, plan: &[u16]) -> Result<(), Refusal> {
     verdict(exports::accept_plan(game, player, plan)).map(|_| ())
+}
+
+/// Carries a plan to another vertex: writes one that starts at `vertex`, and that [`accept_plan`]
+/// passes for the same player. For [`EVEN`] the vertex of the plan's position 0 must be below `vertex`,
+/// for [`ODD`] `vertex` below it. Gives the size of the plan written. An output of
+/// [`MOST_PLAN_WORDS`] always suffices; a shorter one may be refused with 35, whose place is the
+/// length needed. After 33 to 35, as after success, marks and spare hold the order as [`order()`]
+/// writes it.
+///
+/// ```
+/// // Vertices 0 and 5 share a class; 5 has an edge to 2 alone.
+/// let game = [
+///     6, 8, 2, 0, 0, 1, 4, 2, 0, 0, 0, 0, 0, 0, 0, 0, 1, 2, 2, 3, 4, 5, 1, 2, 3, 3, 4, 3, 4, 2,
+/// ];
+/// // From 0 to 2 to 4, and round at 4.
+/// let plan = [3, 3, 0, 2, 4, 0, 1, 2, 1, 2, 2];
+/// let (mut marks, mut spare, mut output) = ([0; 36], [0; 36], [0; raskjomi::MOST_PLAN_WORDS]);
+/// let size =
+///     raskjomi::carry(&game, raskjomi::EVEN, &plan, 5, &mut marks, &mut spare, &mut output)?;
+/// let carried = &output[..size.words()];
+/// assert_eq!(carried, [3, 3, 5, 2, 4, 0, 1, 2, 1, 2, 2]);
+/// raskjomi::accept_plan(&game, raskjomi::EVEN, carried)?;
+/// // No plan that starts at 0 can be carried to 4.
+/// let refusal =
+///     raskjomi::carry(&game, raskjomi::EVEN, &plan, 4, &mut marks, &mut spare, &mut output);
+/// assert_eq!(refusal, Err(raskjomi::Refusal { number: 33, place: 4 }));
+/// # Ok::<(), raskjomi::Refusal>(())
+/// ```
+pub fn carry(
+    game: &[u16],
+    player: u32,
+    plan: &[u16],
+    vertex: u32,
+    marks: &mut [u8],
+    spare: &mut [u8],
+    output: &mut [u16],
+) -> Result<PlanSize, Refusal> {
+    verdict(exports::carry(game, player, plan, vertex, marks, spare, output)).map(carried)
+}
+
+/// Carries a plan on the reduced game to a vertex of the game, as [`carry`] does; a class compares as
+/// its lowest member. Order, classes and the reduced game are written as [`reduce`] does, the latter
+/// into `reduction`, before the plan is judged; they stay after every later refusal. Gives the
+/// sizes of the reduced game and of the plan written.
+///
+/// ```
+/// let game = [
+///     6, 8, 2, 0, 0, 1, 4, 2, 0, 0, 0, 0, 0, 0, 0, 0, 1, 2, 2, 3, 4, 5, 1, 2, 3, 3, 4, 3, 4, 2,
+/// ];
+/// let size = raskjomi::read(&game)?;
+/// let (mut marks, mut spare) = (vec![0; size.marks()], vec![0; size.marks()]);
+/// let (mut classes, mut reduction) = (vec![0; size.vertices], vec![0; size.words()]);
+/// let mut output = vec![0; raskjomi::MOST_PLAN_WORDS];
+/// // From class 0 to class 2 to class 4, and round there.
+/// let plan = [3, 3, 0, 2, 4, 0, 1, 2, 1, 2, 2];
+/// let (reduced, carried) = raskjomi::carry_class(
+///     &game, raskjomi::EVEN, &plan, 5,
+///     &mut marks, &mut spare, &mut classes, &mut reduction, &mut output,
+/// )?;
+/// assert_eq!((reduced.vertices, reduced.edges), (5, 6));
+/// assert_eq!(output[..carried.words()], [3, 3, 5, 2, 4, 0, 1, 2, 1, 2, 2]);
+/// # Ok::<(), raskjomi::Refusal>(())
+/// ```
+#[allow(clippy::too_many_arguments)]
+pub fn carry_class(
+    game: &[u16],
+    player: u32,
+    plan: &[u16],
+    vertex: u32,
+    marks: &mut [u8],
+    spare: &mut [u8],
+    classes: &mut [u16],
+    reduction: &mut [u16],
+    output: &mut [u16],
+) -> Result<(Size, PlanSize), Refusal> {
+    let answer =
+        exports::carry_class(game, player, plan, vertex, marks, spare, classes, reduction, output);
+    verdict(answer).map(|answer| (written(answer), carried(answer)))
 }
 
 /// Draws a game by the seed, the same on every machine, and writes its table into the output: so many

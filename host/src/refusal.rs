@@ -3,7 +3,8 @@
 use crate::exports;
 use std::fmt;
 
-/// A call turned its input, or the memory lent to it, down. All lent memory has its old content.
+/// A call turned its input, or the memory lent to it, down. All lent memory has its old content, but for
+/// what [`carry`](crate::carry()) and [`carry_class`](crate::carry_class()) say of theirs.
 #[derive(Clone, Copy, Debug, PartialEq, Eq)]
 pub struct Refusal {
     /// Which condition failed.
@@ -125,6 +126,7 @@ pub fn explain(number: u32) -> Option<Explanation> {
         11..=16 => &PLAN[number as usize - 11],
         21..=24 => &MEMORY[number as usize - 21],
         31..=32 => &SEED[number as usize - 31],
+        33..=35 => &CARRY[number as usize - 33],
         _ => return None,
     };
     Some(*row)
@@ -236,5 +238,23 @@ const SEED: [Explanation; 2] = [
         "the output is too short for a game by the seed",
         "the length needed, 2 + 2n + 2 × n × degree words",
         "lend at least so many words",
+    ),
+];
+
+const CARRY: [Explanation; 3] = [
+    row(
+        "the vertex isn't there, or isn't in the order that the plan's start needs",
+        "the vertex",
+        "for Even name a vertex that the plan's start is below, for Odd one that is below the start",
+    ),
+    row(
+        "the carried plan has more than 4,096 positions or 16,384 links",
+        "always 0",
+        "carry a plan with fewer positions, as one of a positional strategy",
+    ),
+    row(
+        "the output is too short for the carried plan",
+        "the length needed, 2 + p + 2l words for its p positions and l links",
+        "lend at least so many words; 36,866 always suffice",
     ),
 ];

@@ -85,7 +85,8 @@ fn spaced<T: Display>(words: &[T]) -> String {
 
 fn sevens(marks: usize, spare: usize, classes: usize, output: usize) -> Memory {
     let (marks, spare) = (vec![7; marks], vec![7; spare]);
-    Memory { marks, spare, classes: vec![7; classes], output: vec![7; output] }
+    let (classes, output) = (vec![7; classes], vec![7; output]);
+    Memory { marks, spare, classes, output, ..Memory::default() }
 }
 
 /// 256 vertices and 4,096 edges: 16 from each vertex v, to v + 0, .., v + 15, modulo 256.

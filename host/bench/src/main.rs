@@ -16,23 +16,51 @@ struct Memory {
     marks: Vec<u8>,
     spare: Vec<u8>,
     classes: Vec<u16>,
+    /// The reduced game.
     output: Vec<u16>,
+    /// The plan that is carried.
+    plan: Vec<u16>,
 }
 
 /// A call that writes the reduced game.
 type Reduce = fn(&[u16], &mut [u8], &mut [u8], &mut [u16], &mut [u16]) -> RaskjomiAnswer;
 /// A call that judges a plan.
 type AcceptPlan = fn(&[u16], u32, &[u16]) -> RaskjomiAnswer;
+/// A call that carries a plan.
+type Carry = fn(&[u16], u32, &[u16], u32, &mut [u8], &mut [u8], &mut [u16]) -> RaskjomiAnswer;
+/// A call that carries a plan from the reduced game.
+type CarryClass = fn(
+    &[u16],
+    u32,
+    &[u16],
+    u32,
+    &mut [u8],
+    &mut [u8],
+    &mut [u16],
+    &mut [u16],
+    &mut [u16],
+) -> RaskjomiAnswer;
 
 impl Memory {
     fn for_game(game: &[u16]) -> Memory {
         let n = game[0] as usize;
         let (marks, classes) = (vec![0; n * n], vec![0; n]);
-        Memory { spare: marks.clone(), marks, classes, output: vec![0; game.len()] }
+        let (output, plan) = (vec![0; game.len()], vec![0; raskjomi::MOST_PLAN_WORDS]);
+        Memory { spare: marks.clone(), marks, classes, output, plan }
     }
 
     fn reduce(&mut self, side: usize, game: &[u16]) -> RaskjomiAnswer {
         REDUCE[side](game, &mut self.marks, &mut self.spare, &mut self.classes, &mut self.output)
+    }
+
+    /// Carries Even's plan to vertex 0, from the reduced game or within the game.
+    fn carry(&mut self, side: usize, game: &[u16], plan: &[u16], class: bool) -> RaskjomiAnswer {
+        let Memory { marks, spare, classes, output, plan: carried } = self;
+        if class {
+            CARRY_CLASS[side](game, raskjomi::EVEN, plan, 0, marks, spare, classes, output, carried)
+        } else {
+            CARRY[side](game, raskjomi::EVEN, plan, 0, marks, spare, carried)
+        }
     }
 }
 
@@ -44,6 +72,8 @@ const LIBRARY: usize = 0;
 const BASELINE: usize = 1;
 const REDUCE: [Reduce; 2] = [exports::reduce, baseline::reduce];
 const ACCEPT_PLAN: [AcceptPlan; 2] = [exports::accept_plan, baseline::accept_plan];
+const CARRY: [Carry; 2] = [exports::carry, baseline::carry];
+const CARRY_CLASS: [CarryClass; 2] = [exports::carry_class, baseline::carry_class];
 const SEED: [Seed; 2] = [exports::seed, baseline::seed];
 
 /// What a row shows.
@@ -79,6 +109,23 @@ fn plan_figures(game: Vec<u16>, plan: Vec<u16>) -> Figures {
     Figures { passes: None, times, stack }
 }
 
+fn carry_figures(game: Vec<u16>, plan: Vec<u16>, class: bool) -> Figures {
+    let mut memory = Memory::for_game(&game);
+    let [library, baseline] = [LIBRARY, BASELINE].map(|side| {
+        let answer = memory.carry(side, &game, &plan, class);
+        (answer, memory.clone())
+    });
+    assert!(library == baseline, "library and baseline differ");
+    assert_eq!((library.0.number, library.0.links), (0, 16_384), "as many links as there may be");
+    let mut other = memory.clone();
+    let times = measure::best_times(
+        || memory.carry(LIBRARY, &game, &plan, class).number,
+        || other.carry(BASELINE, &game, &plan, class).number,
+    );
+    let stack = measure::stack(move || memory.carry(LIBRARY, &game, &plan, class).number);
+    Figures { passes: None, times, stack }
+}
+
 fn seed_figures(numbers: [u32; 4], words: usize) -> Figures {
     let [seed, n, degree, priorities] = numbers;
     let call =
@@ -108,6 +155,8 @@ fn show(Row { name, game, work }: Row) -> f64 {
     let Figures { passes, times, stack } = match work {
         Work::Reduce => reduce_figures(game),
         Work::AcceptPlan(plan) => plan_figures(game, plan),
+        Work::Carry(plan) => carry_figures(game, plan, false),
+        Work::CarryClass(plan) => carry_figures(game, plan, true),
         Work::Seed(numbers) => seed_figures(numbers, game.len()),
     };
     let [library, baseline] = [times.0, times.1].map(|time| time.as_secs_f64() * 1e6);

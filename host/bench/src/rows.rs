@@ -1,6 +1,6 @@
 //! The benchmark's games.
 
-use generator::{chain, largest_plan, random, two_rings, Lcg};
+use generator::{chain, largest_plan, random, round_complete, round_of_loops, two_rings, Lcg};
 
 /// What a row calls.
 pub enum Work {
@@ -8,6 +8,10 @@ pub enum Work {
     Reduce,
     /// Even's plan.
     AcceptPlan(Vec<u16>),
+    /// Even's plan, carried to vertex 0.
+    Carry(Vec<u16>),
+    /// The same from the reduced game.
+    CarryClass(Vec<u16>),
     /// The game by a seed, of so many vertices, edges out of each, and priorities.
     Seed([u32; 4]),
 }
@@ -32,8 +36,21 @@ impl Row {
     }
 }
 
-/// All rows: random games, a chain, the largest plan, the largest game by a seed, and two rings with
-/// coprime lengths.
+/// Both ways to carry a plan on Odd's complete game of n vertices that goes round through so many
+/// positions. The classes are one, so there the round is of loops.
+fn carried(n: usize, round: usize) -> [Row; 2] {
+    let (game, plan) = round_complete(n, round.max(n), 0..round, 0);
+    let loops = round_of_loops(round, 0..round);
+    let row = |name: &str, work| Row {
+        name: format!("{name}, p {}", n * round),
+        game: game.words(),
+        work,
+    };
+    [row("carry", Work::Carry(plan.words())), row("carry_class", Work::CarryClass(loops.words()))]
+}
+
+/// All rows: random games, a chain, the largest plan, plans carried to the limits, the largest game by a
+/// seed, and two rings with coprime lengths.
 pub fn rows() -> Vec<Row> {
     let mut lcg = Lcg::new(2024);
     let mut rows = Vec::new();
@@ -47,6 +64,7 @@ pub fn rows() -> Vec<Row> {
     let (game, plan) = largest_plan(&mut lcg);
     let work = Work::AcceptPlan(plan.words());
     rows.push(Row { name: "largest plan".into(), game: game.words(), work });
+    rows.extend([carried(4, 1024), carried(64, 4)].into_iter().flatten());
     rows.push(Row::seed([1, 256, 16, 8]));
     rows.push(Row::reduce("rings 127 and 128", two_rings(127, 128)));
     rows

@@ -2,6 +2,7 @@
 //! winners. For tests and the benchmark only.
 #![forbid(unsafe_code)]
 
+mod carries;
 mod damage;
 mod families;
 mod lcg;
@@ -13,6 +14,7 @@ mod seeds;
 mod solver;
 mod table;
 
+pub use carries::{branching, crowded, opponents, round_complete, round_of_loops, round_plan};
 pub use damage::{damaged, damaged_often, REFUSALS};
 pub use families::{chain, complete, copies, forced_ring, random, two_rings};
 pub use lcg::Lcg;

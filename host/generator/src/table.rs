@@ -79,6 +79,14 @@ impl Table {
         self
     }
 
+    /// The game with the players exchanged: each owner is the other, and each priority one higher,
+    /// modulo 65,536.
+    pub fn exchanged(mut self) -> Table {
+        self.owners.iter_mut().for_each(|owner| *owner = 1 - *owner);
+        self.priorities.iter_mut().for_each(|priority| *priority = priority.wrapping_add(1));
+        self
+    }
+
     /// The game with each owner drawn anew.
     pub fn with_owners(mut self, lcg: &mut Lcg) -> Table {
         for owner in &mut self.owners {

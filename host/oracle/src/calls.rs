@@ -13,6 +13,8 @@ pub struct Answer {
     pub vertices: u32,
     pub edges: u32,
     pub different: u32,
+    pub positions: u32,
+    pub links: u32,
     pub place: usize,
 }
 
@@ -29,6 +31,8 @@ pub struct Memory {
     pub marks: Vec<u8>,
     pub spare: Vec<u8>,
     pub classes: Vec<u16>,
+    /// The reduced game, for the call that carries a plan from it.
+    pub reduction: Vec<u16>,
     pub output: Vec<u16>,
 }
 
@@ -44,9 +48,17 @@ pub(crate) fn refuse_if(test: bool, number: u32, place: usize) -> Result<(), Ref
 
 /// Which of the two tables a call writes.
 #[derive(Clone, Copy, PartialEq, Eq)]
-enum Output {
+pub(crate) enum Output {
     Quotient,
     Reduced,
+}
+
+/// What a call that writes a table has worked out.
+pub(crate) struct Tabulated {
+    pub order: Relation,
+    pub classes: Classes,
+    pub table: Game,
+    pub counts: Answer,
 }
 
 impl Oracle {
@@ -93,7 +105,7 @@ impl Oracle {
     /// The plan acceptor.
     pub fn accept_plan(&self, game: &[u16], player: u32, plan: &[u16]) -> Answer {
         let verdict = self.game(game).and_then(|game| self.judge_plan(&game, player, plan));
-        self.answer(verdict.map(|()| Answer::default()))
+        self.answer(verdict.map(|_| Answer::default()))
     }
 
     /// The kind of a refusal number.
@@ -113,12 +125,18 @@ impl Oracle {
 
     fn table(&self, game: &[u16], memory: &mut Memory, wanted: Output) -> Answer {
         let game = self.checked(game, memory, 4);
-        self.answer(game.and_then(|game| self.write_table(&game, memory, wanted)))
+        let written = game.and_then(|game| self.write_table(&game, memory, wanted));
+        self.answer(written.map(|written| written.counts))
     }
 
     /// The game, if the reader takes it and the first `buffers` of the lent memory are long enough:
     /// the reader's refusals, then 21 to 24 as far as the call goes.
-    fn checked(&self, game: &[u16], memory: &mut Memory, buffers: usize) -> Result<Game, Refusal> {
+    pub(crate) fn checked(
+        &self,
+        game: &[u16],
+        memory: &mut Memory,
+        buffers: usize,
+    ) -> Result<Game, Refusal> {
         let game = self.game(game)?;
         let n = game.n();
         let needed = [n * n, n * n, n, self.output_words(&game)];
@@ -142,7 +160,7 @@ impl Oracle {
         }
     }
 
-    fn write_order(&self, game: &Game, memory: &mut Memory) -> (Relation, u32) {
+    pub(crate) fn write_order(&self, game: &Game, memory: &mut Memory) -> (Relation, u32) {
         let (order, passes) = self.order_of(game);
         self.write(&mut memory.marks, &order.bytes());
         if !self.falls_for(Trap::SpareLeftOld) {
@@ -161,12 +179,12 @@ impl Oracle {
         (order, classes, counts)
     }
 
-    fn write_table(
+    pub(crate) fn write_table(
         &self,
         game: &Game,
         memory: &mut Memory,
         wanted: Output,
-    ) -> Result<Answer, Refusal> {
+    ) -> Result<Tabulated, Refusal> {
         let mut after = memory.clone();
         let (order, classes, counts) = self.write_classes(game, &mut after);
         let mut table = self.quotient_of(game, &classes);
@@ -179,7 +197,8 @@ impl Oracle {
         *memory = after;
         let Answer { vertices, edges, .. } = self.table_counts(&table);
         let different = if self.falls_for(Trap::DifferentEverywhere) { edges } else { 0 };
-        Ok(Answer { vertices, edges, different, ..counts })
+        let counts = Answer { vertices, edges, different, ..counts };
+        Ok(Tabulated { order, classes, table, counts })
     }
 
     pub(crate) fn table_counts(&self, game: &Game) -> Answer {

@@ -4,26 +4,26 @@
 use crate::calls::{refuse_at, refuse_if};
 use crate::{Game, Oracle, Refusal, Trap};
 
-const MOST_POSITIONS: usize = 4096;
-const MOST_LINKS: usize = 16384;
+pub(crate) const MOST_POSITIONS: usize = 4096;
+pub(crate) const MOST_LINKS: usize = 16384;
 
 /// A plan whose words are in range.
-struct Plan {
+pub(crate) struct Plan {
     /// The vertex of each position.
-    vertex: Vec<usize>,
+    pub vertex: Vec<usize>,
     links: Vec<(usize, usize)>,
-    /// The targets of the links of each position.
-    next: Vec<Vec<usize>>,
+    /// The targets of the links of each position, in the sequence of the table.
+    pub next: Vec<Vec<usize>>,
 }
 
 impl Oracle {
-    /// Judges a plan for a player: refusals 11 to 16, in order.
+    /// The plan, if it wins for the player: refusals 11 to 16, in order.
     pub(crate) fn judge_plan(
         &self,
         game: &Game,
         player: u32,
         words: &[u16],
-    ) -> Result<(), Refusal> {
+    ) -> Result<Plan, Refusal> {
         refuse_if(player > 1, 11, 0)?;
         let plan = self.plan(game, words)?;
         let along =
@@ -34,7 +34,8 @@ impl Oracle {
         let lacking = |i: &usize| judged[*i] && self.lacks_link(game, player, &plan, *i);
         refuse_at((0..plan.vertex.len()).find(lacking), 15)?;
         let bad = |i: &usize| judged[*i] && self.starts_bad_walk(game, player, &plan, *i);
-        refuse_at((0..plan.vertex.len()).find(bad), 16)
+        refuse_at((0..plan.vertex.len()).find(bad), 16)?;
+        Ok(plan)
     }
 
     /// Refusals 12 and 13.

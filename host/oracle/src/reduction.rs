@@ -18,7 +18,7 @@ impl Classes {
     }
 
     /// The member that stands for the class in every comparison.
-    fn lowest(&self, class: usize) -> usize {
+    pub(crate) fn lowest(&self, class: usize) -> usize {
         self.members[class][0]
     }
 }

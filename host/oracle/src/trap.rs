@@ -89,6 +89,37 @@ pub enum Trap {
     /// The plan is judged for Even whoever the player is.
     PlayerFixed,
 
+    /// From the opponent's vertex to the player's, the first link that keeps decides, then the vertex.
+    LinksBeforeVertices,
+    /// Odd's vertices count as Even's where Odd's plan is carried, and Even's as Odd's.
+    OwnExchangedForOdd,
+    /// The start must be below the vertex for Odd too.
+    OrderNotTurnedForOdd,
+    /// An own move follows the last link.
+    LastOwnLink,
+    /// The last link that keeps answers the opponent.
+    LastKeepingLink,
+    /// At own vertices the highest successor that keeps is taken.
+    HighestSuccessor,
+    /// A pair found last is followed first.
+    DepthFirst,
+    /// A repeated edge gives as many links.
+    RepeatGivesLinks,
+    /// The lengths are checked after the plan.
+    PlanBeforeLengths,
+    /// The order is written before the plan is judged.
+    OrderBeforePlan,
+    /// The order isn't written before a refusal of the carrying.
+    OldAfterCarrying,
+    /// The output is written as far as it goes before its length is checked.
+    OutputBeforeLength,
+    /// The number of links has no limit of its own.
+    LinksUnlimited,
+    /// The vertex is held to the number of classes.
+    VertexAmongClasses,
+    /// The plan is judged on the quotient game.
+    PlanOnQuotient,
+
     /// The output's length is checked before the numbers' ranges.
     LengthBeforeRange,
     /// A vertex draws its owner before its priority.
@@ -112,7 +143,7 @@ pub enum Trap {
 
 impl Trap {
     /// Every trap, those of document 01 first.
-    pub const ALL: [Trap; 49] = [
+    pub const ALL: [Trap; 64] = [
         Trap::SomeMemberHasEdge,
         Trap::LittleBrothersByProse,
         Trap::MixedRowsExchanged,
@@ -153,6 +184,21 @@ impl Trap {
         Trap::HighestDecides,
         Trap::LowestOnWalk,
         Trap::PlayerFixed,
+        Trap::LinksBeforeVertices,
+        Trap::OwnExchangedForOdd,
+        Trap::OrderNotTurnedForOdd,
+        Trap::LastOwnLink,
+        Trap::LastKeepingLink,
+        Trap::HighestSuccessor,
+        Trap::DepthFirst,
+        Trap::RepeatGivesLinks,
+        Trap::PlanBeforeLengths,
+        Trap::OrderBeforePlan,
+        Trap::OldAfterCarrying,
+        Trap::OutputBeforeLength,
+        Trap::LinksUnlimited,
+        Trap::VertexAmongClasses,
+        Trap::PlanOnQuotient,
         Trap::LengthBeforeRange,
         Trap::OwnerBeforePriority,
         Trap::LastVertexNoTarget,

@@ -2,8 +2,8 @@
 
 mod games;
 
-use games::{B, C, D, TABLES};
-use oracle::{Answer, Memory, Oracle};
+use games::{Carried, B, C, CARRIED, D, TABLES};
+use oracle::{Answer, Memory, Oracle, Trap};
 
 /// A game of n vertices, each with the first m / n vertices as successors.
 fn regular(n: usize, m: usize) -> Vec<u16> {
@@ -25,6 +25,7 @@ fn memory_for(game: &[u16]) -> Memory {
         marks: vec![7; n * n],
         spare: vec![7; n * n],
         classes: vec![7; n],
+        reduction: vec![7; game.len()],
         output: vec![7; game.len()],
     }
 }
@@ -187,6 +188,71 @@ fn games_by_the_seed() {
     Oracle::exact().seed([1, 3, 2, 4], &mut memory);
     let table = [3, 6, 0, 0, 0, 0, 0, 1, 0, 0, 1, 1, 2, 2, 1, 1, 2, 0, 0, 2];
     assert_eq!(memory.output, table);
+}
+
+/// A carried plan's answer, and the words of its output; those beyond are old.
+fn carried(oracle: Oracle, row: &Carried) -> (Answer, Vec<u16>) {
+    let Carried { class, game, player, plan, vertex, .. } = *row;
+    let carry = if class { Oracle::carry_class } else { Oracle::carry };
+    let mut memory = Memory { output: vec![7; 40], ..memory_for(game) };
+    let answer = carry(&oracle, game, player, plan, vertex, &mut memory);
+    (answer, memory.output)
+}
+
+#[test]
+fn carried_plans_word_by_word() {
+    for row in &CARRIED {
+        let (answer, output) = carried(Oracle::exact(), row);
+        let [positions, links] = [row.words[0], row.words[1]].map(u32::from);
+        let (classes, edges) = if row.class { (5, 6) } else { (0, 0) };
+        let sizes = Answer { classes, vertices: classes, edges, ..Answer::default() };
+        assert_eq!(answer, Answer { positions, links, ..sizes });
+        let (written, beyond) = output.split_at(row.words.len());
+        assert_eq!(written, row.words);
+        assert!(beyond.iter().all(|&word| word == 7));
+        assert_eq!(Oracle::exact().accept_plan(row.game, row.player, written), Answer::default());
+    }
+}
+
+#[test]
+fn carried_plans_tell_each_trap() {
+    let rows = [
+        (Trap::LinksBeforeVertices, 0),
+        (Trap::LastKeepingLink, 1),
+        (Trap::DepthFirst, 1),
+        (Trap::RepeatGivesLinks, 2),
+        (Trap::HighestSuccessor, 3),
+        (Trap::OwnExchangedForOdd, 4),
+        (Trap::LastOwnLink, 5),
+        (Trap::OrderNotTurnedForOdd, 6),
+        (Trap::VertexAmongClasses, 7),
+    ];
+    for (trap, row) in rows {
+        let row = &CARRIED[row];
+        assert_ne!(carried(Oracle::with(trap), row), carried(Oracle::exact(), row), "{trap:?}");
+    }
+}
+
+#[test]
+fn refusals_to_carry() {
+    let row = &CARRIED[6];
+    let refuse = |plan, vertex, output: usize| {
+        let mut memory = Memory { output: vec![7; output], ..memory_for(row.game) };
+        let answer = Oracle::exact().carry(row.game, row.player, plan, vertex, &mut memory);
+        assert!(memory.output.iter().all(|&word| word == 7));
+        // 0 is below 1, and each vertex below itself.
+        let order = [1, 1, 0, 0, 0, 1, 0, 0, 0, 0, 1, 0, 0, 0, 0, 1];
+        let held = if answer.number > 32 { order } else { [7; 16] };
+        assert_eq!((&memory.marks[..], &memory.spare[..]), (&held[..], &held[..]));
+        answer
+    };
+    assert_eq!(refuse(row.plan, 4, 8), refused(33, 4));
+    assert_eq!(refuse(row.plan, 3, 8), refused(33, 3));
+    assert_eq!(refuse(row.plan, 0, 7), refused(35, 8));
+    // Odd goes from 0 to 3, too, but 1 isn't below 0.
+    assert_eq!(refuse(&[2, 2, 0, 3, 0, 1, 1, 1], 1, 8), refused(33, 1));
+    assert_eq!(refuse(&row.plan[..7], 4, 0), refused(12, 0));
+    assert_eq!(refuse(&[2, 2, 0, 2, 0, 1, 1, 1], 0, 0), refused(16, 1));
 }
 
 #[test]

@@ -123,6 +123,7 @@ fn winners_are_those_of_the_reduced_game() {
             spare: vec![0; n * n],
             classes: vec![0; n],
             output: vec![0; table.words().len()],
+            ..Memory::default()
         };
         assert_eq!(exact().reduce(&table.words(), &mut memory).number, 0);
         let (before, after) = (solve(&table), solve(&Table::from_words(&memory.output)));

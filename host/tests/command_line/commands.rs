@@ -1,7 +1,7 @@
 //! Each command and each output form.
 
 use crate::common::root;
-use crate::games::{B, C, D, TABLES};
+use crate::games::{B, C, CARRIED, D, TABLES};
 use crate::run::{bytes, file, numbers, run, run_on, shipped, words};
 use oracle::{Memory, Oracle};
 use std::process::Command;
@@ -17,7 +17,8 @@ fn expected(command: &str, name: &str) -> Memory {
     let game = shipped(name);
     let n = game[0] as usize;
     let (marks, classes) = (vec![0; n * n], vec![0; n]);
-    let mut memory = Memory { spare: marks.clone(), marks, classes, output: vec![0; game.len()] };
+    let (spare, output) = (marks.clone(), vec![0; game.len()]);
+    let mut memory = Memory { marks, spare, classes, output, ..Memory::default() };
     let answer = match command {
         "quotient" => Oracle::exact().quotient(&game, &mut memory),
         _ => Oracle::exact().reduce(&game, &mut memory),
@@ -204,8 +205,51 @@ fn shipped_plans_win() {
 }
 
 #[test]
+fn carried_plans() {
+    for row in &CARRIED {
+        let game = file("carried-game.bin", &bytes(row.game));
+        let plan = file("carried-plan.bin", &bytes(row.plan));
+        let (player, name) = [("even", "Even"), ("odd", "Odd")][row.player as usize];
+        let (vertex, start) = (row.vertex.to_string(), row.plan[2]);
+        let mut line = vec!["carry", &game, &plan, "--player", player, "--vertex", &vertex];
+        line.extend(row.class.then_some("--class"));
+        let text = run(&line).text();
+        assert_eq!(numbers(&text), row.words);
+        let origin = if row.class { " of the reduced game" } else { "" };
+        let sentence = format!(
+            "# This plan wins for {name} from vertex {vertex} of {game}, \
+             carried from vertex {start}{origin}.\n# positions, links\n"
+        );
+        assert!(text.starts_with(&sentence), "{text}");
+        let binary = run(&[&line[..], &["--as", "words"]].concat()).bytes();
+        assert_eq!(words(&binary), row.words);
+        for carried in [text.as_bytes(), &binary] {
+            let judged = run_on(&["check-plan", &game, "-", "--player", player], carried);
+            assert_eq!(judged.text(), "accepted\n", "the plan goes on to the acceptor");
+        }
+    }
+}
+
+#[test]
+fn carried_plans_from_standard_input() {
+    let carry = |game, plan, input: &[u8], options: &[&str]| {
+        let line = ["carry", game, plan, "--player=even", "--vertex=5"];
+        numbers(&run_on(&[&line, options].concat(), input).text())
+    };
+    let [game, plan] = ["d.txt", "c.plan.txt"].map(|name| bytes(&shipped(name)));
+    let carried = [3, 3, 5, 2, 4, 0, 1, 2, 1, 2, 2];
+    for options in [&[][..], &["--class"]] {
+        assert_eq!(carry("-", "games/c.plan.txt", &game, options), carried);
+        assert_eq!(carry("games/d.txt", "-", &plan, options), carried);
+    }
+    let back = ["carry", "games/d.txt", "-", "--player", "even", "--vertex", "0"];
+    let text = run_on(&back, b"3 3 / 5 2 4 / 0 1 2 / 1 2 2").text();
+    assert_eq!(numbers(&text), shipped("c.plan.txt"), "and back");
+}
+
+#[test]
 fn explain_each_number() {
-    for number in (1..=16).chain(21..=24).chain(31..=32) {
+    for number in (1..=16).chain(21..=24).chain(31..=35) {
         let text = run(&["explain", &number.to_string()]).text();
         let about = if number < 31 { "the " } else { "a later addition\n" };
         assert!(text.starts_with(&format!("refusal {number}, about {about}")), "{text}");
@@ -233,7 +277,7 @@ fn help_of_each_command_has_an_example_that_runs() {
     assert_eq!(run(&["help"]).text(), overview);
     let listed: Vec<&str> =
         overview.lines().filter_map(|line| line.strip_prefix("  ")?.split(' ').next()).collect();
-    assert_eq!(listed.len(), 10, "{listed:?}");
+    assert_eq!(listed.len(), 11, "{listed:?}");
     for command in listed {
         let help = run(&[command, "--help"]).text();
         assert_eq!(run(&["help", command]).text(), help);

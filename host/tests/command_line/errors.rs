@@ -35,16 +35,37 @@ fn commands_and_options() {
 fn numbers() {
     bad(&["explain"], &["arguments: 0 instead of 1"]);
     bad(&["explain", "-1"], &["no option -1"]);
-    for word in ["17", "0", "33", "x", "+8", "65544"] {
+    for word in ["17", "0", "36", "x", "+8", "65544"] {
         bad(
             &["explain", word],
-            &[&format!("`{word}` is no refusal number"), "1 to 16, 21 to 24, 31 and 32"],
+            &[&format!("`{word}` is no refusal number"), "1 to 16, 21 to 24 and 31 to 35"],
         );
     }
     for vertex in ["3", "x", "-1", "+1", ""] {
         let parts = [&*format!("no vertex `{vertex}`"), "from 0 to 2"];
         bad(&["report", "games/b.txt", "--vertex", vertex], &parts);
     }
+}
+
+#[test]
+fn plans_to_carry() {
+    let line = ["carry", "games/d.txt", "games/c.plan.txt"];
+    let with = |options: &[&str], parts: &[&str]| bad(&[&line, options].concat(), parts);
+    with(&["--player=even"], &["no vertex; write --vertex"]);
+    with(&["--vertex=5"], &["no player; write --player even"]);
+    with(&["--vertex=5", "--player=both"], &["no player `both`"]);
+    for word in ["x", "", "-1", "+1", "4294967296"] {
+        let parts = [&*format!("no vertex `{word}`"), "count from 0"];
+        with(&["--player=even", "--vertex", word], &parts);
+    }
+    with(&["--player=even", "--vertex=5", "--as=dot"], &["carry: no form `dot`", "--as words\n"]);
+    with(&["--player=even", "--vertex=5", "--class=0"], &["--class takes no value"]);
+    with(&["more"], &["arguments: 3 instead of 2", "usage: raskjomi carry GAME PLAN --player"]);
+    bad(&["carry", "-", "-", "--player=odd", "--vertex=0"], &["both inputs", "name a file"]);
+    bad(
+        &["carry", "games/d.txt", "none", "--player=odd", "--vertex=0"],
+        &["none: ", "name a file"],
+    );
 }
 
 #[test]

@@ -98,6 +98,50 @@ fn plans() {
     );
 }
 
+/// Carrying the plan is refused with the verdict; the message has the place and the remedy.
+fn not_carried(game: &str, plan: &str, options: &[&str], verdict: &str, parts: &[&str]) {
+    let line = ["carry", game, plan, "--player", "even"];
+    let refused = format!(": refused {verdict}: ");
+    let parts = [&[&*refused], parts].concat();
+    assert_eq!(run(&[&line, options].concat()).fails(1, &parts), "", "no plan is written");
+}
+
+#[test]
+fn vertices_that_a_plan_is_not_carried_to() {
+    for class in [&[][..], &["--class"]] {
+        let to = |vertex, parts: &[&str]| {
+            let options = [&["--vertex", vertex], class].concat();
+            let verdict = format!("33 at {vertex}");
+            let remedy = ["; for Even name a vertex that the plan's start is below"];
+            let parts = [parts, &remedy].concat();
+            not_carried("games/d.txt", "games/c.plan.txt", &options, &verdict, &parts);
+        };
+        let of = if class.is_empty() { "" } else { " of the reduced game" };
+        let start = format!("games/c.plan.txt: line 3, word 1 (the plan starts at vertex 0{of})");
+        to("4", &["games/d.txt: vertex 4; ", &start]);
+        for vertex in ["6", "65541", "4294967295"] {
+            to(vertex, &[&format!("games/d.txt: vertex {vertex} (its vertices are 0 to 5)")]);
+        }
+    }
+}
+
+#[test]
+fn plans_that_are_not_carried() {
+    let bad = file("not-carried.txt", b"2 2 / 0 2\n0 1\n1 0");
+    let place = "not-carried.txt: line 2, word 2 (link 1, from vertex 2 to 0)";
+    not_carried("games/d.txt", &bad, &["--vertex=5"], "14 at 1", &[&format!("{place}: ")]);
+    let reduced = format!("{place}, on the reduced game: ");
+    not_carried("games/d.txt", &bad, &["--vertex=5", "--class"], "14 at 1", &[&reduced]);
+    let game = file("not-carried-game.txt", b"1 1 / 0 2 / 0 0");
+    let parts = ["not-carried-game.txt: line 1, word 4 (owner 2): "];
+    not_carried(&game, "games/c.plan.txt", &["--vertex=0"], "5 at 3", &parts);
+    let many = generator::opponents(generator::complete(64), 0);
+    let many = file("many.bin", &bytes(&many.words()));
+    let round = file("round.txt", b"5 5 / 0 0 0 0 0 / 0 1 2 3 4 / 1 2 3 4 0");
+    let parts = ["round.txt, carried to vertex 63: ", "; carry a plan with fewer positions"];
+    not_carried(&many, &round, &["--vertex=63", "--class"], "34 at 0", &parts);
+}
+
 #[test]
 fn games_by_the_seed() {
     for numbers in [["0", "2", "4"], ["257", "2", "4"], ["3", "17", "4"], ["3", "2", "65536"]] {

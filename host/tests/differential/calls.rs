@@ -2,7 +2,8 @@
 
 use oracle::{Answer, Memory, Oracle};
 use raskjomi::exports::{self, RaskjomiAnswer};
-use raskjomi::{Refusal, Size};
+use raskjomi::{PlanSize, Refusal, Size};
+use std::ops::RangeInclusive;
 
 /// A call of the library.
 #[derive(Clone, Copy, Debug, PartialEq, Eq, PartialOrd, Ord)]
@@ -14,6 +15,8 @@ pub enum Call {
     Quotient,
     Reduce,
     AcceptPlan,
+    Carry,
+    CarryClass,
     Seed,
 }
 
@@ -28,25 +31,29 @@ impl Call {
         Call::Reduce,
     ];
 
+    /// The calls that carry a plan.
+    pub const CARRYING: [Call; 2] = [Call::Carry, Call::CarryClass];
+
     /// Every call with an answer.
     pub fn all() -> impl Iterator<Item = Call> {
-        Call::ON_MEMORY.into_iter().chain([Call::AcceptPlan, Call::Seed])
+        let others = [Call::AcceptPlan, Call::Seed];
+        Call::ON_MEMORY.into_iter().chain(Call::CARRYING).chain(others)
     }
 
     /// The refusals that docs/CONTRACT.md gives the call.
     pub fn refusals(self) -> Vec<u32> {
-        let own = match self {
+        let own: &[RangeInclusive<u32>] = match self {
             Call::Seed => return vec![31, 32],
-            Call::Read => 0..=0,
-            Call::Order => 21..=22,
-            Call::AcceptRelation => 9..=10,
-            Call::Classes => 21..=23,
-            Call::Quotient | Call::Reduce => 21..=24,
-            Call::AcceptPlan => 11..=16,
+            Call::Read => &[],
+            Call::Order => &[21..=22],
+            Call::AcceptRelation => &[9..=10, 21..=21],
+            Call::Classes => &[21..=23],
+            Call::Quotient | Call::Reduce => &[21..=24],
+            Call::AcceptPlan => &[11..=16],
+            Call::Carry => &[11..=16, 21..=22, 33..=35],
+            Call::CarryClass => &[11..=16, 21..=24, 33..=35],
         };
-        let of_marks = (self == Call::AcceptRelation).then_some(21);
-        let own = own.chain(of_marks).filter(|&number| number != 0);
-        generator::REFUSALS.into_iter().chain(own).collect()
+        generator::REFUSALS.into_iter().chain(own.iter().cloned().flatten()).collect()
     }
 }
 
@@ -58,6 +65,8 @@ pub struct Case {
     pub memory: Memory,
     pub player: u32,
     pub plan: Vec<u16>,
+    /// Where the plan is carried to.
+    pub vertex: u32,
     /// A seed, and the numbers of vertices, of edges out of each, and of priorities.
     pub seed: [u32; 4],
 }
@@ -72,13 +81,27 @@ pub struct Outcome {
 impl Case {
     /// A call on a game and memory.
     pub fn on_memory(call: Call, game: &[u16], memory: Memory) -> Case {
-        Case { call, game: game.to_vec(), memory, player: 0, plan: vec![], seed: [0; 4] }
+        let game = game.to_vec();
+        Case { call, game, memory, player: 0, plan: vec![], vertex: 0, seed: [0; 4] }
     }
 
     /// The judgement of a plan.
     pub fn of_plan(game: &[u16], player: u32, plan: Vec<u16>) -> Case {
         let case = Case::on_memory(Call::AcceptPlan, game, Memory::default());
         Case { player, plan, ..case }
+    }
+
+    /// The carrying of a plan to a vertex.
+    pub fn of_carrying(
+        call: Call,
+        game: &[u16],
+        player: u32,
+        plan: &[u16],
+        vertex: u32,
+        memory: Memory,
+    ) -> Case {
+        let case = Case::on_memory(call, game, memory);
+        Case { player, plan: plan.to_vec(), vertex, ..case }
     }
 
     /// The drawing of a game into an output.
@@ -98,6 +121,10 @@ impl Case {
             Call::Quotient => oracle.quotient(game, &mut memory),
             Call::Reduce => oracle.reduce(game, &mut memory),
             Call::AcceptPlan => oracle.accept_plan(game, self.player, &self.plan),
+            Call::Carry => oracle.carry(game, self.player, &self.plan, self.vertex, &mut memory),
+            Call::CarryClass => {
+                oracle.carry_class(game, self.player, &self.plan, self.vertex, &mut memory)
+            }
             Call::Seed => oracle.seed(self.seed, &mut memory),
         };
         Outcome { answer, memory }
@@ -111,7 +138,9 @@ impl Case {
             (Guarded::new(&self.memory.marks), Guarded::new(&self.memory.spare));
         let (mut classes, mut output) =
             (Guarded::new(&self.memory.classes), Guarded::new(&self.memory.output));
+        let mut reduction = Guarded::new(&self.memory.reduction);
         let (m, s, c, o) = (marks.lend(), spare.lend(), classes.lend(), output.lend());
+        let (r, player, plan, vertex) = (reduction.lend(), self.player, &self.plan, self.vertex);
         let answer = match self.call {
             Call::Read => exports::read(game),
             Call::Order => exports::order(game, m, s),
@@ -119,13 +148,16 @@ impl Case {
             Call::Classes => exports::classes(game, m, s, c),
             Call::Quotient => exports::quotient(game, m, s, c, o),
             Call::Reduce => exports::reduce(game, m, s, c, o),
-            Call::AcceptPlan => exports::accept_plan(game, self.player, &self.plan),
+            Call::AcceptPlan => exports::accept_plan(game, player, plan),
+            Call::Carry => exports::carry(game, player, plan, vertex, m, s, o),
+            Call::CarryClass => exports::carry_class(game, player, plan, vertex, m, s, c, r, o),
             Call::Seed => exports::seed(seed, n, degree, priorities, o),
         };
         let memory = Memory {
             marks: marks.content(),
             spare: spare.content(),
             classes: classes.content(),
+            reduction: reduction.content(),
             output: output.content(),
         };
         Outcome { answer: plain(answer), memory }
@@ -134,7 +166,8 @@ impl Case {
     /// The counts that the safe function hands on, or its refusal, as an answer.
     pub fn safe_answer(&self) -> Answer {
         let (game, mut memory) = (&self.game[..], self.memory.clone());
-        let Memory { marks, spare, classes, output } = &mut memory;
+        let Memory { marks, spare, classes, reduction, output } = &mut memory;
+        let (player, plan, vertex) = (self.player, &self.plan, self.vertex);
         let of_size = |Size { vertices, edges, different }| Answer {
             vertices: vertices as u32,
             edges: edges as u32,
@@ -146,6 +179,15 @@ impl Case {
             Answer { classes: size.vertices as u32, different: 0, ..of_size(size) }
         };
         let of_seed = |(vertices, edges)| of_size(Size { vertices, edges, different: 0 });
+        let of_plan = |PlanSize { positions, links }| Answer {
+            positions: positions as u32,
+            links: links as u32,
+            ..Answer::default()
+        };
+        let of_both = |(size, plan)| {
+            let Answer { positions, links, .. } = of_plan(plan);
+            Answer { positions, links, ..of_table(size) }
+        };
         let of_classes = |classes| Answer { classes: classes as u32, ..Answer::default() };
         let verdict = match self.call {
             Call::Read => raskjomi::read(game).map(of_size),
@@ -158,8 +200,15 @@ impl Case {
             Call::Quotient => raskjomi::quotient(game, marks, spare, classes, output).map(of_table),
             Call::Reduce => raskjomi::reduce(game, marks, spare, classes, output).map(of_table),
             Call::AcceptPlan => {
-                raskjomi::accept_plan(game, self.player, &self.plan).map(|()| Answer::default())
+                raskjomi::accept_plan(game, player, plan).map(|()| Answer::default())
             }
+            Call::Carry => {
+                raskjomi::carry(game, player, plan, vertex, marks, spare, output).map(of_plan)
+            }
+            Call::CarryClass => raskjomi::carry_class(
+                game, player, plan, vertex, marks, spare, classes, reduction, output,
+            )
+            .map(of_both),
             Call::Seed => {
                 let [seed, n, degree, priorities] = self.seed;
                 raskjomi::seed(seed, n, degree, priorities, output).map(of_seed)
@@ -171,8 +220,18 @@ impl Case {
 }
 
 fn plain(answer: RaskjomiAnswer) -> Answer {
-    let RaskjomiAnswer { number, passes, classes, vertices, edges, different, place } = answer;
-    Answer { number, passes, classes, vertices, edges, different, place }
+    let RaskjomiAnswer {
+        number,
+        passes,
+        classes,
+        vertices,
+        edges,
+        different,
+        positions,
+        links,
+        place,
+    } = answer;
+    Answer { number, passes, classes, vertices, edges, different, positions, links, place }
 }
 
 /// A buffer inside a larger one whose ends must stay as they are.

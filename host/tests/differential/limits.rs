@@ -1,7 +1,8 @@
 //! The largest sizes, and one beyond them.
 
 use crate::calls::{Call, Case};
-use generator::{chain, complete, largest_plan, random, two_rings, Lcg, Table};
+use crate::carries::{room, round};
+use generator::{chain, complete, largest_plan, opponents, random, two_rings, Lcg, Table};
 use oracle::{Memory, Oracle};
 
 /// Memory of the exact lengths.
@@ -12,6 +13,7 @@ pub fn exact_memory(table: &Table) -> Memory {
         spare: vec![8; n * n],
         classes: vec![7; n],
         output: vec![6; table.words().len()],
+        ..Memory::default()
     }
 }
 
@@ -38,6 +40,14 @@ pub fn largest_cases() -> Vec<Case> {
     }
     let (table, plan) = largest_plan(&mut Lcg::new(78));
     cases.extend([0, 1].map(|player| Case::of_plan(&table.words(), player, plan.words())));
+    // Carried, these plans have as many links as there may be, the first also as many positions.
+    for (n, positions, around) in [(4, 1024, 0..1024), (64, 64, 0..4)] {
+        let table = opponents(complete(n), 0);
+        for call in Call::CARRYING {
+            let plan = round(call, &table, positions, around.clone()).words();
+            cases.push(Case::of_carrying(call, &table.words(), 0, &plan, 1, room(&table)));
+        }
+    }
     cases.push(Case::of_seed([7, 256, 16, 65_535], vec![6; 8706]));
     cases
 }

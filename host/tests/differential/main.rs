@@ -6,6 +6,7 @@ mod common;
 
 mod agreement;
 mod calls;
+mod carries;
 mod limits;
 mod repeats;
 mod samples;

@@ -1,11 +1,17 @@
 //! Cases from a seed.
 
 use crate::calls::{Call, Case};
+use crate::carries::{of_both, plan_words, room, round, Origin};
 use generator::{
-    any_game, bent_plan, damaged, damaged_often, old_bytes, old_words, relation, seed_numbers,
-    solve, strategy_plan, unfolded, Lcg, Plan, Solution, Table, REFUSALS,
+    any_game, bent_plan, branching, crowded, damaged, damaged_often, old_bytes, old_words,
+    relation, seed_numbers, solve, strategy_plan, unfolded, Lcg, Plan, Solution, Table, REFUSALS,
 };
 use oracle::{Memory, Oracle};
+
+/// Among so many games there is one for a large plan.
+const CROWDS: usize = 50;
+/// The most vertices of a game on which a plan is carried: the oracle makes its order several times.
+const MOST_CARRIED: usize = 60;
 
 /// A case for each call on memory, with a whole table or a damaged one.
 pub fn cases_on_memory(lcg: &mut Lcg, table: &Table) -> Vec<Case> {
@@ -31,6 +37,7 @@ fn memory(lcg: &mut Lcg, table: &Table) -> Memory {
         spare: old_bytes(lcg, n * n),
         classes: old_words(lcg, n),
         output: old_words(lcg, 2 + 2 * n + 2 * table.m()),
+        ..Memory::default()
     }
 }
 
@@ -78,7 +85,7 @@ pub fn cases_of_plans(lcg: &mut Lcg, table: &Table) -> Vec<Case> {
 }
 
 /// A strategy of the winner of the start that may choose badly.
-fn any_strategy(lcg: &mut Lcg, table: &Table, solution: &Solution, start: usize) -> Plan {
+pub fn any_strategy(lcg: &mut Lcg, table: &Table, solution: &Solution, start: usize) -> Plan {
     let successors = table.successors();
     let mut choice = solution.choice.clone();
     for (v, next) in successors.iter().enumerate() {
@@ -87,6 +94,45 @@ fn any_strategy(lcg: &mut Lcg, table: &Table, solution: &Solution, start: usize)
         }
     }
     strategy_plan(table, solution.winner[start], start, &choice)
+}
+
+/// A plan carried by each of the two calls, to a vertex that it can be carried to or to any other.
+fn cases_of_carrying(lcg: &mut Lcg, table: &Table) -> Vec<Case> {
+    Call::CARRYING.map(|call| case_of_carrying(lcg, table, call)).into()
+}
+
+fn case_of_carrying(lcg: &mut Lcg, table: &Table, call: Call) -> Case {
+    let origin = Origin::new(call, table);
+    let (n, solution) = (table.n(), solve(&origin.game));
+    let start = lcg.below(origin.game.n());
+    let winner = solution.winner[start] as u32;
+    let copies = lcg.between(1, 3);
+    let plan = branching(lcg, &solution.plan(&origin.game, start), copies);
+    let bent = lcg.once_in(3);
+    let plan = if bent { bent_plan(lcg, &plan, origin.game.n()) } else { plan.words() };
+    let others = [1 - winner, 1 - winner, 2, 256 + winner, u32::MAX];
+    let player = if lcg.once_in(8) { lcg.pick(&others) } else { winner };
+    let any = lcg.below(n) as u32;
+    let vertex = match lcg.below(8) {
+        0 => any,
+        1 => lcg.pick(&[n as u32, n as u32 + 1, 65_535, 65_536 + any, u32::MAX]),
+        _ => lcg.pick(&origin.reached(winner, start)),
+    };
+    let case = Case::of_carrying(call, &table.words(), player, &plan, vertex, room(table));
+    let needed = plan_words(case.expected(&Oracle::exact()).answer);
+    let game = if lcg.once_in(12) { damaged_table(lcg, table) } else { table.words() };
+    let output = old_words(lcg, needed);
+    let reduction = old_words(lcg, table.words().len());
+    Case { game, memory: Memory { output, reduction, ..memory(lcg, table) }, ..case }
+}
+
+/// A plan that, carried, comes near the limits, or above one of them.
+fn case_of_crowd(lcg: &mut Lcg) -> Case {
+    let (call, player) = (lcg.pick(&Call::CARRYING), lcg.below(2) as u16);
+    let (game, positions) = crowded(lcg, player);
+    let plan = round(call, &game, positions, 0..positions).words();
+    let vertex = lcg.below(game.n()) as u32;
+    Case::of_carrying(call, &game.words(), player as u32, &plan, vertex, room(&game))
 }
 
 /// The drawing of a game of mostly at most `most` vertices into an output of several lengths.
@@ -101,6 +147,11 @@ pub fn cases(lcg: &mut Lcg, most: usize) -> Vec<Case> {
     let table = any_game(lcg, most);
     let mut cases = cases_on_memory(lcg, &table);
     cases.extend(cases_of_plans(lcg, &table));
+    let carried = of_both(lcg, most.min(MOST_CARRIED));
+    cases.extend(cases_of_carrying(lcg, &carried));
+    if lcg.once_in(CROWDS) {
+        cases.push(case_of_crowd(lcg));
+    }
     cases.push(case_of_seed(lcg, most));
     cases
 }

@@ -52,6 +52,7 @@ fn any_memory(lcg: &mut Lcg, table: &Table) -> Memory {
         spare: bytes(old(n * n)),
         classes: old(n),
         output: old(table.words().len()),
+        ..Memory::default()
     }
 }
 

@@ -6,7 +6,7 @@ use oracle::Memory;
 
 /// The reduced game and the class of each vertex, by the library.
 fn reduced(table: &Table) -> (Table, Vec<u16>) {
-    let Memory { mut marks, mut spare, mut classes, mut output } = exact_memory(table);
+    let Memory { mut marks, mut spare, mut classes, mut output, .. } = exact_memory(table);
     raskjomi::reduce(&table.words(), &mut marks, &mut spare, &mut classes, &mut output)
         .expect("a whole game and memory of the right lengths");
     (Table::from_words(&output), classes)

@@ -1,5 +1,6 @@
 //! The yardstick: the library's own algorithm in safe Rust, with local arrays in place of a heap.
 
+mod carry;
 mod index;
 mod order;
 mod plan;
@@ -7,6 +8,7 @@ mod reader;
 mod reduction;
 mod seed;
 
+pub use carry::{carry, carry_class};
 pub use plan::accept_plan;
 pub use reduction::reduce;
 pub use seed::seed;

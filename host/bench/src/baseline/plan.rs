@@ -12,11 +12,18 @@ struct Plan<'a> {
 
 /// The plan acceptor, as the library's call of this name.
 pub fn accept_plan(game: &[u16], player: u32, plan: &[u16]) -> RaskjomiAnswer {
-    judge(game, player, plan).err().unwrap_or_default()
+    let judged = reader::read(game).and_then(|(n, m)| judge(game, n, m, player, plan));
+    judged.err().unwrap_or_default()
 }
 
-fn judge(game: &[u16], player: u32, plan: &[u16]) -> Result<(), RaskjomiAnswer> {
-    let (n, m) = reader::read(game)?;
+/// Refusals 11 to 16, on a game that the reader accepts.
+pub fn judge(
+    game: &[u16],
+    n: usize,
+    m: usize,
+    player: u32,
+    plan: &[u16],
+) -> Result<(), RaskjomiAnswer> {
     if player > 1 {
         return Err(refused(11, 0));
     }

@@ -17,18 +17,42 @@ pub fn reduce(
         Ok(sizes) => sizes,
         Err(refusal) => return refusal,
     };
-    let lengths = [marks.len(), spare.len(), classes.len(), output.len()];
-    for (i, needed) in [n * n, n * n, n, game.len()].into_iter().enumerate() {
-        if lengths[i] < needed {
-            return refused(21 + i as u32, needed);
-        }
+    let lent = [marks.len(), spare.len(), classes.len(), output.len()];
+    if let Err(refusal) = lengths(&lent, &[n * n, n * n, n, game.len()]) {
+        return refusal;
     }
-    let (sources, targets) = game[2 + 2 * n..].split_at(m);
     let (mut starts, mut places) = ([0; 257], [0; 4096]);
-    let next = Index::build(sources, targets, &mut starts[..n + 1], &mut places);
-    let game = Game { priorities: &game[2..2 + n], owners: &game[2 + n..2 + 2 * n], next };
+    let game = parts(game, n, m, &mut starts, &mut places);
     game.write_order(&mut marks[..n * n], &mut spare[..n * n]);
     write_reduced(&game, &marks[..n * n], &mut classes[..n], output)
+}
+
+/// Refusals 21 to 24, as far as there are buffers.
+pub fn lengths(lent: &[usize], needed: &[usize]) -> Result<(), RaskjomiAnswer> {
+    match (0..lent.len()).find(|&i| lent[i] < needed[i]) {
+        Some(i) => Err(refused(21 + i as u32, needed[i])),
+        None => Ok(()),
+    }
+}
+
+/// The game's parts, with its edges grouped by source.
+fn parts<'a>(
+    game: &'a [u16],
+    n: usize,
+    m: usize,
+    starts: &'a mut [u16; 257],
+    places: &'a mut [u16; 4096],
+) -> Game<'a> {
+    let (sources, targets) = game[2 + 2 * n..].split_at(m);
+    let next = Index::build(sources, targets, &mut starts[..n + 1], places);
+    Game { priorities: &game[2..2 + n], owners: &game[2 + n..2 + 2 * n], next }
+}
+
+/// Writes the order of a game that the reader accepts into buffers that are long enough.
+pub fn write_order(game: &[u16], n: usize, m: usize, marks: &mut [u8], spare: &mut [u8]) {
+    let (mut starts, mut places) = ([0; 257], [0; 4096]);
+    let game = parts(game, n, m, &mut starts, &mut places);
+    game.write_order(&mut marks[..n * n], &mut spare[..n * n]);
 }
 
 /// Writes classes and the reduced game's table.

@@ -2,13 +2,13 @@
 //! its process, so the program runs itself once for each size that it tries.
 #![forbid(unsafe_code)]
 
-use generator::{forced_ring, largest_plan, random, Lcg};
+use generator::{forced_ring, largest_plan, opponents, random, round_of_loops, round_plan, Lcg};
 use raskjomi::exports;
 use std::os::unix::process::ExitStatusExt;
 use std::process::{Command, ExitStatus, Stdio};
 use std::thread;
 
-const CALLS: [&str; 10] = [
+const CALLS: [&str; 12] = [
     "no call",
     "kind",
     "read",
@@ -18,6 +18,8 @@ const CALLS: [&str; 10] = [
     "classes",
     "quotient",
     "reduce",
+    "carry",
+    "carry_class",
     "seed",
 ];
 /// The sizes tried, in KiB: a page, the least that Rust gives a thread, and what it gives by default.
@@ -32,19 +34,35 @@ fn call(name: &str) -> impl FnOnce() -> u32 + Send + 'static {
     let (mut marks, mut spare) = (vec![0; 65536], vec![0; 65536]);
     let (mut classes, mut output) = (vec![0; 256], vec![0; game.len()]);
     let (plan_game, plan) = plan();
-    move || match name.as_str() {
-        "no call" => 0,
-        "kind" => exports::kind(0),
-        "read" => exports::read(&game).number,
-        "order" => exports::order(&game, &mut marks, &mut spare).number,
-        "accept_relation" => exports::accept_relation(&game, &marks).number,
-        "accept_plan" => exports::accept_plan(&plan_game, raskjomi::EVEN, &plan).number,
-        "classes" => exports::classes(&game, &mut marks, &mut spare, &mut classes).number,
-        "quotient" => {
-            exports::quotient(&game, &mut marks, &mut spare, &mut classes, &mut output).number
-        }
-        "seed" => exports::seed(1, 256, 16, 8, &mut output).number,
-        _ => exports::reduce(&game, &mut marks, &mut spare, &mut classes, &mut output).number,
+    let (carry_game, carried, of_classes) = plans_to_carry();
+    let mut written = vec![0; raskjomi::MOST_PLAN_WORDS];
+    move || {
+        let (m, s, c, o) = (&mut marks, &mut spare, &mut classes, &mut output);
+        let answer = match name.as_str() {
+            "no call" => return 0,
+            "kind" => return exports::kind(0),
+            "read" => exports::read(&game),
+            "order" => exports::order(&game, m, s),
+            "accept_relation" => exports::accept_relation(&game, m),
+            "accept_plan" => exports::accept_plan(&plan_game, raskjomi::EVEN, &plan),
+            "classes" => exports::classes(&game, m, s, c),
+            "quotient" => exports::quotient(&game, m, s, c, o),
+            "carry" => exports::carry(&carry_game, raskjomi::EVEN, &carried, 0, m, s, &mut written),
+            "carry_class" => exports::carry_class(
+                &carry_game,
+                raskjomi::EVEN,
+                &of_classes,
+                0,
+                m,
+                s,
+                c,
+                o,
+                &mut written,
+            ),
+            "seed" => exports::seed(1, 256, 16, 8, o),
+            _ => exports::reduce(&game, m, s, c, o),
+        };
+        answer.number
     }
 }
 
@@ -55,6 +73,15 @@ fn plan() -> (Vec<u16>, Vec<u16>) {
     let mut game = forced_ring(256, 16);
     game.priorities = ring.priorities;
     (game.words(), plan.words())
+}
+
+/// A game of 4,096 edges, each of its vertices below each, and Even's plans on it and on its classes, which
+/// are one. Both go round through four positions by loops; carried, they have 16,384 links.
+fn plans_to_carry() -> (Vec<u16>, Vec<u16>, Vec<u16>) {
+    let mut game = opponents(forced_ring(256, 16), 0);
+    game.edges.iter_mut().for_each(|edge| edge.1 = (edge.1 + 255) % 256);
+    let plan = round_plan(&game, [vec![0; 3], (0..256).collect()].concat(), 0..4);
+    (game.words(), plan.words(), round_of_loops(4, 0..4).words())
 }
 
 /// Makes the call on a thread with this stack, in KiB, and panics where it refuses.

@@ -4,7 +4,7 @@ use crate::failure::Failure;
 use crate::input::{Input, Unit};
 use crate::locate::game_refused;
 use crate::table::Table;
-use raskjomi::{Refusal, Size};
+use raskjomi::{PlanSize, Refusal, Size, MOST_PLAN_WORDS};
 
 /// A game that the reader accepts.
 pub struct Game {
@@ -30,7 +30,11 @@ type WriteTable = fn(&[u16], &mut [u8], &mut [u8], &mut [u16], &mut [u16]) -> Re
 impl Game {
     /// Reads a game table.
     pub fn load(path: &str) -> Result<Game, Failure> {
-        let input = Input::read(path, Unit::Word)?;
+        Game::of(Input::read(path, Unit::Word)?)
+    }
+
+    /// The game of an input.
+    pub fn of(input: Input) -> Result<Game, Failure> {
         match raskjomi::read(&input.numbers) {
             Ok(size) => Ok(Game { input, size }),
             Err(refusal) => Err(game_refused(refusal, &input)),
@@ -74,6 +78,33 @@ impl Game {
         Ok(Merged { classes, words })
     }
 
+    /// The words of the player's plan carried to a vertex.
+    pub fn carry(&self, player: u32, plan: &[u16], vertex: u32) -> Result<Vec<u16>, Refusal> {
+        let (mut marks, mut spare) = self.marks();
+        let (game, mut words) = (&self.input.numbers, vec![0; MOST_PLAN_WORDS]);
+        let size = raskjomi::carry(game, player, plan, vertex, &mut marks, &mut spare, &mut words)?;
+        Ok(shortened(words, size))
+    }
+
+    /// The same for a plan on the reduced game.
+    pub fn carry_class(&self, player: u32, plan: &[u16], vertex: u32) -> Result<Vec<u16>, Refusal> {
+        let (mut marks, mut spare) = self.marks();
+        let (mut classes, mut table) = (vec![0; self.size.vertices], vec![0; self.size.words()]);
+        let (game, mut words) = (&self.input.numbers, vec![0; MOST_PLAN_WORDS]);
+        let (_, size) = raskjomi::carry_class(
+            game,
+            player,
+            plan,
+            vertex,
+            &mut marks,
+            &mut spare,
+            &mut classes,
+            &mut table,
+            &mut words,
+        )?;
+        Ok(shortened(words, size))
+    }
+
     fn marks(&self) -> (Vec<u8>, Vec<u8>) {
         (vec![0; self.size.marks()], vec![0; self.size.marks()])
     }
@@ -88,6 +119,12 @@ impl Merged {
     pub fn table(&self) -> Table<'_> {
         Table::new(&self.words)
     }
+}
+
+/// The words of a plan of this size.
+fn shortened(mut words: Vec<u16>, size: PlanSize) -> Vec<u16> {
+    words.truncate(size.words());
+    words
 }
 
 /// The vertices of each class, from the class of each vertex.

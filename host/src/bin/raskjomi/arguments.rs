@@ -109,6 +109,15 @@ impl Arguments {
     }
 }
 
+/// The player's name.
+pub fn name_of(player: u32) -> &'static str {
+    if player == raskjomi::EVEN {
+        "Even"
+    } else {
+        "Odd"
+    }
+}
+
 fn bad(command: &Command, what: String) -> Failure {
     let Command { name, usage, .. } = command;
     Failure::usage(format!("{name}: {what}; usage: raskjomi {usage}, see raskjomi {name} --help"))

@@ -1,11 +1,11 @@
 //! The commands.
 
 use crate::analysis::{members, Game, Merged};
-use crate::arguments::{Arguments, Form};
+use crate::arguments::{name_of, Arguments, Form};
 use crate::failure::Failure;
 use crate::help::{self, Command, COMMANDS};
 use crate::input::{self, number, Input, Unit};
-use crate::locate::{plan_refused, relation_refused, seed_refused};
+use crate::locate::{carry_refused, plan_refused, relation_refused, seed_refused};
 use crate::table::Table;
 use crate::{dot as picture, tell, text};
 use raskjomi::Kind;
@@ -166,17 +166,56 @@ pub fn check_plan(arguments: &Arguments) -> Written {
     }
 }
 
+/// `carry`.
+pub fn carry(arguments: &Arguments) -> Written {
+    let (player, vertex) = (arguments.player()?, vertex_to(arguments)?);
+    let as_words = as_words(arguments, "carry", "")?;
+    let (game, plan) = two_inputs(arguments, Unit::Word)?;
+    let game = Game::of(game)?;
+    let class = arguments.has("--class");
+    let write = if class { Game::carry_class } else { Game::carry };
+    let words = write(&game, player, &plan.numbers, vertex)
+        .map_err(|refusal| carry_refused(refusal, &game, &plan, vertex, class))?;
+    if as_words {
+        return Ok(text::bytes(&words));
+    }
+    let (winner, start) = (name_of(player), plan.numbers[2]);
+    let origin = if class { " of the reduced game" } else { "" };
+    let sentence = format!(
+        "This plan wins for {winner} from vertex {vertex} of {}, carried from vertex {start}{origin}.",
+        game.input.name
+    );
+    Ok(text::plan(&sentence, &words).into())
+}
+
+/// The vertex that `--vertex` names; whether the game has it, the library judges.
+fn vertex_to(arguments: &Arguments) -> Result<u32, Failure> {
+    let word = arguments.value("--vertex").ok_or_else(|| {
+        Failure::usage("no vertex; write --vertex with the vertex that the plan is to start at")
+    })?;
+    number(word, u32::MAX).ok_or_else(|| {
+        Failure::usage(format!(
+            "no vertex `{word}`; write --vertex with a number, as vertices count from 0"
+        ))
+    })
+}
+
+/// Whether `--as` names words, for commands that draw no picture.
+fn as_words(arguments: &Arguments, command: &str, hint: &str) -> Result<bool, Failure> {
+    match arguments.form()? {
+        Form::Dot => Err(Failure::usage(format!(
+            "{command}: no form `dot`; write --as text or --as words{hint}"
+        ))),
+        form => Ok(form == Form::Words),
+    }
+}
+
 /// The words of the longest table.
 const MOST_WORDS: usize = 8_706;
 
 /// `seed`.
 pub fn seed(arguments: &Arguments) -> Written {
-    let form = arguments.form()?;
-    if form == Form::Dot {
-        return Err(Failure::usage(
-            "seed: no form `dot`; write --as text or --as words, or hand the game on to raskjomi dot",
-        ));
-    }
+    let as_words = as_words(arguments, "seed", ", or hand the game on to raskjomi dot")?;
     let numbers = seed_numbers(arguments)?;
     let [seed, n, degree, priorities] = numbers;
     let mut words = vec![0; MOST_WORDS];
@@ -185,10 +224,7 @@ pub fn seed(arguments: &Arguments) -> Written {
     let table = Table::new(&words);
     let title =
         format!("game of seed {seed}: vertices {n}, degree {degree}, priorities {priorities}");
-    Ok(match form {
-        Form::Words => text::bytes(table.words()),
-        _ => text::table(&title, &table).into(),
-    })
+    Ok(if as_words { text::bytes(table.words()) } else { text::table(&title, &table).into() })
 }
 
 /// The seed, and the numbers of vertices, of edges out of each, and of priorities.

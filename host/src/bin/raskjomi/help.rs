@@ -24,7 +24,7 @@ pub struct Command {
 }
 
 /// The refusal numbers that `explain` knows.
-pub const NUMBERS: &str = "1 to 16, 21 to 24, 31 and 32";
+pub const NUMBERS: &str = "1 to 16, 21 to 24 and 31 to 35";
 
 /// What `seed` takes, in the sequence of its usage.
 pub const SEED_NUMBERS: [&str; 4] = ["SEED", "VERTICES", "DEGREE", "PRIORITIES"];
@@ -56,7 +56,7 @@ const TABLES: &str = "Text and words are game tables, which every command reads.
                       the game, with the members of each class.";
 
 /// The commands, in the sequence of the help.
-pub const COMMANDS: [Command; 10] = [
+pub const COMMANDS: [Command; 11] = [
     Command {
         name: "report",
         usage: "report [GAME] [--vertex V]",
@@ -140,11 +140,34 @@ pub const COMMANDS: [Command; 10] = [
         run: commands::check_plan,
     },
     Command {
+        name: "carry",
+        usage: "carry GAME PLAN --player even|odd --vertex V [--class] [--as text|words]",
+        summary: "a winning plan, carried to another vertex",
+        details:
+            "PLAN is given as for `check-plan`, wins for the player, and starts at the vertex of its \
+                  position 0. For Even that must be below V, for Odd V below it; `order` writes \
+                  who is below whom, and members of one class are below each other. With --class, \
+                  PLAN is on the reduced game, as `reduce` writes it, and its start is a class, \
+                  which compares as its members do. The output is a plan on GAME, of at most \
+                  4,096 positions and 16,384 links, which `check-plan` accepts; as text, it begins \
+                  with a comment that says what it proves.",
+        example: "./raskjomi carry games/d.txt games/c.plan.txt --player even --vertex 5 \
+                  | ./raskjomi check-plan games/d.txt - --player even",
+        files: 2..=2,
+        options: &[
+            Opt { name: "--player", value: Some("even or odd") },
+            Opt { name: "--vertex", value: Some("a vertex") },
+            Opt { name: "--class", value: None },
+            Opt { name: "--as", value: Some("text or words") },
+        ],
+        run: commands::carry,
+    },
+    Command {
         name: "explain",
         usage: "explain NUMBER",
         summary: "what a refusal number means, what its place counts, and what to do",
         details:
-            "A refused input gets one of the numbers 1 to 16, 21 to 24, 31 and 32; 7 no longer occurs.",
+            "A refused input gets one of the numbers 1 to 16, 21 to 24 and 31 to 35; 7 no longer occurs.",
         example: "./raskjomi explain 8",
         files: 1..=1,
         options: &[],

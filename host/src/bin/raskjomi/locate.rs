@@ -1,5 +1,6 @@
 //! Where in the user's files a refusal points.
 
+use crate::analysis::Game;
 use crate::failure::Failure;
 use crate::input::Input;
 use raskjomi::{Kind, Refusal};
@@ -43,6 +44,11 @@ pub fn plan_refused(refusal: Refusal, game: &Input, plan: &Input) -> Failure {
     if refusal.kind() == Kind::Game {
         return game_refused(refusal, game);
     }
+    tell(refusal, place_in_plan(refusal, plan))
+}
+
+/// Where in its file a refusal of a plan points.
+fn place_in_plan(refusal: Refusal, plan: &Input) -> String {
     let (place, count) = (refusal.place, plan.numbers.len());
     let number = |index: usize| plan.numbers[index] as usize;
     let vertex = |position: usize| number(2 + position);
@@ -62,7 +68,35 @@ pub fn plan_refused(refusal: Refusal, game: &Input, plan: &Input) -> Failure {
         15 | 16 => (2 + place, format!("position {place}, at vertex {}", vertex(place))),
         _ => (place, String::new()),
     };
-    tell(refusal, plan.at(index, &detail))
+    plan.at(index, &detail)
+}
+
+/// A refusal to carry a plan, on the game or on the reduced game, to a vertex.
+pub fn carry_refused(
+    refusal: Refusal,
+    game: &Game,
+    plan: &Input,
+    vertex: u32,
+    class: bool,
+) -> Failure {
+    let of = if class { " of the reduced game" } else { "" };
+    let last = game.size.vertices - 1;
+    tell(
+        refusal,
+        match refusal.number {
+            33 if vertex as usize > last => {
+                format!("{}: vertex {vertex} (its vertices are 0 to {last})", game.input.name)
+            }
+            33 => {
+                let start =
+                    plan.at(2, &format!("the plan starts at vertex {}{of}", plan.numbers[2]));
+                format!("{}: vertex {vertex}; {start}", game.input.name)
+            }
+            34 => format!("{}, carried to vertex {vertex}", plan.name),
+            _ if class => format!("{}, on the reduced game", place_in_plan(refusal, plan)),
+            _ => place_in_plan(refusal, plan),
+        },
+    )
 }
 
 /// A refusal of the numbers of a game by the seed.

@@ -35,11 +35,30 @@ pub fn table(title: &str, table: &Table) -> String {
         ("sources of the edges", sources),
         ("targets of the edges", targets),
     ];
+    titled(title, &parts)
+}
+
+/// Parts with their names, under a title.
+fn titled(title: &str, parts: &[(&str, &[u16])]) -> String {
     let mut text = format!("# {title}\n");
     for (name, numbers) in parts {
         write!(text, "# {name}\n{}", lines(numbers, A_LINE)).expect("a string takes all");
     }
     text
+}
+
+/// A plan under a sentence, each part under a comment.
+pub fn plan(sentence: &str, words: &[u16]) -> String {
+    let (sizes, rest) = words.split_at(2);
+    let (vertices, links) = rest.split_at(sizes[0] as usize);
+    let (sources, targets) = links.split_at(sizes[1] as usize);
+    let parts = [
+        ("positions, links", sizes),
+        ("vertex of each position", vertices),
+        ("sources of the links", sources),
+        ("targets of the links", targets),
+    ];
+    titled(sentence, &parts)
 }
 
 /// The marks, a row for each vertex.
