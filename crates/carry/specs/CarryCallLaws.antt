@@ -18,8 +18,6 @@ use Rattle.table.specs.TableWordsLaws.{length-tableWords, tableWords-well, edge
 use Rattle.table.specs.TableLaws.{game-n, game-total, edges-listed}
 use Rattle.table.specs.Verdict.{Row, Answer, accepted, refused, judge, Clean, written, after}
 use Rattle.table.specs.VerdictLaws.{judge-clean, judge-past, judge-stays, judge-accepted, length-written, after-clean, after-past, after-refused, clean-append}
-use Rattle.table.specs.Reading.{gameRows}
-use Rattle.table.specs.ReadingLaws.{well-clean}
 use Rattle.table.specs.WellFormed.{WellFormed}
 use Rattle.order.specs.OrderCall.{orderRows, orderAnswer, orderBytes}
 use Rattle.order.specs.OrderRules.{OrderFits}
@@ -45,7 +43,7 @@ plan-passed : (g : List ℕ) (player : ℕ) (plan : List ℕ) → WellFormed g �
 unfolding planRows
 plan-passed g player plan well e =
     let c = judge-accepted (planRows g player plan) [] [] (sym e) .0 in
-    clean-words g player plan (clean-append (gameRows g) _ (well-clean g well) (c .0, (c .1 .0, (c .1 .1 .0, tt))))
+    clean-words g player plan well (c .0, (c .1 .0, (c .1 .1 .0, tt)))
 
 -- the reduced game's table is well formed
 pub reduced-well : (game : List ℕ) → WellFormed game → WellFormed (classTable reduced game)

@@ -198,8 +198,7 @@ module _ {K : Game → Game} (faithful : Faithful K)
   table-winner a v h =
       let there = faithful .winner G a v (vertex v h) in
       let back =
-      agree-winner a (K G) (gameOf (tableWords (K G) es)) (agree-sym (tableWords-agree (K G) es (edgesOf-lists (K G)))) (classOf G v)
-      (faithful .class G v (vertex v h)) in
+      agree-winner a (K G) (gameOf (tableWords (K G) es)) (agree-sym (tableWords-agree (K G) es (edgesOf-lists (K G)))) (classOf G v) in
       rw (table-is, class-word (table-leaves-classes call) passed v h) (λ w. back .0 (there .0 w), λ w. there .1 (back .1 w))
 
 -- "Two engineers print the reduced game of the same model": whatever was in the buffers, and however long they were, the tables are one

@@ -30,7 +30,7 @@ use Rattle.order.specs.OrderRules.{orderRules, OrderFits}
 
 -- ---- refused exactly by the table
 
-order-rows-render : (g marks spare : List ℕ) → Rendered (orderRows g marks spare) (orderRules g marks spare)
+pub order-rows-render : (g marks spare : List ℕ) → Rendered (orderRows g marks spare) (orderRules g marks spare)
 unfolding orderRows
 order-rows-render g marks spare = rendered-append (rows-render g) (next (memory-renders 21 _ marks) (next (memory-renders 22 _ spare) none))
 

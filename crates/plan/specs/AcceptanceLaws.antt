@@ -17,13 +17,14 @@ use Rattle.theory.specs.Returns.{WrongWalk}
 use Rattle.theory.specs.ReturnsLaws.{wrongWalk-return}
 use Rattle.table.specs.Limits.{positionLimit, linkLimit}
 use Rattle.table.specs.Table.{vertexCount, playerOf, gameOf}
-use Rattle.table.specs.Verdict.{Row, Answer, accepted, refused, judge, Clean}
-use Rattle.table.specs.VerdictLaws.{judge-accepted, judge-past, judge-stays, clean-split}
-use Rattle.table.specs.Reading.{gameRows}
+use Rattle.table.specs.Verdict.{Row, refused, Clean}
 use Rattle.table.specs.ReadingLaws.{rows-render, clean-well}
 use Rattle.table.specs.ReadingRules.{gameRules}
-use Rattle.table.specs.Rules.{Rule, FirstRule, here, later, NoRule, no-rule, fails, Rendered, none, next}
-use Rattle.table.specs.RulesLaws.{renders-placed, renders-first, judge-refused, judge-refuses, rendered-append, clean-none, none-clean}
+use Rattle.table.specs.WellFormed.{WellFormed}
+use Rattle.table.specs.Rules.{FirstRule, Rendered, none, next}
+use Rattle.table.specs.RulesLaws.{renders-placed, renders-first}
+use Rattle.table.specs.Decisions.{Decides}
+use Rattle.table.specs.DecisionsLaws.{rendered-decides, decides-append}
 use Rattle.links.specs.PlanTable.{positionCount, linkCount, vertexAt, linkSource, linkTarget, planLength, planOf, anyLink, hasLink}
 use Rattle.links.specs.PlanTableLaws.{planOf-links, planOf-link, anyLink-in, anyLink-out}
 use Rattle.links.specs.Refusals.{badSize, beyond, firstBeyond, strays, firstStray}
@@ -130,23 +131,19 @@ is-wrong g player w f i =
       λ x. return-in (positionCount w) (hasLink w) (link-inside f) a c i (wrongWalk-return a c (hasLink w) i .0 x),
     )
 
--- ---- the computed rows render document 01's. Rows 14 to 16 do so for a plan that passes 12 and 13; for no other are they looked at.
+-- ---- the computed rows decide by document 01's. Rows 14 to 16 do so for a plan that passes 12 and 13; for no other are they looked at.
 
--- 1 to 13
+-- 11 to 13
 abbrev pub wordRows : List ℕ → ℕ → List ℕ → List Row
-wordRows g player w = gameRows g ++ take 3 (planRows g player w)
+wordRows g player w = take 3 (planRows g player w)
 
-abbrev wordRules : List ℕ → ℕ → List ℕ → List Rule
-wordRules g player w = gameRules g ++ take 3 (planRules g player w)
-
-words-render : (g : List ℕ) (player : ℕ) (w : List ℕ) → Rendered (wordRows g player w) (wordRules g player w)
+words-render : (g : List ℕ) (player : ℕ) (w : List ℕ) → Rendered (wordRows g player w) (take 3 (planRules g player w))
 unfolding planRows firstBeyond
 words-render g player w =
-    rendered-append (rows-render g)
-    (next (renders-placed 11 0 _ _ (ltb-true 1 player, lt-ltb 1 player))
+    next (renders-placed 11 0 _ _ (ltb-true 1 player, lt-ltb 1 player))
     (next (renders-placed 12 0 _ _ (bad-size w))
     (next (renders-first 13 (beyond (vertexCount g) w) (Beyond (vertexCount g) w) 2 (planLength (positionCount w) (linkCount w)) (λ k. k) (omega arith) (is-beyond (vertexCount g) w))
-    none)))
+    none))
 
 links-render : (g : List ℕ) (player : ℕ) (w : List ℕ) → PlanFormed (vertexCount g) w → Rendered (drop 3 (planRows g player w)) (drop 3 (planRules g player w))
 unfolding planRows firstStray firstLackingLink firstReturn
@@ -156,71 +153,23 @@ links-render g player w f =
     (next (renders-first 16 (returnsWrong g player w) _ 0 (positionCount w) (λ i. i) (omega arith) (is-wrong g player w f))
     none))
 
-pub clean-words : (g : List ℕ) (player : ℕ) (w : List ℕ) → Clean (wordRows g player w) → WordsPass g player w
+-- a plan that passes 11 to 13
+pub clean-words : (g : List ℕ) (player : ℕ) (w : List ℕ) → WellFormed g → Clean (wordRows g player w) → WordsPass g player w
 unfolding planRows
-clean-words g player w c =
-    let d = clean-split (gameRows g) _ c in
-    record {
-      game = clean-well g (d .0);
-      number = ltb-false 1 player (d .1 .0);
-      formed = words-good (vertexCount g) w (size-good w (d .1 .1 .0)) (ltb-false (firstBeyond (vertexCount g) w) _ (d .1 .1 .1 .0));
-    }
+clean-words g player w well c = record {
+  game = well;
+  number = ltb-false 1 player (c .0);
+  formed = words-good (vertexCount g) w (size-good w (c .1 .0)) (ltb-false (firstBeyond (vertexCount g) w) _ (c .1 .1 .0));
+}
 
--- ---- rules after rules, and rows after rows
-
-first-front : {qs : List Rule} {k p : ℕ} (ts : List Rule) → FirstRule qs k p → FirstRule (qs ++ ts) k p
-first-front ts (here h e a) = here h e a
-first-front ts (later m f) = later m (first-front ts f)
-
-first-behind : {qs ts : List Rule} {k p : ℕ} → NoRule qs → FirstRule ts k p → FirstRule (qs ++ ts) k p
-first-behind no-rule f = f
-first-behind (fails m n) f = later m (first-behind n f)
-
-first-split : (qs ts : List Rule) (k p : ℕ) → FirstRule (qs ++ ts) k p → FirstRule qs k p ⊎ (NoRule qs × FirstRule ts k p)
-first-split [] ts k p f = inr (no-rule, f)
-first-split (q ∷ qs) ts k p (here h e a) = inl (here h e a)
-first-split (q ∷ qs) ts k p (later m f) = go (first-split qs ts k p f)
-  where
-    go : FirstRule qs k p ⊎ (NoRule qs × FirstRule ts k p) → FirstRule (q ∷ qs) k p ⊎ (NoRule (q ∷ qs) × FirstRule ts k p)
-    go (inl a) = inl (later m a)
-    go (inr b) = inr (fails m (b .0), b .1)
-
-judge-split : (rs ss : List Row) (k p : ℕ) → judge (rs ++ ss) [] ≡ refused k p → (judge rs [] ≡ refused k p) ⊎ (Clean rs × (judge ss [] ≡ refused k p))
-judge-split rs ss k p e = go (judge rs []) refl
-  where
-    go : (a : Answer) → judge rs [] ≡ a → (judge rs [] ≡ refused k p) ⊎ (Clean rs × (judge ss [] ≡ refused k p))
-    go (accepted counts) f = let c = judge-accepted rs [] counts f .0 in inr (c, sym (judge-past rs ss [] c) ∙ e)
-    go (refused k′ p′) f = inl (f ∙ sym (judge-stays rs ss [] [] k′ p′ f) ∙ e)
+-- on a well-formed game
+pub plan-decides : (g : List ℕ) (player : ℕ) (w : List ℕ) → WellFormed g → Decides (planRows g player w) (planRules g player w)
+unfolding planRows
+plan-decides g player w well =
+    decides-append (rendered-decides (words-render g player w)) (λ c. rendered-decides (links-render g player w (clean-words g player w well c .formed)))
 
 -- ---- refused k at p exactly if rule k is the first whose condition holds, and it names p
 
-pub split-rows : (g : List ℕ) (player : ℕ) (w : List ℕ) → gameRows g ++ planRows g player w ≡ wordRows g player w ++ drop 3 (planRows g player w)
-unfolding planRows
-split-rows g player w = sym (append-assoc (gameRows g) (take 3 (planRows g player w)) (drop 3 (planRows g player w)))
-
-split-rules : (g : List ℕ) (player : ℕ) (w : List ℕ) → gameRules g ++ planRules g player w ≡ wordRules g player w ++ drop 3 (planRules g player w)
-split-rules g player w = sym (append-assoc (gameRules g) (take 3 (planRules g player w)) (drop 3 (planRules g player w)))
-
-module _ (g : List ℕ) (player : ℕ) (w : List ℕ) (k p : ℕ) where
-  refused-rule : judge (wordRows g player w ++ drop 3 (planRows g player w)) [] ≡ refused k p → FirstRule (wordRules g player w ++ drop 3 (planRules g player w)) k p
-  refused-rule e = go (judge-split _ _ k p e)
-    where
-      go : (judge (wordRows g player w) [] ≡ refused k p) ⊎ (Clean (wordRows g player w) × (judge (drop 3 (planRows g player w)) [] ≡ refused k p))
-          → FirstRule (wordRules g player w ++ drop 3 (planRules g player w)) k p
-      go (inl f) = first-front (drop 3 (planRules g player w)) (judge-refused (words-render g player w) [] k p f)
-      go (inr c) =
-          first-behind (clean-none (words-render g player w) (c .0)) (judge-refused (links-render g player w (clean-words g player w (c .0) .formed)) [] k p (c .1))
-
-  rule-refused : FirstRule (wordRules g player w ++ drop 3 (planRules g player w)) k p → judge (wordRows g player w ++ drop 3 (planRows g player w)) [] ≡ refused k p
-  rule-refused f = go (first-split (wordRules g player w) _ k p f)
-    where
-      go : FirstRule (wordRules g player w) k p ⊎ (NoRule (wordRules g player w) × FirstRule (drop 3 (planRules g player w)) k p)
-          → judge (wordRows g player w ++ drop 3 (planRows g player w)) [] ≡ refused k p
-      go (inl f) = judge-stays (wordRows g player w) (drop 3 (planRows g player w)) [] [] k p (judge-refuses (words-render g player w) f [])
-      go (inr n) =
-          let c = none-clean (words-render g player w) (n .0) in
-          judge-past (wordRows g player w) (drop 3 (planRows g player w)) [] c ∙ judge-refuses (links-render g player w (clean-words g player w c .formed)) (n .1) []
-
-  pub plan-refused : (planAnswer g player w ≡ refused k p) ↔ FirstRule (gameRules g ++ planRules g player w) k p
-  unfolding planAnswer
-  plan-refused = rw (split-rows g player w, split-rules g player w) (refused-rule, rule-refused)
+pub plan-refused : (g : List ℕ) (player : ℕ) (w : List ℕ) (k p : ℕ) → (planAnswer g player w ≡ refused k p) ↔ FirstRule (gameRules g ++ planRules g player w) k p
+unfolding planAnswer
+plan-refused g player w = decides-append (rendered-decides (rows-render g)) (λ c. plan-decides g player w (clean-well g c)) .refuses []

@@ -11,7 +11,7 @@ use Rattle.theory.specs.RangeLaws.{all-ext, first-ext}
 use Rattle.theory.specs.Game.{parity, same}
 use Rattle.table.specs.Table.{vertexCount, playerOf, gameOf}
 use Rattle.table.specs.Verdict.{Row, Answer, accepted, refused, judge}
-use Rattle.table.specs.VerdictLaws.{judge-accepted, judge-past, judge-stays, clean-append}
+use Rattle.table.specs.VerdictLaws.{judge-accepted, judge-past, judge-stays}
 use Rattle.table.specs.Reading.{gameRows}
 use Rattle.table.specs.ReadingLaws.{well-clean}
 use Rattle.table.specs.WellFormed.{WellFormed}
@@ -92,7 +92,7 @@ module _ {g h : List ℕ} (one : SameGame g h) (player : ℕ) (w : List ℕ) whe
       go : (a : Answer) → judge words [] ≡ a → judge (planRows g player w) [] ≡ judge (planRows h player w) []
       go (accepted counts) e =
           ap (λ (rs : List Row). judge rs [])
-          (same-rows (clean-words g player w (clean-append (gameRows g) words (well-clean g wg) (judge-accepted words [] counts e .0)) .formed))
+          (same-rows (clean-words g player w wg (judge-accepted words [] counts e .0) .formed))
       go (refused k p) e =
           judge-stays words (drop 3 (planRows g player w)) [] [] k p e
           ∙ sym (judge-stays (take 3 (planRows h player w)) (drop 3 (planRows h player w)) [] [] k p (rw same-words at e))

@@ -17,7 +17,7 @@ use Rattle.table.specs.Table.{vertexCount, playerOf, gameOf}
 use Rattle.table.specs.Verdict.{accepted, Clean}
 use Rattle.table.specs.VerdictLaws.{judge-clean, judge-accepted, clean-split, clean-append}
 use Rattle.table.specs.Reading.{gameRows}
-use Rattle.table.specs.ReadingLaws.{well-clean}
+use Rattle.table.specs.ReadingLaws.{well-clean, clean-well}
 use Rattle.links.specs.PlanTable.{positionCount, linkCount, vertexAt, linkSource, linkTarget, planOf, anyLink, hasLink}
 use Rattle.links.specs.PlanTableLaws.{planOf-length, planOf-vertex, planOf-links, planOf-link, link-in, link-out, anyLink-out}
 use Rattle.links.specs.Refusals.{strays, firstStray}
@@ -27,7 +27,7 @@ use Rattle.returns.specs.Returns.{returns, positionPriority, returnsWrong, firs
 use Rattle.returns.specs.ReturnsLaws.{return-in, return-out, returns-ext}
 use Rattle.plan.specs.Acceptance.{answers, lacksLink, firstLackingLink, planRows, planAnswer}
 use Rattle.plan.specs.AcceptanceRules.{LacksMove, LacksAnswer, Accepts}
-use Rattle.plan.specs.AcceptanceLaws.{answers-out, lacks-out, wordRows, clean-words, split-rows}
+use Rattle.plan.specs.AcceptanceLaws.{answers-out, lacks-out, wordRows, clean-words}
 
 -- ---- rows 14 to 16
 
@@ -160,26 +160,25 @@ module _ (g : List ℕ) (player : ℕ) (w : List ℕ) where
 
 words-clean : (g : List ℕ) (player : ℕ) (w : List ℕ) → WordsPass g player w → Clean (wordRows g player w)
 unfolding planRows
-words-clean g player w p =
-    clean-append (gameRows g) _ (well-clean g (p .game))
-    (le-ltb 1 player (p .number), (good-size w (p .formed .sized), (le-ltb _ _ (good-words (vertexCount g) w (p .formed)), tt)))
+words-clean g player w p = (le-ltb 1 player (p .number), (good-size w (p .formed .sized), (le-ltb _ _ (good-words (vertexCount g) w (p .formed)), tt)))
 
 module _ (g : List ℕ) (player : ℕ) (w : List ℕ) where
   pub plan-accepted : (counts : List ℕ) → planAnswer g player w ≡ accepted counts → Accepts g player w × (counts ≡ [])
-  unfolding planAnswer
+  unfolding planAnswer planRows
   plan-accepted counts e =
-      let a = judge-accepted (wordRows g player w ++ drop 3 (planRows g player w)) [] counts (rw (split-rows g player w) at e) in
-      let c = clean-split (wordRows g player w) _ (a .0) in
-      let p = clean-words g player w (c .0) in
-      (record { game = p .game; number = p .number; sized = p .formed .sized; wins = passes-wins g player w (p .formed) (clean-links g player w (c .1)) }, sym (a .1))
+      let a = judge-accepted (gameRows g ++ planRows g player w) [] counts e in
+      let c = clean-split (gameRows g) _ (a .0) in
+      let d = clean-split (wordRows g player w) (drop 3 (planRows g player w)) (c .1) in
+      let p = clean-words g player w (clean-well g (c .0)) (d .0) in
+      (record { game = p .game; number = p .number; sized = p .formed .sized; wins = passes-wins g player w (p .formed) (clean-links g player w (d .1)) }, sym (a .1))
 
   pub plan-accepts : Accepts g player w → planAnswer g player w ≡ accepted []
-  unfolding planAnswer
+  unfolding planAnswer planRows
   plan-accepts a =
       let f = wins-formed g player w (a .sized) (vertexAt w 0) (a .wins) in
-      rw (split-rows g player w)
-      (judge-clean _ []
-      (clean-append (wordRows g player w) _ (words-clean g player w (record { game = a .game; number = a .number; formed = f }))
+      judge-clean _ []
+      (clean-append (gameRows g) _ (well-clean g (a .game))
+      (clean-append (wordRows g player w) (drop 3 (planRows g player w)) (words-clean g player w (record { game = a .game; number = a .number; formed = f }))
       (links-clean g player w (wins-passes g player w (a .sized) (vertexAt w 0) (a .wins)))))
 
 -- repeated links are harmless: plans within the limits with the same positions and the same links, however often each stands there,

@@ -20,7 +20,7 @@ use Rattle.reduction.specs.TableRules.{tableRules, TableFits}
 -- ---- the rows render the rules, and are clean exactly if the game is well formed and the memory fits
 
 module _ (game marks spare classes output : List ℕ) where
-  table-rows-render : Rendered (tableRows game marks spare classes output) (tableRules game marks spare classes output)
+  pub table-rows-render : Rendered (tableRows game marks spare classes output) (tableRules game marks spare classes output)
   unfolding tableRows
   table-rows-render = rendered-append (class-rows-render game marks spare classes) (next (memory-renders 24 _ output) none)
 
@@ -30,7 +30,7 @@ module _ (game marks spare classes output : List ℕ) where
       clean-append (classRows game marks spare classes) _ (classes-clean game marks spare classes (f .classesFit))
       (le-ltb (length output) _ (f .outputFit), tt)
 
-  clean-table : Clean (tableRows game marks spare classes output) → TableFits game marks spare classes output
+  pub clean-table : Clean (tableRows game marks spare classes output) → TableFits game marks spare classes output
   unfolding tableRows
   clean-table c =
       let s = clean-split (classRows game marks spare classes) _ c in

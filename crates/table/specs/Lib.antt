@@ -5,6 +5,8 @@ pub mod Verdict
 pub mod VerdictLaws
 pub mod Rules
 pub mod RulesLaws
+pub mod Decisions
+pub mod DecisionsLaws
 pub mod Reading
 pub mod ReadingRules
 pub mod WellFormed

@@ -1,9 +1,10 @@
 -- Games that agree are one game as far as vertices go: the same order, passes, classes and games of classes, and the same winners.
-use mathlib.Core.Path.{_≡_, refl, sym, ap, ap₂, _∙_, subst}
+use mathlib.Core.Path.{_≡_, refl, sym, ap, ap₂, _∙_}
 use mathlib.Core.Logic.{_↔_}
 use mathlib.Core.Bool.{Bool, true, false, not}
-use Prim.Native.Nat.{ℕ, _*_, _/_, _%_, _<_}
+use Prim.Native.Nat.{ℕ, _*_, _/_, _%_, _<_, min}
 use lib.Dec.{eqb}
+use lib.ListN.{length, getD}
 use Rattle.theory.specs.Bools.{_&_, imp}
 use Rattle.theory.specs.Range.{pairsOf}
 use Rattle.theory.specs.RangeLaws.{all-ext, any-ext}
@@ -12,12 +13,11 @@ use Rattle.theory.specs.LinkLaws.{pairsOf-ext}
 use Rattle.theory.specs.Passes.{Marks, marked, Rel, relOf, pairStart, pairTest}
 use Rattle.theory.specs.PassesLaws.{passCount-ext, finalMarks-ext}
 use Rattle.theory.specs.Game.{Player, even, same, Game, own, Succ, edgeCount}
-use Rattle.theory.specs.Simulation.{Moves, PassesTest, DirectSimulation, Below}
 use Rattle.theory.specs.Order.{allNext, anyNext, moves, equalPriority, test, orderMarks, order, orderPasses, marksBetween}
-use Rattle.theory.specs.Plan.{Won}
+use Rattle.theory.specs.Plan.{Plan, linked, Wins, Won}
+use Rattle.theory.specs.TransferLaws.{winning-projects}
 use Rattle.theory.specs.Reduction.{isLowest, classCount, classNumber, representative, quotientEdge, noBetter, dropped, reducedEdge, classGame, quotient, reduced, classOf}
 use Rattle.theory.specs.QuotientLaws.{rep-lt}
-use Rattle.theory.specs.KeptWinners.{mutual-winner}
 use Rattle.theory.specs.Agreement.{Agree}
 
 pub agree-sym : {G K : Game} → Agree G K → Agree K G
@@ -28,31 +28,36 @@ agree-sym e = record {
   edge = λ v w h k. sym (e .edge v w (rw (e .size) h) (rw (e .size) k));
 }
 
--- ---- winners: each vertex is below itself in the other game
-
--- the same successors pass with identity
-moves-same : (o : Bool) (X Y : ℕ → Type 0) → ((x : ℕ) → X x ↔ Y x) → Moves o o X Y (λ v w. v ≡ w)
-unfolding Moves
-moves-same true X Y e = λ v s. (v, e v .0 s, refl)
-moves-same false X Y e = λ v s. (v, e v .1 s, refl)
+-- ---- winners
 
 pub succ-agree : {G K : Game} → Agree G K → (v x : ℕ) → v < G .n → Succ G v x → Succ K v x
 succ-agree e v x h s = record { inside = rw (← e .size) (s .inside); along = rw (← e .edge v x h (s .inside)) (s .along) }
 
-agree-simulation : {G K : Game} → Agree G K → DirectSimulation G K (λ v w. v ≡ w)
-agree-simulation {G} {K} e v w hv hw q =
-    subst (λ (u : ℕ). PassesTest even G K (λ v w. v ≡ w) v u) q (record {
-      equal = e .priority v hv;
-      moves =
-          subst (λ (o : Bool). Moves (own G even v) o (Succ G v) (Succ K v) (λ v w. v ≡ w)) (ap (same even) (e .owner v hv))
-          (moves-same (own G even v) (Succ G v) (Succ K v) (λ x. (succ-agree e v x hv, succ-agree (agree-sym e) v x (rw (← e .size) hv))));
+-- a plan that wins on one game wins on the other
+pub agree-wins : (a : Player) (G K : Game) → Agree G K → (P : Plan) (v : ℕ) → Wins a G P v → Wins a K P v
+agree-wins a G K e P v win =
+    winning-projects min a G K (length (P .vertices)) at (linked (P .links)) v win (length (P .vertices)) at (linked (P .links)) v (λ i. i) (record {
+      some = win .some;
+      start = win .start;
+      vertex = λ i h. rw (← e .size) (win .vertex i h);
+      equal = λ i h. sym (e .priority (at i) (win .vertex i h));
+      source = win .source;
+      target = win .target;
+      over = λ i j t. t;
+      follows = λ i j t.
+          rw (← e .edge (at i) (at j) (win .vertex i (win .source i j t)) (win .vertex j (win .target i j t))) (win .follows i j t);
+      moves = λ i h o. win .moves i h (rw (owns i h) o);
+      answers = λ i h o u s. win .answers i h (owns i h ∙ o) u (succ-agree (agree-sym e) (at i) u (rw (← e .size) (win .vertex i h)) s);
     })
+  where
+    at : ℕ → ℕ
+    at i = getD (P .vertices) i 0
 
-agree-below : {G K : Game} → Agree G K → (v : ℕ) → Below even G K v v
-agree-below e v = record { relation = λ v w. v ≡ w; simulation = agree-simulation e; holds = refl }
+    owns : (i : ℕ) → i < length (P .vertices) → own G a (at i) ≡ own K a (at i)
+    owns i h = ap (same a) (e .owner (at i) (win .vertex i h))
 
-pub agree-winner : (a : Player) (G K : Game) → Agree G K → (v : ℕ) → v < G .n → Won a G v ↔ Won a K v
-agree-winner a G K e v h = mutual-winner a G K v v h (rw (← e .size) h) (agree-below e v) (agree-below (agree-sym e) v)
+pub agree-winner : (a : Player) (G K : Game) → Agree G K → (v : ℕ) → Won a G v ↔ Won a K v
+agree-winner a G K e v = (λ (P, win). (P, agree-wins a G K e P v win), λ (P, win). (P, agree-wins a K G (agree-sym e) P v win))
 
 -- ---- edges, as a count and as a list
 
