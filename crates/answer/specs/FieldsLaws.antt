@@ -137,7 +137,7 @@ pub carrying-small : (game : List ℕ) (player : ℕ) (plan : List ℕ) (vertex 
 unfolding carryRows
 carrying-small game player plan vertex marks spare output (Carrying.Accepted counts) marks′ spare′ output′ call =
     let a = judge-accepted (carryRows game player plan vertex marks spare output) _ _ (sym (call .verdict)) in
-    let w = carried-within _ _ _ _ _ _ (clean-split (judgedRows game player plan vertex marks spare) _ (a .0) .1) in
+    let w = carried-within _ _ _ _ _ _ (clean-split (judgedRows game player plan marks spare) _ (a .0) .1) in
     (omega (arith, first-count (a .1), w .0), omega (arith, second-count (a .1), w .1))
 carrying-small game player plan vertex marks spare output (Carrying.Refused refusal) marks′ spare′ output′ call = tt
 

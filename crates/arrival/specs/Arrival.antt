@@ -2,7 +2,7 @@
 use mathlib.Core.Path.{_≡_}
 use mathlib.Core.Bool.{Bool, true, false}
 use mathlib.Core.List.{List}
-use Prim.Native.Nat.{ℕ, _≤_, _<_}
+use Prim.Native.Nat.{ℕ, _<_}
 use lib.ListN.{getD}
 use Rattle.theory.specs.Range.{tabulate}
 use Rattle.theory.specs.Passes.{Rel}
@@ -71,8 +71,7 @@ planVertices false game = vertexCount game
 planVertices true game = classesIn (gameOf game)
 
 -- a plan to carry, and marks that hold the order
-pub record Carriable (byClass : Bool) (game : List ℕ) (player : ℕ) (plan marks : List ℕ) : Type 0 where
+pub record Carriable (byClass : Bool) (game plan marks : List ℕ) : Type 0 where
   pub well : WellFormed game
-  pub number : player ≤ 1
   pub formed : PlanFormed (planVertices byClass game) plan
   pub ordered : Ordered (gameOf game) marks

@@ -1,5 +1,5 @@
 -- The plan that the search finds is the carried plan, on the game itself or on the reduced game; rows 33 to 35 at each way out.
-use mathlib.Core.Path.{_≡_, refl, sym, ap, _∙_, subst}
+use mathlib.Core.Path.{_≡_, refl, sym, ap, _∙_}
 use mathlib.Core.Bool.{Bool, true, false, not, So}
 use mathlib.Core.List.{List, [], _∷_}
 use Prim.Native.Nat.{ℕ, _+_, _-_, _≤_, _<_}
@@ -15,10 +15,10 @@ use Rattle.theory.specs.Range.{tabulate}
 use Rattle.theory.specs.ListLaws.{length-tabulate, getD-tabulate, tabulate-ext}
 use Rattle.theory.specs.Order.{order}
 use Rattle.theory.specs.Plan.{Plan}
-use Rattle.theory.specs.Reduction.{representative, noBetter}
+use Rattle.theory.specs.Reduction.{representative}
 use Rattle.theory.specs.QuotientLaws.{order-preorder, rep-lt}
 use Rattle.theory.specs.ClassLaws.{classCount-le}
-use Rattle.theory.specs.Carry.{carriedPlan, carriedClassPlan, classNoBetter}
+use Rattle.theory.specs.Carry.{carriedPlan, classNoBetter}
 use Rattle.theory.specs.CarryClassLaws.{representative-zero, carried-at-lowest}
 use Rattle.table.specs.Table.{vertexCount, playerOf, gameOf}
 use Rattle.table.specs.Placing.{placed}
@@ -27,7 +27,6 @@ use Rattle.table.specs.Verdict.{row, Answer, refused}
 use Rattle.table.specs.VerdictLaws.{judge-hit, judge-next, getD-written, after-refused, after-past}
 use Rattle.table.specs.WellFormed.{WellFormed}
 use Rattle.links.specs.PlanTable.{positionCount, vertexAt, planOf}
-use Rattle.links.specs.PlanFormed.{PlanFormed}
 use Rattle.replies.specs.Replies.{seated, Seated, needed}
 use Rattle.arrival.specs.PlanWords.{planWords, planCounts, sizeRows, carriedRows}
 use Rattle.arrival.specs.Arrival.{seatOf, Seats, neededBy, carriedBy, arrivalRows, carriedSeated, Arrived, planVertices, Carriable}
@@ -46,11 +45,11 @@ unfolding planVertices gameOf
 plan-few false game = omega arith
 plan-few true game = classCount-le (vertexCount game) (order (gameOf game)) (order-preorder (gameOf game))
 
-module _ {byClass : Bool} {game : List ℕ} {player : ℕ} {plan marks : List ℕ} (can : Carriable byClass game player plan marks) where
+module _ {byClass : Bool} {game plan marks : List ℕ} (can : Carriable byClass game plan marks) {player : ℕ} (number : player ≤ 1) where
   pub seats-seated : (seats : List ℕ) → Seats byClass game plan seats → positionCount plan ≤ length seats → Seated game player plan seats marks
   seats-seated seats s long = record {
     well = can .well;
-    number = can .number;
+    number = number;
     formed = record {
       sized = can .formed .sized;
       vertices = λ i h. omega (arith, can .formed .vertices i h, plan-few byClass game);

@@ -1,9 +1,9 @@
 -- What the search reads and leaves: the flags of the edges, and the plan that it found.
-use mathlib.Core.Path.{_≡_, refl, sym, ap, ap₂, _∙_}
-use mathlib.Core.Logic.{_⊎_, inl, inr}
+use mathlib.Core.Path.{_≡_, refl, ap, _∙_}
+use mathlib.Core.Logic.{inl, inr}
 use mathlib.Core.Bool.{Bool, true, false}
 use mathlib.Core.List.{List, map}
-use Prim.Native.Nat.{ℕ, _+_, _*_, _≤_, _<_}
+use Prim.Native.Nat.{ℕ, _≤_, _<_}
 use native.Mathlib.Nat.{mul-le-mul}
 use native.Mathlib.Decide.{decLt}
 use native.Mathlib.Omega.{arith}
@@ -15,13 +15,13 @@ use Rattle.theory.specs.ListLaws.{length-tabulate}
 use Rattle.theory.specs.Plan.{Plan}
 use Rattle.theory.specs.BreadthFirst.{Found}
 use Rattle.theory.specs.Carry.{foundFrom, carried}
-use Rattle.table.specs.Limits.{vertexLimit, pairLimit, positionLimit, linkLimit}
+use Rattle.table.specs.Limits.{pairLimit, positionLimit, linkLimit}
 use Rattle.table.specs.Table.{vertexCount, tableEdges, isEdge, playerOf, gameOf}
 use Rattle.table.specs.WellFormed.{WellFormed}
 use Rattle.table.specs.Flags.{Sized, EndsInside, edgeNumber, Flagged}
 use Rattle.table.specs.FlagsLaws.{pair-lt, pair-flag}
 use Rattle.table.specs.Verdict.{Answer}
-use Rattle.pairs.specs.Marks.{marksLength, isMark, relation}
+use Rattle.pairs.specs.Marks.{isMark}
 use Rattle.pairs.specs.MarksLaws.{relation-mark}
 use Rattle.classes.specs.Numbering.{Holding}
 use Rattle.replies.specs.Replies.{seated, needed}

@@ -14,7 +14,7 @@ use table::flags::flag_edges;
 use table::limits::LINKS;
 use table::limits::PAIRS;
 use table::limits::POSITIONS;
-ghost use Prim.Native.Nat.{_<_};
+ghost use Prim.Native.Nat.{_≤_, _<_};
 ghost use Rattle.theory.specs.Carry.{foundFrom};
 ghost use Rattle.table.specs.Table.{vertexCount, playerOf, gameOf};
 ghost use Rattle.links.specs.PlanTable.{positionCount};
@@ -133,7 +133,7 @@ pub fn carry_to(
     output: &mut [u16],
     by_class: bool,
 ) -> Carrying
-    requires { ⌜ Carriable «by_class» (now game) player (now plan) (now marks) ⌝ }
+    requires { ⌜ Carriable «by_class» (now game) (now plan) (now marks) × (player ≤ 1) ⌝ }
     ensures { λ r. ⌜ Arrived (arrivalRows «by_class» (now (game .entry)) player (now (plan .entry)) y (now (output .entry))) (planCounts (carriedBy «by_class» (now (game .entry)) player (now (plan .entry)) y)) (planWords (carriedBy «by_class» (now (game .entry)) player (now (plan .entry)) y)) (now (output .entry)) (carryingAnswer r) (now (output .exit)) ⌝ }
 {
     let n = game[0] as usize;
@@ -144,7 +144,7 @@ pub fn carry_to(
         });
     }
     let mut seats = [0u16; POSITIONS];
-    seat_positions(game, player, plan, marks, by_class, &mut seats);
+    seat_positions(game, plan, marks, by_class, &mut seats);
     let x = seats[0] as usize;
     if !no_better(marks, n, player, x, y) {
         return Carrying::Refused(Refusal {

@@ -10,8 +10,8 @@ ghost use Rattle.links.specs.PlanTable.{positionCount};
 ghost use Rattle.arrival.specs.Arrival.{Seats, Carriable};
 
 // The lowest member of each position's class. The classes and their lowest members are in local arrays of 1,024 bytes.
-fn seat_classes(game: &[u16], player: u32, plan: &[u16], marks: &[u8], seats: &mut [u16])
-    requires { ⌜ Carriable true (now game) player (now plan) (now marks) ⌝ }
+fn seat_classes(game: &[u16], plan: &[u16], marks: &[u8], seats: &mut [u16])
+    requires { ⌜ Carriable true (now game) (now plan) (now marks) ⌝ }
     requires { ⌜ positionCount (now plan) ≤ length (now seats) ⌝ }
     ensures { λ r. ⌜ Seats true (now (game .entry)) (now (plan .entry)) (now (seats .exit)) ⌝ }
 {
@@ -24,20 +24,13 @@ fn seat_classes(game: &[u16], player: u32, plan: &[u16], marks: &[u8], seats: &m
 }
 
 // The same for a plan on the game itself or, by class, on the reduced game.
-pub fn seat_positions(
-    game: &[u16],
-    player: u32,
-    plan: &[u16],
-    marks: &[u8],
-    by_class: bool,
-    seats: &mut [u16],
-)
-    requires { ⌜ Carriable «by_class» (now game) player (now plan) (now marks) ⌝ }
+pub fn seat_positions(game: &[u16], plan: &[u16], marks: &[u8], by_class: bool, seats: &mut [u16])
+    requires { ⌜ Carriable «by_class» (now game) (now plan) (now marks) ⌝ }
     requires { ⌜ positionCount (now plan) ≤ length (now seats) ⌝ }
     ensures { λ r. ⌜ Seats «by_class» (now (game .entry)) (now (plan .entry)) (now (seats .exit)) ⌝ }
 {
     if by_class {
-        seat_classes(game, player, plan, marks, seats);
+        seat_classes(game, plan, marks, seats);
         return;
     }
     let p = plan[0] as usize;

@@ -19,26 +19,26 @@ use Rattle.carry.specs.declared.ClassCarrying.{ClassCarrying}
 
 -- ---- the plan is on the game itself
 
-module _ (game : List ℕ) (player : ℕ) (plan : List ℕ) (vertex : ℕ) where
-  abbrev pub carriedTo : Plan
-  carriedTo = carriedPlan (playerOf player) (gameOf game) (planOf plan) vertex
-
+module _ (game : List ℕ) (player : ℕ) (plan : List ℕ) where
   -- 1 to 8, 21, 22, 11 to 16: what is judged before the order is written
   unfoldable pub judgedRows : List ℕ → List ℕ → List Row
   judgedRows marks spare = orderRows game marks spare ++ planRows game player plan
 
+  abbrev pub carriedTo : ℕ → Plan
+  carriedTo vertex = carriedPlan (playerOf player) (gameOf game) (planOf plan) vertex
+
   -- then 33 to 35
-  unfoldable pub carryRows : List ℕ → List ℕ → List ℕ → List Row
-  carryRows marks spare output =
+  unfoldable pub carryRows : ℕ → List ℕ → List ℕ → List ℕ → List Row
+  carryRows vertex marks spare output =
       judgedRows marks spare
-      ++ carriedRows (vertexCount game) (noBetter (playerOf player) (order (gameOf game))) (vertexAt plan 0) vertex carriedTo output
+      ++ carriedRows (vertexCount game) (noBetter (playerOf player) (order (gameOf game))) (vertexAt plan 0) vertex (carriedTo vertex) output
 
 -- the promise: the verdict, and every lent word
 pub record CarryCall (game : List ℕ) (player : ℕ) (plan : List ℕ) (vertex : ℕ) (marks spare output : List ℕ) (answer : Answer)
     (marks′ spare′ output′ : List ℕ) : Type 0 where
   pub verdict : answer ≡ judge (carryRows game player plan vertex marks spare output) (planCounts (carriedTo game player plan vertex))
-  pub marks-after : marks′ ≡ after (judgedRows game player plan vertex marks spare) (orderBytes game) marks
-  pub spare-after : spare′ ≡ after (judgedRows game player plan vertex marks spare) (orderBytes game) spare
+  pub marks-after : marks′ ≡ after (judgedRows game player plan marks spare) (orderBytes game) marks
+  pub spare-after : spare′ ≡ after (judgedRows game player plan marks spare) (orderBytes game) spare
   pub output-after : output′ ≡ after (carryRows game player plan vertex marks spare output) (planWords (carriedTo game player plan vertex)) output
 
 -- ---- the plan is on the reduced game

@@ -2,11 +2,11 @@
 use mathlib.Core.Path.{_≡_, refl, sym, ap, _∙_}
 use mathlib.Core.Bool.{true, false}
 use mathlib.Core.List.{List, [], _∷_, _++_, append-nil}
-use Prim.Native.Nat.{ℕ, _≤_, _<_}
+use Prim.Native.Nat.{ℕ, _≤_}
 use native.Mathlib.Omega.{arith}
-use lib.ListN.{length, take}
+use lib.ListN.{length}
 use lib.Seq.{take-at}
-use Rattle.theory.specs.Game.{Total, edgeCount}
+use Rattle.theory.specs.Game.{edgeCount}
 use Rattle.theory.specs.Order.{orderPasses}
 use Rattle.theory.specs.Plan.{Plan}
 use Rattle.theory.specs.Reduction.{classGame, reduced}
@@ -16,7 +16,7 @@ use Rattle.table.specs.Table.{vertexCount, tableEdges, tableLength, gameOf}
 use Rattle.table.specs.TableWords.{edgesOf, tableWords}
 use Rattle.table.specs.TableWordsLaws.{length-tableWords, tableWords-well, edgesOf-lists, length-edgesOf}
 use Rattle.table.specs.TableLaws.{game-n, game-total, edges-listed}
-use Rattle.table.specs.Verdict.{Row, Answer, accepted, refused, judge, Clean, written, after}
+use Rattle.table.specs.Verdict.{Row, Answer, accepted, refused, judge, Clean, written}
 use Rattle.table.specs.VerdictLaws.{judge-clean, judge-past, judge-stays, judge-accepted, length-written, after-clean, after-past, after-refused, clean-append}
 use Rattle.table.specs.WellFormed.{WellFormed}
 use Rattle.order.specs.OrderCall.{orderRows, orderAnswer, orderBytes}
@@ -24,7 +24,7 @@ use Rattle.order.specs.OrderRules.{OrderFits}
 use Rattle.order.specs.OrderRulesLaws.{order-accepts}
 use Rattle.order.specs.Clearing.{OrderDone}
 use Rattle.classes.specs.Numbering.{Ordered}
-use Rattle.classes.specs.HoldingLaws.{ordered-done, ordered-written}
+use Rattle.classes.specs.HoldingLaws.{ordered-written}
 use Rattle.reduction.specs.TableCall.{tableRows, tableCounts, classTable, TableCall}
 use Rattle.reduction.specs.TableRulesLaws.{table-accepted}
 use Rattle.reduction.specs.declared.TableCounts.{TableCounts}
@@ -56,17 +56,17 @@ reduced-well game well =
     (reduced-total G (game-total game well))
 
 module _ (game : List ℕ) (player : ℕ) (plan : List ℕ) (well : WellFormed game) {marks : List ℕ} (ordered : Ordered (gameOf game) marks) where
-  pub own-can : accepted [] ≡ judge (planRows game player plan) [] → Carriable false game player plan marks
+  pub own-can : accepted [] ≡ judge (planRows game player plan) [] → Carriable false game plan marks × (player ≤ 1)
   unfolding planVertices
   own-can e =
       let w = plan-passed game player plan well e in
-      record { well = well; number = w .number; formed = w .formed; ordered = ordered }
+      (record { well = well; formed = w .formed; ordered = ordered }, w .number)
 
-  pub class-can : accepted [] ≡ judge (planRows (classTable reduced game) player plan) [] → Carriable true game player plan marks
+  pub class-can : accepted [] ≡ judge (planRows (classTable reduced game) player plan) [] → Carriable true game plan marks × (player ≤ 1)
   unfolding planVertices tableWords reduced classGame
   class-can e =
       let w = plan-passed (classTable reduced game) player plan (reduced-well game well) e in
-      record { well = well; number = w .number; formed = w .formed; ordered = ordered }
+      (record { well = well; formed = w .formed; ordered = ordered }, w .number)
 
 -- a refusal goes by the rows alone
 recount : (rows : List Row) (counts given : List ℕ) {k p : ℕ} → judge rows counts ≡ refused k p → judge rows given ≡ refused k p
@@ -79,7 +79,7 @@ module _ (game : List ℕ) (player : ℕ) (plan : List ℕ) (vertex : ℕ) (mark
   Call = CarryCall game player plan vertex marks spare output
 
   abbrev judged : List Row
-  judged = judgedRows game player plan vertex marks spare
+  judged = judgedRows game player plan marks spare
 
   abbrev C : Plan
   C = carriedTo game player plan vertex

@@ -16,7 +16,7 @@ use Rattle.table.specs.VerdictLaws.{refused-inj, not-both, after-refused}
 use Rattle.table.specs.DecisionsLaws.{judge-split}
 use Rattle.table.specs.Reading.{gameRows, gameRowsBy}
 use Rattle.order.specs.OrderCall.{orderRows, orderBytes}
-use Rattle.classes.specs.ClassesCall.{memoryRows, classRows, classWords}
+use Rattle.classes.specs.ClassesCall.{classRows, classWords}
 use Rattle.reduction.specs.TableCall.{tableRows, classTable}
 use Rattle.links.specs.PlanTable.{vertexAt}
 use Rattle.plan.specs.Acceptance.{planRows}
@@ -85,7 +85,7 @@ module _ (Q : ℕ → Type 0) (rs ss : List Row) (first : Numbers Q rs) (rest : 
 module _ {game : List ℕ} {player : ℕ} {plan : List ℕ} {vertex : ℕ} {marks spare output : List ℕ} {k p : ℕ} {marks′ spare′ output′ : List ℕ}
     (call : CarryCall game player plan vertex marks spare output (refused k p) marks′ spare′ output′) where
   abbrev judged : List Row
-  judged = judgedRows game player plan vertex marks spare
+  judged = judgedRows game player plan marks spare
 
   early : Numbers (λ k. k ≤ 24) judged
   unfolding judgedRows orderRows

@@ -3,7 +3,7 @@
 use mathlib.Core.Path.{_≡_, refl, sym, ap, _∙_}
 use mathlib.Core.Logic.{_⊎_, inl, inr, _↔_}
 use mathlib.Core.Bool.{false, not, So}
-use mathlib.Core.List.{List, [], _∷_, _++_}
+use mathlib.Core.List.{List, [], _++_}
 use Prim.Native.Nat.{ℕ, _≤_, _<_}
 use native.Mathlib.Decide.{decLt}
 use native.Mathlib.Omega.{arith}
@@ -153,7 +153,7 @@ module _ {game : List ℕ} {player : ℕ} {plan : List ℕ} {vertex : ℕ} {mark
   unfolding carryRows judgedRows
   carry-accepted counts e =
       let a = judge-accepted all (planCounts C) counts (sym (call .verdict) ∙ e) in
-      let s = clean-split (judgedRows game player plan vertex marks spare) _ (a .0) in
+      let s = clean-split (judgedRows game player plan marks spare) _ (a .0) in
       let o = clean-split (orderRows game marks spare) _ (s .0) in
       let fits = clean-order game marks spare (o .0) in (
         record {
@@ -169,7 +169,7 @@ module _ {game : List ℕ} {player : ℕ} {plan : List ℕ} {vertex : ℕ} {mark
   carry-accepts f =
       call .verdict
       ∙ judge-clean all (planCounts C)
-      (clean-append (judgedRows game player plan vertex marks spare) _
+      (clean-append (judgedRows game player plan marks spare) _
       (clean-append (orderRows game marks spare) _ (order-clean game marks spare (f .orderFits)) (accepts-clean game player plan (f .orderFits .game) (f .accepts)))
       (arriving-clean game player (vertexAt plan 0) vertex C output _ (vertexAt plan 0) refl (f .arriving)))
 

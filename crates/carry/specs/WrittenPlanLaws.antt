@@ -1,35 +1,31 @@
 -- What an accepted call wrote: a plan that passes the acceptor for the same player on the original game, and starts at the vertex.
 use mathlib.Core.Path.{_≡_, refl, sym, ap, ap₂, _∙_, subst}
 use mathlib.Core.List.{List, [], _∷_, _++_, map}
-use Prim.Native.Nat.{ℕ, _+_, _*_, _≤_, _<_}
+use Prim.Native.Nat.{ℕ, _+_, _≤_, _<_}
 use native.Mathlib.Nat.{add-assoc}
 use native.Mathlib.Omega.{arith}
 use lib.ListN.{length, getD, take, length-append, length-map, List·getD-append, List·getD-map}
 use lib.Seq.{getD-append-add, take-at}
-use Rattle.theory.specs.Range.{tabulate}
 use Rattle.theory.specs.ListLaws.{tabulate-by}
-use Rattle.theory.specs.Game.{Player}
 use Rattle.theory.specs.LinkLaws.{pair-is}
 use Rattle.theory.specs.Plan.{Plan, Wins}
 use Rattle.theory.specs.Reduction.{reduced}
 use Rattle.theory.specs.AgreementLaws.{agree-wins}
 use Rattle.theory.specs.Carry.{classNoBetter}
 use Rattle.theory.specs.CarryLaws.{carriedPlan-wins, carriedClassPlan-wins}
-use Rattle.table.specs.Limits.{positionLimit, linkLimit}
-use Rattle.table.specs.Table.{vertexCount, playerOf, gameOf}
+use Rattle.table.specs.Table.{playerOf, gameOf}
 use Rattle.table.specs.TableWords.{edgesOf}
 use Rattle.table.specs.TableWordsLaws.{tableWords-agree, edgesOf-lists}
 use Rattle.table.specs.Verdict.{accepted, written}
 use Rattle.table.specs.VerdictLaws.{after-accepted}
 use Rattle.table.specs.WellFormed.{WellFormed}
-use Rattle.reduction.specs.TableCall.{tableCounts, classTable}
-use Rattle.links.specs.PlanTable.{positionCount, linkCount, vertexAt, linkSource, linkTarget, planLength, planOf}
+use Rattle.reduction.specs.TableCall.{classTable}
+use Rattle.links.specs.PlanTable.{vertexAt, linkSource, linkTarget, planLength, planOf}
 use Rattle.links.specs.PlanFormed.{PlanSized}
 use Rattle.plan.specs.Acceptance.{planAnswer}
-use Rattle.plan.specs.AcceptanceRules.{Accepts}
 use Rattle.plan.specs.WinningLaws.{plan-accepts}
 use Rattle.arrival.specs.PlanWords.{planWords, planCounts}
-use Rattle.carry.specs.CarryCall.{carriedTo, carryRows, CarryCall, carriedFromClass, carryClassRows, CarryClassCall}
+use Rattle.carry.specs.CarryCall.{carryRows, CarryCall, carryClassRows, CarryClassCall}
 use Rattle.carry.specs.CarryRules.{Arriving}
 use Rattle.carry.specs.CarryRulesLaws.{carry-accepted, carry-class-accepted}
 

@@ -1,14 +1,14 @@
 -- The sentences of demand 3, about slices after each call that leaves the order, as the promises of this crate's functions state them.
 use mathlib.Core.Path.{_≡_}
-use mathlib.Core.Logic.{_↔_}
+use mathlib.Core.Logic.{_⊎_, _↔_}
 use mathlib.Core.List.{List, [], _∷_}
-use Prim.Native.Nat.{ℕ, _<_}
+use Prim.Native.Nat.{ℕ, _≤_, _<_}
 use lib.ListN.{getD}
-use Rattle.theory.specs.Game.{Player, even, odd, Game}
+use Rattle.theory.specs.Game.{Player, even, odd, Game, edgeCount}
 use Rattle.theory.specs.Plan.{Won}
-use Rattle.theory.specs.Reduction.{classOf}
+use Rattle.theory.specs.Reduction.{reduced, classOf}
 use Rattle.table.specs.Table.{vertexCount, gameOf}
-use Rattle.table.specs.Verdict.{Answer, accepted}
+use Rattle.table.specs.Verdict.{Answer, accepted, refused}
 use Rattle.table.specs.Reading.{readAnswer}
 use Rattle.table.specs.Acceptance.{acceptanceAnswer}
 use Rattle.pairs.specs.Marks.{Marked}
@@ -16,6 +16,8 @@ use Rattle.order.specs.OrderCall.{orderingAnswer, OrderCall}
 use Rattle.relation.specs.RelationCall.{relationAnswer}
 use Rattle.classes.specs.ClassesCall.{ClassesCall}
 use Rattle.reduction.specs.TableCall.{TableCall}
+use Rattle.carry.specs.CarryCall.{CarryCall, CarryClassCall}
+use Rattle.carry.specs.WrittenPlanLaws.{writtenPlan, PlanFrom}
 use Rattle.claims.specs.Written.{writtenTable}
 use Rattle.claims.specs.declared.Containment.{Containment}
 
@@ -69,6 +71,37 @@ pub record Tabulates (K : Game → Game) (game marks spare classes output : List
   pub spare-order : OnAcceptance answer (OrderSentences game spare′)
   pub classes-words : OnAcceptance answer (ClassSentence game classes′)
   pub output-table : (k n e : ℕ) → answer ≡ accepted (k ∷ n ∷ e ∷ []) → TableSentences game classes′ output′ n e
+
+-- where a call accepts, or refuses with a number that comes after the working memory is written
+pub record OnceWritten (After : ℕ → Type 0) (answer : Answer) (P : Type 0) : Type 0 where
+  pub accepts : OnAcceptance answer P
+  pub refuses : (k p : ℕ) → answer ≡ refused k p → After k → P
+
+-- 33 to 35; in the class call 11 to 16 too
+abbrev pub AfterOrder : ℕ → Type 0
+AfterOrder k = 33 ≤ k
+
+abbrev pub AfterReduction : ℕ → Type 0
+AfterReduction k = ((11 ≤ k) × (k ≤ 16)) ⊎ (33 ≤ k)
+
+-- the call that carries a plan on the game
+pub record Carries (game : List ℕ) (player : ℕ) (plan : List ℕ) (vertex : ℕ) (marks spare output : List ℕ) (answer : Answer)
+    (marks′ spare′ output′ : List ℕ) : Type 0 where
+  pub call : CarryCall game player plan vertex marks spare output answer marks′ spare′ output′
+  pub marks-order : OnceWritten AfterOrder answer (OrderSentences game marks′)
+  pub spare-order : OnceWritten AfterOrder answer (OrderSentences game spare′)
+  -- the written plan passes the acceptor for the player on this game, and starts at the vertex
+  pub output-plan : (p l : ℕ) → answer ≡ accepted (p ∷ l ∷ []) → PlanFrom game player vertex (writtenPlan p l output′)
+
+-- the call that carries a plan on the reduced game
+pub record CarriesClass (game : List ℕ) (player : ℕ) (plan : List ℕ) (vertex : ℕ) (marks spare classes reduction output : List ℕ) (answer : Answer)
+    (marks′ spare′ classes′ reduction′ output′ : List ℕ) : Type 0 where
+  pub call : CarryClassCall game player plan vertex marks spare classes reduction output answer marks′ spare′ classes′ reduction′ output′
+  pub marks-order : OnceWritten AfterReduction answer (OrderSentences game marks′)
+  pub spare-order : OnceWritten AfterReduction answer (OrderSentences game spare′)
+  pub classes-words : OnceWritten AfterReduction answer (ClassSentence game classes′)
+  pub reduction-table : OnceWritten AfterReduction answer (TableSentences game classes′ reduction′ (reduced (gameOf game) .n) (edgeCount (reduced (gameOf game))))
+  pub output-plan : (k n e p l : ℕ) → answer ≡ accepted (k ∷ n ∷ e ∷ p ∷ l ∷ []) → PlanFrom game player vertex (writtenPlan p l output′)
 
 -- the relation acceptor and then the order call, with the verdicts of both
 pub record Contains (game relation marks spare : List ℕ) (r : Containment) (marks′ spare′ : List ℕ) : Type 0 where

@@ -1,18 +1,22 @@
 -- The sentences follow from what the calls promise.
-use mathlib.Core.Path.{_≡_, sym, _∙_}
+use mathlib.Core.Path.{_≡_, refl, sym, _∙_}
 use mathlib.Core.List.{List}
 use Prim.Native.Nat.{ℕ}
 use Rattle.theory.specs.Game.{Game}
-use Rattle.table.specs.Verdict.{Row, Answer, judge, Clean}
-use Rattle.table.specs.VerdictLaws.{judge-accepted}
+use Rattle.theory.specs.Reduction.{reduced}
+use Rattle.table.specs.Verdict.{Row, Answer, accepted, judge, Clean}
+use Rattle.table.specs.VerdictLaws.{judge-clean, judge-accepted, clean-split}
 use Rattle.table.specs.Acceptance.{acceptanceAnswer}
 use Rattle.order.specs.OrderCall.{orderRows, orderAnswer, orderingAnswer, OrderCall}
 use Rattle.relation.specs.RelationCall.{relationAnswer}
 use Rattle.classes.specs.ClassesCall.{classRows, classesAnswer, ClassesCall}
-use Rattle.reduction.specs.TableCall.{tableRows, TableCall}
+use Rattle.reduction.specs.TableCall.{tableRows, tableCounts, TableCall}
+use Rattle.carry.specs.CarryCall.{judgedRows, carryRows, CarryCall, carryClassRows, CarryClassCall}
+use Rattle.carry.specs.CarryMemoryLaws.{carry-passed, carry-class-passed}
+use Rattle.carry.specs.WrittenPlanLaws.{carry-wins, carry-class-wins}
 use Rattle.claims.specs.Written.{LeavesOrder, Faithful}
 use Rattle.claims.specs.Demands as demands
-use Rattle.claims.specs.Sentences.{OnAcceptance, OrderSentences, Orders, Classifies, Tabulates, Contains}
+use Rattle.claims.specs.Sentences.{OnAcceptance, OrderSentences, Orders, Classifies, Tabulates, Contains, OnceWritten, AfterOrder, AfterReduction, Carries, CarriesClass}
 use Rattle.claims.specs.declared.Containment.{Containment}
 
 -- a call that accepts has passed its rows
@@ -22,6 +26,10 @@ passed rows counts verdict given e = judge-accepted rows counts given (sym verdi
 -- wherever a call leaves the order
 order-sentences : {game : List ℕ} {rows : List Row} {old new : List ℕ} → LeavesOrder game rows old new → Clean rows → OrderSentences game new
 order-sentences left clean = record { contains = demands.contains left clean; even-up = demands.even-up left clean; odd-down = demands.odd-down left clean }
+
+-- what follows from what holds
+once-map : {After : ℕ → Type 0} {answer : Answer} {P Q : Type 0} → OnceWritten After answer P → (P → Q) → OnceWritten After answer Q
+once-map o f = record { accepts = λ counts e. f (o .accepts counts e); refuses = λ k p e h. f (o .refuses k p e h) }
 
 pub orders : {game marks spare : List ℕ} {answer : Answer} {marks′ spare′ : List ℕ} → OrderCall game marks spare answer marks′ spare′
     → Orders game marks spare answer marks′ spare′
@@ -56,6 +64,65 @@ tabulates faithful {game} {marks} {spare} {classes} {output} call =
       classes-words = λ counts e. demands.class-word (demands.table-leaves-classes call) (clean counts e);
       output-table = λ k n e a. record { read = demands.table-read faithful call k n e a; winner = demands.table-winner faithful call k n e a };
     }
+
+-- ---- the calls that carry a plan
+
+module _ {game : List ℕ} {player : ℕ} {plan : List ℕ} {vertex : ℕ} {marks spare output : List ℕ} {answer : Answer} {marks′ spare′ output′ : List ℕ}
+    (call : CarryCall game player plan vertex marks spare output answer marks′ spare′ output′) where
+  abbrev rows : List Row
+  rows = judgedRows game player plan marks spare
+
+  order-passed : OnceWritten AfterOrder answer (Clean rows)
+  unfolding carryRows
+  order-passed = record {
+    accepts = λ counts e. clean-split rows _ (passed (carryRows game player plan vertex marks spare output) _ (call .verdict) counts e) .0;
+    refuses = λ k p e h. carry-passed (rw e at call) h;
+  }
+
+  pub carries : Carries game player plan vertex marks spare output answer marks′ spare′ output′
+  carries = record {
+    call = call;
+    marks-order = once-map order-passed (order-sentences (record { buffer = call .marks-after }));
+    spare-order = once-map order-passed (order-sentences (record { buffer = call .spare-after }));
+    output-plan = λ p l e. carry-wins (rw e at call);
+  }
+
+module _ {game : List ℕ} {player : ℕ} {plan : List ℕ} {vertex : ℕ} {marks spare classes reduction output : List ℕ} {answer : Answer}
+    {marks′ spare′ classes′ reduction′ output′ : List ℕ}
+    (call : CarryClassCall game player plan vertex marks spare classes reduction output answer marks′ spare′ classes′ reduction′ output′) where
+  abbrev tabled : List Row
+  tabled = tableRows game marks spare classes reduction
+
+  table-passed : OnceWritten AfterReduction answer (Clean tabled)
+  unfolding carryClassRows
+  table-passed = record {
+    accepts = λ counts e.
+        clean-split tabled _ (passed (carryClassRows game player plan vertex marks spare classes reduction output) _ (call .verdict) counts e) .0;
+    refuses = λ k p e h. carry-class-passed (rw e at call) h;
+  }
+
+  -- what it leaves once its rows 1 to 8 and 21 to 24 are passed is what the reduced-game call leaves
+  reduced-call : Clean tabled → TableCall reduced game marks spare classes reduction (accepted (tableCounts reduced game)) marks′ spare′ classes′ reduction′
+  reduced-call c = record {
+    verdict = sym (judge-clean tabled (tableCounts reduced game) c);
+    marks-after = call .marks-after;
+    spare-after = call .spare-after;
+    classes-after = call .classes-after;
+    output-after = call .reduction-after;
+  }
+
+  abbrev sentences : Clean tabled → Tabulates reduced game marks spare classes reduction (accepted (tableCounts reduced game)) marks′ spare′ classes′ reduction′
+  sentences c = tabulates demands.reduced-faithful (reduced-call c)
+
+  pub carries-class : CarriesClass game player plan vertex marks spare classes reduction output answer marks′ spare′ classes′ reduction′ output′
+  carries-class = record {
+    call = call;
+    marks-order = once-map table-passed (λ c. sentences c .marks-order _ refl);
+    spare-order = once-map table-passed (λ c. sentences c .spare-order _ refl);
+    classes-words = once-map table-passed (λ c. sentences c .classes-words _ refl);
+    reduction-table = once-map table-passed (λ c. sentences c .output-table _ _ _ refl);
+    output-plan = λ k n e p l q. carry-class-wins (rw q at call);
+  }
 
 pub contains : {game relation marks spare : List ℕ} {r : Containment} {marks′ spare′ : List ℕ}
     → acceptanceAnswer (r .relation) ≡ relationAnswer game relation

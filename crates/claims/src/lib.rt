@@ -1,5 +1,7 @@
 // What is claimed of the library. A function for each call that leaves the order: it makes the call, and its promise is what demand 3 says
 // of the slices after it, proved from the library's contracts alone.
+use arrival::Carrying;
+use carry::ClassCarrying;
 use classes::Classification;
 use order::Ordering;
 use reduction::Tabulation;
@@ -8,7 +10,9 @@ ghost use Rattle.theory.specs.Reduction.{quotient, reduced};
 ghost use Rattle.order.specs.OrderCall.{orderingAnswer};
 ghost use Rattle.classes.specs.ClassesCall.{classificationAnswer};
 ghost use Rattle.reduction.specs.TableCall.{tabulationAnswer};
-ghost use Rattle.claims.specs.Sentences.{Orders, Classifies, Tabulates, Contains};
+ghost use Rattle.arrival.specs.PlanWords.{carryingAnswer};
+ghost use Rattle.carry.specs.CarryCall.{classCarryingAnswer};
+ghost use Rattle.claims.specs.Sentences.{Orders, Classifies, Tabulates, Contains, Carries, CarriesClass};
 
 // The verdicts of the two calls.
 pub struct Containment {
@@ -71,4 +75,46 @@ pub fn reduces(
     ensures { λ r. ⌜ Tabulates reduced (now (game .entry)) (now (marks .entry)) (now (spare .entry)) (now (classes .entry)) (now (output .entry)) (tabulationAnswer r) (now (marks .exit)) (now (spare .exit)) (now (classes .exit)) (now (output .exit)) ⌝ }
 {
     reduction::write_reduced(game, marks, spare, classes, output)
+}
+
+// Carries a plan.
+pub fn carries(
+    game: &[u16],
+    player: u32,
+    plan: &[u16],
+    vertex: u32,
+    marks: &mut [u8],
+    spare: &mut [u8],
+    output: &mut [u16],
+) -> Carrying
+    ensures { λ r. ⌜ Carries (now (game .entry)) player (now (plan .entry)) vertex (now (marks .entry)) (now (spare .entry)) (now (output .entry)) (carryingAnswer r) (now (marks .exit)) (now (spare .exit)) (now (output .exit)) ⌝ }
+{
+    carry::carry_plan(game, player, plan, vertex, marks, spare, output)
+}
+
+// Carries a plan on the reduced game.
+pub fn carries_class(
+    game: &[u16],
+    player: u32,
+    plan: &[u16],
+    vertex: u32,
+    marks: &mut [u8],
+    spare: &mut [u8],
+    classes: &mut [u16],
+    reduction: &mut [u16],
+    output: &mut [u16],
+) -> ClassCarrying
+    ensures { λ r. ⌜ CarriesClass (now (game .entry)) player (now (plan .entry)) vertex (now (marks .entry)) (now (spare .entry)) (now (classes .entry)) (now (reduction .entry)) (now (output .entry)) (classCarryingAnswer r) (now (marks .exit)) (now (spare .exit)) (now (classes .exit)) (now (reduction .exit)) (now (output .exit)) ⌝ }
+{
+    carry::carry_class_plan(
+        game,
+        player,
+        plan,
+        vertex,
+        marks,
+        spare,
+        classes,
+        reduction,
+        output,
+    )
 }

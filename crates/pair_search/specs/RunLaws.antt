@@ -35,7 +35,7 @@ module _ (game : List ℕ) (player : ℕ) (plan seats marks edges firsts follow 
 
       inside : Among y xs → Inside (positionCount plan) (vertexCount game) y
       inside t =
-          let q = moves-inside game player plan seats (x .0) (x .1) (readable .board) (vertexCount game) y t in
+          let q = moves-inside game player plan seats (x .0) (x .1) (readable .links .board) (vertexCount game) y t in
           record { old-lt = q .0; new-lt = q .1 }
 
       go : (b : Bool) → Among y (cond b (take 1 xs) xs) → Inside (positionCount plan) (vertexCount game) y
@@ -61,7 +61,7 @@ module _ (game : List ℕ) (player : ℕ) (plan seats marks edges firsts follow 
     readable = readable;
     ready = ready;
     within = record { few-pairs = omega arith; few-links = omega arith };
-    running = running-start _ _ _ (closed readable) w m e f g h (readable .board .formed .sized .some) l;
+    running = running-start _ _ _ (closed readable) w m e f g h (readable .links .board .formed .sized .some) l;
   }
 
   module _ (w k : ℕ) (m : Memory) (r : Runs w k m) where

@@ -14,7 +14,6 @@ use Rattle.theory.specs.Range.{anyFrom}
 use Rattle.theory.specs.RangeLaws.{all-out, all-fails, any-in, any-out, from-in, from-end}
 use Rattle.theory.specs.Game.{own}
 use Rattle.table.specs.Table.{vertexCount, tableEdges, ownerAt, sourceAt, targetAt, playerOf, gameOf}
-use Rattle.table.specs.WellFormed.{WellFormed}
 use Rattle.table.specs.TableLaws.{own-number, edge-in, edge-out}
 use Rattle.index.specs.Index.{among}
 use Rattle.index.specs.IndexLaws.{group-order, among-any}

@@ -7,7 +7,7 @@ use Prim.Native.Nat.{ℕ}
 use lib.ListN.{length}
 use borrow.Author.Tests.{ltb-false, le-ltb}
 use Rattle.theory.specs.Game.{Game}
-use Rattle.table.specs.Verdict.{Row, Answer, accepted, refused, judge, Clean}
+use Rattle.table.specs.Verdict.{Row, Answer, accepted, refused, Clean}
 use Rattle.table.specs.VerdictLaws.{judge-clean, judge-accepted, after-refused, clean-append, clean-split}
 use Rattle.table.specs.Rules.{FirstRule, Rendered, none, next}
 use Rattle.table.specs.RulesLaws.{memory-renders, refused-by, rendered-append}

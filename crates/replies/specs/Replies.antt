@@ -42,13 +42,17 @@ pub record LinkChains (source : ℕ → ℕ) (l p : ℕ) (firsts follow : List �
   pub head : (i : ℕ) → i < p → getD firsts i 0 ≡ first (λ k. eqb (source k) i) 0 l
   pub next : (k : ℕ) → k < l → getD follow k 0 ≡ first (λ j. eqb (source j) (source k)) (k + 1) l
 
--- all that a reply reads: the chains, and a flag for each pair of vertices that is an edge
-pub record Readable (game : List ℕ) (player : ℕ) (plan seats marks edges firsts follow : List ℕ) : Type 0 where
+-- all that an answer reads: the chains beside the plan
+pub record Linked (game : List ℕ) (player : ℕ) (plan seats marks firsts follow : List ℕ) : Type 0 where
   pub board : Seated game player plan seats marks
-  pub flags : Holding (vertexCount game) (gameOf game .edge) edges
   pub firsts-long : positionCount plan ≤ length firsts
   pub follow-long : linkCount plan ≤ length follow
   pub chains : LinkChains (linkSource plan) (linkCount plan) (positionCount plan) firsts follow
+
+-- all that a reply reads: a flag for each pair of vertices that is an edge, too
+pub record Readable (game : List ℕ) (player : ℕ) (plan seats marks edges firsts follow : List ℕ) : Type 0 where
+  pub links : Linked game player plan seats marks firsts follow
+  pub flags : Holding (vertexCount game) (gameOf game .edge) edges
 
 -- ---- replies
 

@@ -13,8 +13,8 @@ ghost use Rattle.table.specs.Table.{vertexCount, playerOf, gameOf};
 ghost use Rattle.table.specs.WellFormed.{WellFormed};
 ghost use Rattle.pairs.specs.Marks.{marksLength, relation};
 ghost use Rattle.links.specs.PlanTable.{positionCount, linkCount, linkSource, linkTarget};
-ghost use Rattle.links.specs.PlanFormed.{PlanFormed, PlanSized};
-ghost use Rattle.replies.specs.Replies.{Seated, LinkChains, Readable, needed, linkTo, replied, replyTo};
+ghost use Rattle.links.specs.PlanFormed.{PlanSized};
+ghost use Rattle.replies.specs.Replies.{Seated, LinkChains, Linked, Readable, needed, linkTo, replied, replyTo};
 
 // Whether vertex v is the player's.
 pub fn owns(game: &[u16], player: u32, v: usize) -> bool
@@ -83,13 +83,12 @@ fn answer(
     plan: &[u16],
     seats: &[u16],
     marks: &[u8],
-    edges: &[u8],
     firsts: &[u16],
     follow: &[u16],
     i: usize,
     w: usize,
 ) -> usize
-    requires { ⌜ Readable (now game) player (now plan) (now seats) (now marks) (now edges) (now firsts) (now follow) ⌝ }
+    requires { ⌜ Linked (now game) player (now plan) (now seats) (now marks) (now firsts) (now follow) ⌝ }
     requires { ⌜ (i < positionCount (now plan)) × (w < vertexCount (now game)) ⌝ }
     ensures { λ r. ⌜ r ≡ linkTo (now (game .entry)) player (now (plan .entry)) (now (seats .entry)) i w ⌝ }
 {
@@ -130,18 +129,7 @@ pub fn reply(
     let p = plan[0] as usize;
     let l = plan[1] as usize;
     if is_marked(edges, n, u, w) {
-        let k = answer(
-            game,
-            player,
-            plan,
-            seats,
-            marks,
-            edges,
-            firsts,
-            follow,
-            i,
-            w,
-        );
+        let k = answer(game, player, plan, seats, marks, firsts, follow, i, w);
         if k < l {
             return plan[2 + p + l + k] as usize;
         }

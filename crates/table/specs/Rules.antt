@@ -28,7 +28,7 @@ pub record First (P : ℕ → Type 0) (a e k : ℕ) : Type 0 where
 abbrev pub placed : ℕ → Type 0 → ℕ → Rule
 placed k C x = record { number = k; Holds = C; At = λ p. x ≡ p }
 
--- 21 to 24: lent memory shorter than needed; the place is the length needed
+-- lent memory shorter than needed, as 21 to 24; the place is the length needed
 abbrev pub memoryRule : ℕ → ℕ → List ℕ → Rule
 memoryRule number needed memory = placed number (length memory < needed) needed
 

@@ -16,7 +16,7 @@ pub record Row : Type 0 where
 abbrev pub row : ℕ → Bool → ℕ → Row
 row k condition place = record { number = k; condition = condition; place = place }
 
--- 21 to 24: lent memory shorter than needed; the place is the length needed
+-- lent memory shorter than needed, as 21 to 24; the place is the length needed
 abbrev pub memoryRow : ℕ → ℕ → List ℕ → Row
 memoryRow number needed memory = row number (ltb (length memory) needed) needed
 

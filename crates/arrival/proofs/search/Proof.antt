@@ -1,8 +1,7 @@
 -- The flags are the game's edges and the chains the plan's links, so the search reads what it needs.
-use mathlib.Core.Path.{_≡_, sym}
 use Prim.Native.Nat.{ℕ}
 use native.Mathlib.Omega.{arith}
-use lib.ListN.{length, length-replicate}
+use lib.ListN.{length-replicate}
 use Rattle.table.specs.Limits.{pairLimit}
 use Rattle.table.specs.FlagsLaws.{filled}
 use Rattle.replies.specs.Replies.{Readable}
@@ -26,11 +25,13 @@ readable c =
     let f = flagged c in
     let b = start f .pre .0 in
     let z = b .formed .sized in record {
-      board = b;
+      links = record {
+        board = b;
+        firsts-long = omega (arith, c .chain-links .kept .1 .0, length-replicate {A = ℕ} 4096 0, z .positions);
+        follow-long = omega (arith, c .chain-links .kept .1 .1 .0, length-replicate {A = ℕ} 16384 0, z .links);
+        chains = c .chain-links .ensures;
+      };
       flags = flags-hold (b .well) _ (omega (arith, f .flag-edges .kept .1 .1 .1 .0, length-replicate {A = ℕ} pairLimit 0)) (f .flag-edges .ensures .1);
-      firsts-long = omega (arith, c .chain-links .kept .1 .0, length-replicate {A = ℕ} 4096 0, z .positions);
-      follow-long = omega (arith, c .chain-links .kept .1 .1 .0, length-replicate {A = ℕ} 16384 0, z .links);
-      chains = c .chain-links .ensures;
     }
 
 shared-slice-read-flag-edges : tie.Need-shared-slice-read-flag-edges

@@ -1,5 +1,5 @@
 -- A refusal of the reduced-game call stands; otherwise what it leaves, and what arrives.
-use mathlib.Core.Path.{_≡_, sym, ap, _∙_}
+use mathlib.Core.Path.{ap}
 use Rattle.reduction.specs.TableCall.{tabulationAnswer}
 use Rattle.carry.specs.CarryCallLaws.{class-refused, class-held, class-arrived}
 use borrow.Author.Needs.{needs}

@@ -1,11 +1,8 @@
 -- A refusal of the plan stands; otherwise what arrives, with the counts of the reduced game.
 use mathlib.Core.Path.{_≡_, sym, ap, _∙_, subst}
-use mathlib.Core.List.{List, []}
-use native.Mathlib.Omega.{arith}
-use lib.ListN.{length, take}
+use mathlib.Core.List.{[]}
 use lib.Seq.{length-take-le}
 use Rattle.theory.specs.Reduction.{reduced}
-use Rattle.table.specs.Table.{tableLength}
 use Rattle.table.specs.Verdict.{accepted, judge}
 use Rattle.table.specs.WellFormed.{WellFormed}
 use Rattle.table.specs.Acceptance.{acceptanceAnswer}

@@ -122,7 +122,7 @@ stepped c = c .before .before .before .before .before .before .before .before .b
 add-w : tie.Need-add-w Inv-loop μ-loop
 add-w c =
     let i = in-loop (stepped c) in
-    omega (arith, i .loop-test .taken, start (i .before) .pre .0 .board .well .vertices)
+    omega (arith, i .loop-test .taken, start (i .before) .pre .0 .links .board .well .vertices)
 
 loop-less : tie.Need-loop-less Inv-loop μ-loop
 loop-less c = omega (arith, in-loop (stepped c) .loop-test .taken)

@@ -14,7 +14,7 @@ run-requires : tie.Need-run-requires
 run-requires c κs =
     let a = c .before .before .before .before .before .before .before .before .before .before .before .before .before .before in
     let e = a .before .before .before .before .before .before .before .before .before .before .before .before .before .before .before .before .before .before in
-    let s = e .pre .0 .board .formed .sized in
+    let s = e .pre .0 .links .board .formed .sized in
     let first = first-pair _ _ _ _ _ _ _ _ _ _ _ _ (s .some) (s .positions) (e .pre .1 .1) (a .add-pair .ensures) in
     (e .pre .0, (first .ready, (e .pre .1 .0, first .old, first .vertex)))
 

@@ -1,4 +1,5 @@
 -- A reply is a move, and without one nothing changes.
+use native.Mathlib.Omega.{arith}
 use borrow.Author.Needs.{needs}
 use Rattle.replies.specs.RepliesLaws.{move-yes, move-no}
 use Rattle.pair_search.specs.MemoryLaws.{moved-none}
@@ -18,7 +19,7 @@ reply-requires : tie.Need-reply-requires
 reply-requires c κs = search needs
 
 cast-visit : tie.Need-cast-visit
-cast-visit c = search needs
+cast-visit c = let e = c .before .before .before .before .before .before .before .before .before .before .before .before .before .before .before .before .before .before .before .before .before .before in omega (arith, e .pre .1 .1 .4, e .pre .0 .links .board .well .vertices)
 
 visit-requires : tie.Need-visit-requires
 visit-requires c κs =
@@ -53,7 +54,7 @@ returns c =
 returns-2 : tie.Need-returns-2
 returns-2 c =
     let e = start (c .before) in
-    rw (move-no _ _ _ _ _ _ _ (e .pre .0 .board) _ (c .before .reply .ensures) (c .if1 .left)) (moved-none _ _ _ (e .pre .1 .0))
+    rw (move-no _ _ _ _ _ _ _ (e .pre .0 .links .board) _ (c .before .reply .ensures) (c .if1 .left)) (moved-none _ _ _ (e .pre .1 .0))
 
 pub step-spec : {M : Type 1} → statement M
 step-spec =

@@ -14,14 +14,14 @@ use Rattle.replies.proofs.answer.Statement.{statement}
 use Rattle.replies.proofs.answer.Tie as tie
 
 abbrev Inv-loop : tie.InvT-loop
-Inv-loop game player plan seats marks edges firsts follow i w l lone k₀ k =
+Inv-loop game player plan seats marks firsts follow i w l lone k₀ k =
     Passed (linkSource plan) (linkCount plan) lone (linkKeeps game player plan seats w) i k
 
 abbrev μ-loop : tie.MeasureT-loop
-μ-loop game player plan seats marks edges firsts follow i w l lone k₀ k = linkCount plan - k
+μ-loop game player plan seats marks firsts follow i w l lone k₀ k = linkCount plan - k
 
-abbrev before-owns : tie.After-shared-slice-known9 Inv-loop μ-loop → tie.Start Inv-loop μ-loop
-before-owns c = c .before .before .before .before .before .before .before .before .before
+abbrev before-owns : tie.After-shared-slice-known8 Inv-loop μ-loop → tie.Start Inv-loop μ-loop
+before-owns c = c .before .before .before .before .before .before .before .before
 
 abbrev start : tie.After-owns Inv-loop μ-loop → tie.Start Inv-loop μ-loop
 start c = before-owns (c .before)
@@ -71,7 +71,7 @@ shared-slice-read-k : tie.Need-shared-slice-read-k Inv-loop μ-loop
 shared-slice-read-k c = search needs
 
 cast-k : tie.Need-cast-k Inv-loop μ-loop
-cast-k c = omega (arith, c .shared-slice-known10 .given (start (c .before) .args .i))
+cast-k c = omega (arith, c .shared-slice-known9 .given (start (c .before) .args .i))
 
 loop-holds : tie.Need-loop-holds Inv-loop μ-loop
 loop-holds c = let e = start (c .before) in pass-start _ _ _ _ _ _ _ _ (e .pre .0 .chains) (e .pre .1 .0)
@@ -98,7 +98,7 @@ shared-slice-read-k-2 : tie.Need-shared-slice-read-k-2 Inv-loop μ-loop
 shared-slice-read-k-2 c = search needs
 
 cast-k-2 : tie.Need-cast-k-2 Inv-loop μ-loop
-cast-k-2 c = omega (arith, c .shared-slice-known11 .given (turn (c .before .before .before) .loop .k))
+cast-k-2 c = omega (arith, c .shared-slice-known10 .given (turn (c .before .before .before) .loop .k))
 
 loop-less : tie.Need-loop-less Inv-loop μ-loop
 loop-less c =

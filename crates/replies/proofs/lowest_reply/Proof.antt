@@ -59,7 +59,7 @@ loop-again c =
     let r = c .before in
     let a = r .before .before in
     let h = r .before .loop-test .taken in
-    let no = replied-no _ _ _ _ _ _ _ (start a .pre .0 .board) (r .reply .result) (r .reply .ensures) (c .if1 .left) in
+    let no = replied-no _ _ _ _ _ _ _ (start a .pre .0 .links .board) (r .reply .result) (r .reply .ensures) (c .if1 .left) in
     (omega (arith, h), a .loop .inv .1 ∙ first-step _ (a .loop .w) _ h no)
 
 returns-2 : tie.Need-returns-2 Inv-loop μ-loop

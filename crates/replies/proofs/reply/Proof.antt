@@ -39,7 +39,7 @@ cast-l : tie.Need-cast-l
 cast-l c = search needs
 
 is-marked-requires : tie.Need-is-marked-requires
-is-marked-requires c κs = let e = before-marked c in (e .pre .1 .1, e .pre .1 .2, e .pre .0 .board .well .vertices, e .pre .0 .flags .long)
+is-marked-requires c κs = let e = before-marked c in (e .pre .1 .1, e .pre .1 .2, e .pre .0 .links .board .well .vertices, e .pre .0 .flags .long)
 
 answer-requires : tie.Need-answer-requires
 answer-requires c κs = search needs
@@ -62,7 +62,7 @@ shared-slice-read-result c = search needs
 cast-result : tie.Need-cast-result
 cast-result c =
     let a = c .before .before in
-    let f = start (a .before .before) .pre .0 .board .formed in
+    let f = start (a .before .before) .pre .0 .links .board .formed in
     omega (arith, f .targets (a .answer .result) (c .before .if2 .taken), f .sized .positions)
 
 returns : tie.Need-returns

@@ -1,6 +1,5 @@
 -- Each way out is row 34, row 35, or the plan's words.
 use mathlib.Core.Logic.{inl, inr}
-use native.Mathlib.Omega.{arith}
 use Rattle.arrival.specs.OutputLaws.{found-many, found-short, found-written}
 use borrow.Author.Needs.{needs}
 use Rattle.arrival.proofs.output.write_found.Statement.{statement}

@@ -9,7 +9,7 @@ use Rattle.theory.specs.QuotientLaws.{order-preorder}
 use Rattle.table.specs.Table.{gameOf}
 use Rattle.classes.specs.Numbering.{Represented}
 use Rattle.links.specs.PlanTable.{positionCount, vertexAt}
-use Rattle.classes.specs.NumberingLaws.{numbered-represented, represented-lt}
+use Rattle.classes.specs.NumberingLaws.{numbered-represented}
 use Rattle.classes.specs.HoldingLaws.{ordered-preorder, ordered-numbered}
 use Rattle.arrival.specs.Arrival.{seatOf, planVertices}
 use Rattle.arrival.specs.ArrivalLaws.{part-vertex, length-part, seats-gathered}

@@ -1,5 +1,5 @@
 -- By class, or a copy of the plan's own vertices.
-use mathlib.Core.Path.{_≡_, sym, subst}
+use mathlib.Core.Path.{sym, subst}
 use mathlib.Core.Bool.{Bool}
 use native.Mathlib.Omega.{arith}
 use Rattle.links.specs.PlanTable.{positionCount}
@@ -12,7 +12,7 @@ use Rattle.arrival.proofs.seats.seat_positions.Tie as tie
 seat-classes-requires : tie.Need-seat-classes-requires
 seat-classes-requires c κs =
     let s = c .before .before .before .before .before .before in
-    (subst (λ (b : Bool). Carriable b (s .args .game .now) (s .args .player) (s .args .plan .now) (s .args .marks .now)) (c .before .if1 .taken) (s .pre .0), s .pre .1)
+    (subst (λ (b : Bool). Carriable b (s .args .game .now) (s .args .plan .now) (s .args .marks .now)) (c .before .if1 .taken) (s .pre .0), s .pre .1)
 
 same-length : tie.Need-same-length
 same-length c = search needs
@@ -22,7 +22,7 @@ returns c =
     let w = c .before .before in
     let t = w .before .before in
     let s = t .before .before .before .before .before in
-    subst (λ (b : Bool). Seats b (s .args .game .now) (s .args .plan .now) (w .seat-classes .last .1 .1 .1 .1 .0)) (sym (t .if1 .taken)) (w .seat-classes .ensures)
+    subst (λ (b : Bool). Seats b (s .args .game .now) (s .args .plan .now) (w .seat-classes .last .1 .1 .1 .0)) (sym (t .if1 .taken)) (w .seat-classes .ensures)
 
 shared-slice-read-p : tie.Need-shared-slice-read-p
 shared-slice-read-p c = search needs
