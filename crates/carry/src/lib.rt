@@ -5,11 +5,12 @@ use pairs::marks::length_for;
 use plan::judge_plan;
 use reduction::TableCounts;
 use reduction::Tabulation;
-use reduction::write_reduced;
+use reduction::tabulate_classes;
 use table::Acceptance;
 use table::Reading;
 use table::Refusal;
 use table::refusal_of;
+ghost use mathlib.Core.Bool.{true};
 ghost use mathlib.Core.List.{_++_};
 ghost use Rattle.theory.specs.Reduction.{reduced};
 ghost use Rattle.reduction.specs.TableCall.{tableCounts};
@@ -17,7 +18,6 @@ ghost use Rattle.arrival.specs.PlanWords.{planWords, planCounts, carryingAnswer
 ghost use Rattle.carry.specs.CarryCall.{CarryCall, classCarryingAnswer, CarryClassCall};
 ghost use Rattle.arrival.specs.Arrival.{carriedBy, Arrived};
 ghost use Rattle.carry.specs.Reduced.{ReducedHeld, reducedRows};
-ghost use mathlib.Core.Bool.{true};
 
 // The number of classes, the vertices and edges of the reduced game, and the positions and links of the plan that is written.
 pub struct ClassPlanCounts {
@@ -86,7 +86,11 @@ pub fn carry_class_plan(
 ) -> ClassCarrying
     ensures { λ r. ⌜ CarryClassCall (now (game .entry)) player (now (plan .entry)) vertex (now (marks .entry)) (now (spare .entry)) (now (classes .entry)) (now (reduction .entry)) (now (output .entry)) (classCarryingAnswer r) (now (marks .exit)) (now (spare .exit)) (now (classes .exit)) (now (reduction .exit)) (now (output .exit)) ⌝ }
 {
-    let written = write_reduced(game, marks, spare, classes, reduction);
+    let reading = table::read(game);
+    let Reading::Accepted(sizes) = reading else {
+        return ClassCarrying::Refused(refusal_of(reading));
+    };
+    let written = tabulate_classes(game, sizes, marks, spare, classes, reduction, true);
     match written {
         Tabulation::Accepted(counts) => {
             carry_reduced(

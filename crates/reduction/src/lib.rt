@@ -25,8 +25,8 @@ pub enum Tabulation {
 }
 
 // Judges the memory for a game that was read, and writes the order, the classes, and the table of the quotient or, with `drop`, of the
-// reduced game.
-fn tabulate_classes(
+// reduced game. A part of the calls that write such a table; no host calls it.
+pub fn tabulate_classes(
     game: &[u16],
     sizes: Sizes,
     marks: &mut [u8],

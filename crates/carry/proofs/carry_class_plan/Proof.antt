@@ -1,16 +1,54 @@
--- A refusal of the reduced-game call stands; otherwise what it leaves, and what arrives.
-use mathlib.Core.Path.{ap}
-use Rattle.reduction.specs.TableCall.{tabulationAnswer}
+-- A refusal of the reader or of the memory stands; otherwise what the reduced game's call leaves, and what arrives.
+use mathlib.Core.Path.{ap, refl}
+use Rattle.theory.specs.Reduction.{reduced}
+use Rattle.class_edges.specs.Rows.{gameBy}
+use Rattle.reduction.specs.TableCall.{tabulationAnswer, TableCall}
+use Rattle.reduction.specs.TableCallLaws.{sized, table-handed}
 use Rattle.carry.specs.CarryCallLaws.{class-refused, class-held, class-arrived}
 use borrow.Author.Needs.{needs}
 use Rattle.carry.proofs.carry_class_plan.Statement.{statement}
 use Rattle.carry.proofs.carry_class_plan.Tie as tie
 
-abbrev wrote : tie.After-slice-known9 → tie.After-write-reduced
+abbrev start : tie.After-read → tie.Start
+start c = c .before .before .before .before .before .before .before .before
+
+abbrev reader : tie.After-tabulate-classes → tie.After-reading
+reader c = c .before .before .before .before .before .before
+
+abbrev wrote : tie.After-slice-known9 → tie.After-tabulate-classes
 wrote c = c .before .before .before .before .before .before .before .before
 
-write-reduced-requires : tie.Need-write-reduced-requires
-write-reduced-requires c κs = search needs
+-- what is left is what the reduced game's call leaves
+table : (c : tie.After-tabulate-classes)
+    → let a = start (reader c .before .before) .args in
+    TableCall reduced (a .game .now) (a .marks .now) (a .spare .now) (a .classes .now) (a .reduction .now) (tabulationAnswer (c .tabulate-classes .result))
+    (c .tabulate-classes .last .1 .1 .0) (c .tabulate-classes .last .1 .1 .1 .0) (c .tabulate-classes .last .1 .1 .1 .1 .0)
+    (c .tabulate-classes .last .1 .1 .1 .1 .1 .0)
+unfolding gameBy
+table c = c .tabulate-classes .ensures
+
+read-requires : tie.Need-read-requires
+read-requires c κs = search needs
+
+enum-known-reading : tie.Need-enum-known-reading
+enum-known-reading c = search needs
+
+enum-told : tie.Need-enum-told
+enum-told c = search needs
+
+refusal-of-requires : tie.Need-refusal-of-requires
+refusal-of-requires c κs = search needs
+
+returns : tie.Need-returns
+returns c =
+    let t = c .before .enum-told .given in
+    let r = c .before .before .before in
+    class-refused _ _ _ _ _ _ _ _ _ (table-handed reduced _ _ _ _ _ _ _ _ (t .1) (r .read .ensures) (c .refusal-of .ensures)) _ _ refl
+
+tabulate-classes-requires : tie.Need-tabulate-classes-requires
+tabulate-classes-requires c κs =
+    let r = c .before .before .before .before .before in
+    sized (r .reading .given .1) (r .before .before .read .ensures)
 
 enum-known-written : tie.Need-enum-known-written
 enum-known-written c = search needs
@@ -18,7 +56,7 @@ enum-known-written c = search needs
 carry-reduced-requires : tie.Need-carry-reduced-requires
 carry-reduced-requires c κs =
     let k = c .before .before .before .before in
-    class-held (wrote (k .before .before) .write-reduced .ensures) _ (ap tabulationAnswer (k .written .given .1))
+    class-held (table (wrote (k .before .before))) _ (ap tabulationAnswer (k .written .given .1))
 
 enum-known-written-2 : tie.Need-enum-known-written-2
 enum-known-written-2 c = search needs
@@ -38,11 +76,11 @@ same-length-4 c = search needs
 same-length-5 : tie.Need-same-length-5
 same-length-5 c = search needs
 
-returns : tie.Need-returns
-returns c =
+returns-2 : tie.Need-returns-2
+returns-2 c =
     let r = c .before .before in
     let k = r .before .before .before .before .before in
-    class-arrived _ _ _ _ _ _ _ _ _ (wrote (k .before .before) .write-reduced .ensures) _ (ap tabulationAnswer (k .written .given .1)) _ _ (r .carry-reduced .ensures)
+    class-arrived _ _ _ _ _ _ _ _ _ (table (wrote (k .before .before))) _ (ap tabulationAnswer (k .written .given .1)) _ _ (r .carry-reduced .ensures)
 
 same-length-6 : tie.Need-same-length-6
 same-length-6 c = search needs
@@ -56,16 +94,21 @@ same-length-8 c = search needs
 same-length-9 : tie.Need-same-length-9
 same-length-9 c = search needs
 
-returns-2 : tie.Need-returns-2
-returns-2 c =
+returns-3 : tie.Need-returns-3
+returns-3 c =
     let k = c .before in
-    class-refused _ _ _ _ _ _ _ _ _ (wrote (k .before .before) .write-reduced .ensures) _ _ (ap tabulationAnswer (k .written2 .given .1))
+    class-refused _ _ _ _ _ _ _ _ _ (table (wrote (k .before .before))) _ _ (ap tabulationAnswer (k .written2 .given .1))
 
 pub carry-class-plan-spec : {M : Type 1} → statement M
 carry-class-plan-spec =
     tie.close
     (tie.spec
-    write-reduced-requires
+    read-requires
+    enum-known-reading
+    enum-told
+    refusal-of-requires
+    returns
+    tabulate-classes-requires
     enum-known-written
     carry-reduced-requires
     enum-known-written-2
@@ -74,9 +117,9 @@ carry-class-plan-spec =
     same-length-3
     same-length-4
     same-length-5
-    returns
+    returns-2
     same-length-6
     same-length-7
     same-length-8
     same-length-9
-    returns-2)
+    returns-3)
