@@ -18,6 +18,7 @@ use Rattle.classes.specs.Numbering.{Ordered, classesIn}
 use Rattle.links.specs.PlanTable.{positionCount, vertexAt, planOf}
 use Rattle.links.specs.PlanFormed.{PlanFormed}
 use Rattle.replies.specs.Replies.{seated, needed}
+use Rattle.pair_search.specs.Chains.{pairsIn}
 use Rattle.arrival.specs.PlanWords.{carriedRows}
 
 -- ---- whether the plan is on the game itself or, by class, on the reduced game
@@ -50,7 +51,7 @@ arrivalRows byClass game player plan y output =
 unfoldable pub planBy : List ℕ → List ℕ → List ℕ → ℕ → ℕ → Plan
 planBy vertices sources targets p l = record {
   vertices = tabulate p (λ i. getD vertices i 0);
-  links = tabulate l (λ k. (getD sources k 0, getD targets k 0));
+  links = pairsIn sources targets l;
 }
 
 -- the plan that the search finds

@@ -26,6 +26,7 @@ use Rattle.pairs.specs.MarksLaws.{relation-mark}
 use Rattle.classes.specs.Numbering.{Holding}
 use Rattle.replies.specs.Replies.{seated, needed}
 use Rattle.pair_search.specs.Chains.{pairsIn}
+use Rattle.pair_search.specs.PairsInLaws.{length-pairsIn}
 use Rattle.pair_search.specs.Memory.{Memory, foundIn, Within}
 use Rattle.pair_search.specs.Search.{Over, Ran}
 use Rattle.arrival.specs.PlanWords.{planWords, planCounts, sizeRows}
@@ -92,8 +93,7 @@ module _ (game : List ℕ) (player : ℕ) (plan seats : List ℕ) (y : ℕ) wher
     many : Over (m .pairs) (m .links) → Over (length (P .vertices)) (length (P .links))
     unfolding planBy
     many o =
-        rw (length-tabulate (m .pairs) (λ i. getD (m .vertices) i 0), length-tabulate {A = ℕ × ℕ} (m .links) (λ k. (getD (m .sources) k 0, getD (m .targets) k 0)))
-        o
+        rw (length-tabulate (m .pairs) (λ i. getD (m .vertices) i 0), length-pairsIn (m .sources) (m .targets) (m .links)) o
 
     pub found-arrives : (answer : Answer) (output′ : List ℕ) → Arrived (sizeRows P output) (planCounts P) (planWords P) output answer output′
         → Arrived (sizeRows C output) (planCounts C) (planWords C) output answer output′

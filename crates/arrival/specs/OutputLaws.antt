@@ -19,6 +19,8 @@ use Rattle.table.specs.PlacingLaws.{written-two, written-join}
 use Rattle.table.specs.Verdict.{Clean, accepted, refused, judge, after, written}
 use Rattle.table.specs.VerdictLaws.{judge-hit, judge-next, judge-clean, after-clean, after-refused}
 use Rattle.links.specs.PlanTable.{planLength}
+use Rattle.pair_search.specs.Chains.{pairsIn}
+use Rattle.pair_search.specs.PairsInLaws.{length-pairsIn}
 use Rattle.arrival.specs.PlanWords.{planWords, planCounts, sizeRows}
 use Rattle.arrival.specs.Arrival.{planBy, Arrived}
 
@@ -36,11 +38,11 @@ module _ (vertices sources targets : List ℕ) (p l : ℕ) where
 
   length-links : length (planBy vertices sources targets p l .links) ≡ l
   unfolding planBy
-  length-links = length-tabulate l (λ k. (getD sources k 0, getD targets k 0))
+  length-links = length-pairsIn sources targets l
 
   words-are : planWords (planBy vertices sources targets p l)
       ≡ p ∷ l ∷ (tabulate p (λ i. getD vertices i 0) ++ (tabulate l (λ k. getD sources k 0) ++ tabulate l (λ k. getD targets k 0)))
-  unfolding planWords planBy
+  unfolding planWords planBy pairsIn
   words-are = rw (
     length-tabulate p (λ i. getD vertices i 0),
     length-tabulate {A = ℕ × ℕ} l (λ k. (getD sources k 0, getD targets k 0)),
