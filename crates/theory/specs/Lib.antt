@@ -13,6 +13,10 @@ pub mod Simulation
 pub mod SimulationLaws
 pub mod Order
 pub mod OrderLaws
+pub mod Rounds
+pub mod RoundsLaws
+pub mod Rows
+pub mod RowsLaws
 pub mod Plan
 pub mod LinkLaws
 pub mod Returns

@@ -1,0 +1,101 @@
+-- Rounds are passes: a relation that starts as the passes do and keeps in each round what passes the test is the relation after that pass
+-- (`after-start`, `after-next`); where a round keeps all, the passes end with it (`last-passes`, `last-marks`).
+use mathlib.Core.Path.{_≡_, refl, sym, _∙_, subst₂}
+use mathlib.Core.Bool.{Bool, false, So}
+use Prim.Native.Nat.{ℕ, suc, _+_, _*_, _/_, _%_, _≤_, _<_}
+use native.Mathlib.Nat.{div-add-mod'}
+use native.Mathlib.Numerals.{add-one}
+use native.Mathlib.Omega.{arith}
+use lib.Arith.{digits-lt, digits-div, digits-mod}
+use Rattle.theory.specs.Bools.{_&_}
+use Rattle.theory.specs.BoolsLaws.{clash, So-not, imp-in, imp-out}
+use Rattle.theory.specs.Range.{first}
+use Rattle.theory.specs.RangeLaws.{all-in, all-out, first-step, first-hit, first-ge}
+use Rattle.theory.specs.CountLaws.{row-lt, col-lt}
+use Rattle.theory.specs.Passes.{Test, Rel, marked, relOf, pass, settled, rounds, passCount, finalMarks, pairTest, pairStart}
+use Rattle.theory.specs.PassesLaws.{pass-zero, pass-suc, rounds-le}
+use Rattle.theory.specs.Rounds.{afterPass, AfterPass}
+
+module _ (n : ℕ) (test : Rel → Rel) (start : Rel)
+    (same-test : (H K : Rel) (v w : ℕ) → ((x y : ℕ) → x < n → y < n → H x y ≡ K x y) → test H v w ≡ test K v w) where
+  abbrev N : ℕ
+  N = n * n
+
+  abbrev ok : Test
+  ok = pairTest n test
+
+  abbrev begin : ℕ → Bool
+  begin = pairStart n start
+
+  -- ---- the relation after a pass, pair by pair
+
+  after-zero : (v w : ℕ) → v < n → w < n → afterPass n test start 0 v w ≡ start v w
+  unfolding afterPass relOf pairStart
+  after-zero v w hv hw = pass-zero N ok begin (v * n + w) (digits-lt hv hw) ∙ rw (digits-div v hw, digits-mod v hw)
+
+  after-suc : (k v w : ℕ) → v < n → w < n
+      → afterPass n test start (suc k) v w ≡ afterPass n test start k v w & test (afterPass n test start k) v w
+  unfolding afterPass relOf pairTest
+  after-suc k v w hv hw = pass-suc N ok begin k (v * n + w) (digits-lt hv hw) ∙ rw (digits-div v hw, digits-mod v hw)
+
+  -- pair i of the marks
+  after-pair : (k i : ℕ) → marked (pass N ok begin k) i ≡ afterPass n test start k (i / n) (i % n)
+  unfolding afterPass relOf
+  after-pair k i = rw (div-add-mod' i n)
+
+  -- pass k + 1 unmarks nothing exactly if all that pass k left passes
+  settled-out : (k : ℕ) → So (settled N ok (pass N ok begin k)) → (v w : ℕ) → v < n → w < n
+      → So (afterPass n test start k v w) → So (test (afterPass n test start k) v w)
+  unfolding settled pairTest afterPass relOf
+  settled-out k s v w hv hw t =
+      subst₂ (λ (x y : ℕ). So (test (relOf n (marked (pass N ok begin k))) x y)) (digits-div v hw) (digits-mod v hw)
+      (imp-out (all-out s .at (v * n + w) (digits-lt hv hw)) t)
+
+  settled-in : (k : ℕ) → ((v w : ℕ) → v < n → w < n → So (afterPass n test start k v w) → So (test (afterPass n test start k) v w))
+      → So (settled N ok (pass N ok begin k))
+  unfolding settled pairTest
+  settled-in k f = all-in N _ (λ i h. imp-in (λ t.
+      unfold afterPass in f (i / n) (i % n) (row-lt n n i h) (col-lt n n i h) (sym (after-pair k i) ∙ t)))
+
+  -- ---- rounds
+
+  pub after-start : (H : Rel) → ((v w : ℕ) → v < n → w < n → H v w ≡ start v w) → AfterPass n test start 0 H
+  unfolding rounds
+  after-start H e = record { same = λ v w hv hw. e v w hv hw ∙ sym (after-zero v w hv hw); few = omega arith; rest = refl }
+
+  module _ (k : ℕ) (H : Rel) (p : AfterPass n test start k H) where
+    tested : (v w : ℕ) → test H v w ≡ test (afterPass n test start k) v w
+    tested v w = same-test H (afterPass n test start k) v w (p .same)
+
+    -- all of H passes: the next pass is the last
+    module _ (all : (v w : ℕ) → v < n → w < n → So (H v w) → So (test H v w)) where
+      last-round : rounds N ok begin ≡ k
+      last-round =
+          p .rest
+          ∙ first-hit _ k (suc N) (omega (arith, p .few))
+          (settled-in k (λ v w hv hw t. sym (tested v w) ∙ all v w hv hw (p .same v w hv hw ∙ t)))
+
+      pub last-passes : k + 1 ≡ passCount N ok begin
+      unfolding passCount
+      last-passes = rw last-round (add-one k)
+
+      pub last-marks : (v w : ℕ) → v < n → w < n → H v w ≡ marked (finalMarks N ok begin) (v * n + w)
+      unfolding finalMarks afterPass relOf
+      last-marks v w hv hw = rw last-round (p .same v w hv hw)
+
+    -- H′ is what passes, and some pair of H doesn't: one pass more, and not the last
+    pub after-next : (H′ : Rel) → ((v w : ℕ) → v < n → w < n → H′ v w ≡ H v w & test H v w)
+        → (v w : ℕ) → v < n → w < n → So (H v w) → test H v w ≡ false → AfterPass n test start (k + 1) H′
+    after-next H′ left v w hv hw t f = record { same = same; few = few; rest = rest }
+      where
+        same : (v w : ℕ) → v < n → w < n → H′ v w ≡ afterPass n test start (k + 1) v w
+        same v w hv hw = rw (add-one k) (left v w hv hw ∙ rw (tested v w, p .same v w hv hw) (sym (after-suc k v w hv hw)))
+
+        goes-on : settled N ok (pass N ok begin k) ≡ false
+        goes-on = So-not (λ s. clash (tested v w ∙ settled-out k s v w hv hw (sym (p .same v w hv hw) ∙ t)) f)
+
+        rest : rounds N ok begin ≡ first (λ j. settled N ok (pass N ok begin j)) (k + 1) (suc N)
+        rest = p .rest ∙ first-step _ k (suc N) (omega (arith, p .few)) goes-on
+
+        few : k + 1 ≤ N
+        few = omega (arith, rounds-le N ok begin, first-ge (λ j. settled N ok (pass N ok begin j)) (k + 1) (suc N), rest)

@@ -1,0 +1,281 @@
+-- Laws of rows: the pair test by rows is the pair test (`test-rows`); what leaves the controllable predecessors of a set (`fall-is`); under all
+-- pairs every pair passes (`fallen-start`); a round takes out exactly what fails under the rows before it (`round-passes`), leaves the ground
+-- for the next round (`fallen-next`), and leaves alone each row no successor of which lost anything (`loses-none`). So rounds are the passes of
+-- the order (`round-start`, `round-next`, `last-count`, `last-order`).
+use mathlib.Core.Path.{_≡_, refl, sym, ap, _∙_}
+use mathlib.Core.Logic.{inl, inr}
+use mathlib.Core.Bool.{Bool, true, false, not, cond, So}
+use Prim.Native.Nat.{ℕ, _+_, _*_, _<_}
+use Rattle.theory.specs.Bools.{_&_, _or_, imp}
+use Rattle.theory.specs.BoolsLaws.{decide, clash, So-ext, So-not, not-in, not-out, and-in, and-out, imp-in, imp-out, or-left, or-right, or-out}
+use Rattle.theory.specs.Passes.{Rel, marked}
+use Rattle.theory.specs.Game.{even, Game, own, Succ, Total}
+use Rattle.theory.specs.SimulationLaws.{moves-mono}
+use Rattle.theory.specs.Order.{allNext, anyNext, moves, equalPriority, test, marksBetween, orderMarks, orderPasses, Holds}
+use Rattle.theory.specs.OrderLaws.{allNext-in, allNext-out, anyNext-in, anyNext-out, moves-in, moves-out}
+use Rattle.theory.specs.RoundsLaws.{after-start, after-next, last-passes, last-marks}
+use Rattle.theory.specs.Rows.{cpre, united, rowTest, fall, unitedLost, fails, loses, Fallen, Round, AfterRound}
+
+-- the pairs of either
+abbrev both : Rel → Rel → Rel
+both H K v w = H v w or K v w
+
+-- ---- Bools
+
+and-rest : (a b : Bool) → a & b ≡ false → So a → b ≡ false
+unfolding _&_
+and-rest true b e t = e
+and-rest false b e t = clash t refl
+
+and-none : (a b : Bool) → (So a → b ≡ false) → a & b ≡ false
+unfolding _&_
+and-none true b f = f refl
+and-none false b f = refl
+
+-- a is what b is not
+opposite : {a : Bool} (b : Bool) → (So a → So b → ⊥) → (a ≡ false → So b) → a ≡ not b
+opposite {a} b f h = So-ext (λ t. not-in (So-not (f t))) (λ t. elim (decide a) [ inl s ↦ s | inr e ↦ clash (h e) (not-out t) ])
+
+-- ---- each and some successor
+
+module _ (g : Game) where
+  any-same : (v : ℕ) (p q : ℕ → Bool) → ((x : ℕ) → Succ g v x → p x ≡ q x) → anyNext g v p ≡ anyNext g v q
+  any-same v p q e =
+      So-ext
+      (λ t. let r = anyNext-out g v p t in anyNext-in g v q (r .0) (r .1) (sym (e (r .0) (r .1)) ∙ r .2))
+      (λ t. let r = anyNext-out g v q t in anyNext-in g v p (r .0) (r .1) (e (r .0) (r .1) ∙ r .2))
+
+  all-same : (v : ℕ) (p q : ℕ → Bool) → ((x : ℕ) → Succ g v x → p x ≡ q x) → allNext g v p ≡ allNext g v q
+  all-same v p q e =
+      So-ext
+      (λ t. allNext-in g v q (λ x s. sym (e x s) ∙ allNext-out g v p t x s))
+      (λ t. allNext-in g v p (λ x s. e x s ∙ allNext-out g v q t x s))
+
+  -- some of v's and some of w's, in either sequence
+  any-swap : (H : Rel) (v w : ℕ) → anyNext g v (λ x. anyNext g w (H x)) ≡ anyNext g w (λ y. anyNext g v (λ x. H x y))
+  any-swap H v w =
+      So-ext
+      (λ t.
+      let r = anyNext-out g v _ t in
+      let q = anyNext-out g w _ (r .2) in
+      anyNext-in g w _ (q .0) (q .1) (anyNext-in g v _ (r .0) (r .1) (q .2)))
+      (λ t.
+      let r = anyNext-out g w _ t in
+      let q = anyNext-out g v _ (r .2) in
+      anyNext-in g v _ (q .0) (q .1) (anyNext-in g w _ (r .0) (r .1) (q .2)))
+
+  -- ---- the test by rows
+
+  pub test-rows : (H : Rel) (v w : ℕ) → test even g g H v w ≡ rowTest g H v w
+  unfolding test moves rowTest cpre united
+  test-rows H v w = go (own g even v) (own g even w)
+    where
+      go : (a b : Bool)
+          → moves a b g g H v w
+          ≡ cond a (allNext g v (λ x. cond b (anyNext g w (H x)) (allNext g w (H x))))
+          (cond b (anyNext g w (λ y. anyNext g v (λ x. H x y))) (allNext g w (λ y. anyNext g v (λ x. H x y))))
+      go true true = refl
+      go true false = refl
+      go false true = any-swap H v w
+      go false false = refl
+
+  pub cpre-same : (X Y : ℕ → Bool) (w : ℕ) → ((x : ℕ) → x < g .n → X x ≡ Y x) → cpre g X w ≡ cpre g Y w
+  unfolding cpre
+  cpre-same X Y w e = rw (any-same w X Y (λ x s. e x (s .inside)), all-same w X Y (λ x s. e x (s .inside)))
+
+  -- ---- the fall of a row: X is left of X and L, which are apart
+
+  pub fall-is : (L X : ℕ → Bool) (w : ℕ) → ((x : ℕ) → x < g .n → So (L x) → X x ≡ false) → So (cpre g (λ x. X x or L x) w)
+      → cpre g X w ≡ not (fall g L X w)
+  unfolding cpre fall
+  fall-is L X w apart t = go (own g even w) t
+    where
+      some : So (anyNext g w (λ x. X x or L x)) → anyNext g w X ≡ false → So (anyNext g w L)
+      some s f = let r = anyNext-out g w _ s in elim (or-out (r .2)) [
+        | inl a ↦ clash (anyNext-in g w X (r .0) (r .1) a) f
+        | inr b ↦ anyNext-in g w L (r .0) (r .1) b
+      ]
+
+      each : So (allNext g w (λ x. X x or L x)) → anyNext g w L ≡ false → So (allNext g w X)
+      each s f = allNext-in g w X (λ x h. elim (or-out (allNext-out g w _ s x h)) [ inl a ↦ a | inr b ↦ clash (anyNext-in g w L x h b) f ])
+
+      go : (b : Bool) → So (cond b (anyNext g w (λ x. X x or L x)) (allNext g w (λ x. X x or L x)))
+          → cond b (anyNext g w X) (allNext g w X) ≡ not (anyNext g w L & imp b (not (anyNext g w X)))
+      go true s =
+          opposite (anyNext g w L & imp true (not (anyNext g w X))) (λ a f. clash a (not-out (imp-out (and-out f .1) refl)))
+          (λ e. and-in (some s e) (imp-in (λ h. not-in e)))
+      go false s =
+          opposite (anyNext g w L & imp false (not (anyNext g w X)))
+          (λ a f. let r = anyNext-out g w L (and-out f .0) in clash (allNext-out g w X a (r .0) (r .1)) (apart (r .0) (r .1 .inside) (r .2)))
+          (λ e.
+          let l : So (anyNext g w L) = elim (decide (anyNext g w L)) [ inl a ↦ a | inr f ↦ clash (each s f) e ] in
+          and-in l (imp-in (λ h. clash h refl)))
+
+  -- ---- what fails in a round
+
+  module _ (H lost : Rel) (f : Fallen g H lost) (v w : ℕ) (hv : v < g .n) (hw : w < g .n) where
+    -- the union of the rows of v's successors is what is left of it and what it lost
+    union : (x : ℕ) → united g (both H lost) v x ≡ (united g H v x or unitedLost g H lost v x)
+    unfolding united unitedLost
+    union x =
+        So-ext
+        (λ t. let r = anyNext-out g v _ t in elim (or-out (r .2)) [
+          | inl a ↦ or-left _ (anyNext-in g v _ (r .0) (r .1) a)
+          | inr b ↦ elim (decide (anyNext g v (λ a. H a x))) [
+            | inl a ↦ or-left _ a
+            | inr e ↦ or-right _ (and-in (anyNext-in g v _ (r .0) (r .1) b) (not-in e))
+          ]
+        ])
+        (λ t. elim (or-out t) [
+          | inl a ↦ (let r = anyNext-out g v _ a in anyNext-in g v _ (r .0) (r .1) (or-left _ (r .2)))
+          | inr b ↦ (let r = anyNext-out g v _ (and-out b .0) in anyNext-in g v _ (r .0) (r .1) (or-right _ (r .2)))
+        ])
+
+    round-fails : So (H v w) → test even g g H v w ≡ not (fails g H lost v w)
+    unfolding rowTest fails
+    round-fails t = test-rows H v w ∙ go (own g even v) (sym (test-rows (both H lost) v w) ∙ f .passed v w hv hw t)
+      where
+        go : (b : Bool) → So (cond b (allNext g v (λ a. cpre g (both H lost a) w)) (cpre g (united g (both H lost) v) w))
+            → cond b (allNext g v (λ a. cpre g (H a) w)) (cpre g (united g H v) w)
+            ≡ not (cond b (anyNext g v (λ a. fall g (lost a) (H a) w)) (fall g (unitedLost g H lost v) (united g H v) w))
+        go true s =
+            let each : (a : ℕ) → Succ g v a → cpre g (H a) w ≡ not (fall g (lost a) (H a) w) =
+            λ a h. fall-is (lost a) (H a) w (λ x k l. f .apart a x (h .inside) k l) (allNext-out g v _ s a h) in
+            opposite (anyNext g v (λ a. fall g (lost a) (H a) w))
+            (λ a b. let r = anyNext-out g v _ b in clash (r .2) (not-out (sym (each (r .0) (r .1)) ∙ allNext-out g v _ a (r .0) (r .1))))
+            (λ e. elim (decide (anyNext g v (λ a. fall g (lost a) (H a) w))) [
+              | inl a ↦ a
+              | inr b ↦ clash (allNext-in g v _ (λ a h. each a h ∙ not-in (So-not (λ l. clash (anyNext-in g v _ a h l) b)))) e
+            ])
+        go false s =
+            fall-is (unitedLost g H lost v) (united g H v) w (λ x k l. not-out (unfold unitedLost in (and-out l .1)))
+            (sym (cpre-same _ _ w (λ x k. union x)) ∙ s)
+
+  -- a row no successor of which lost anything loses nothing
+  pub loses-none : (H lost : Rel) (v : ℕ) → ((a x : ℕ) → Succ g v a → x < g .n → lost a x ≡ false) → (w : ℕ) → loses g H lost v w ≡ false
+  unfolding loses fails fall unitedLost united
+  loses-none H lost v none w = and-none (H v w) _ (λ h. go (own g even v))
+    where
+      alone : (X : ℕ → Bool) (a : ℕ) → Succ g v a → anyNext g w (lost a) ≡ false
+      alone X a s = So-not (λ t. let r = anyNext-out g w _ t in clash (r .2) (none a (r .0) s (r .1 .inside)))
+
+      go : (b : Bool)
+          → cond b (anyNext g v (λ a. anyNext g w (lost a) & imp (own g even w) (not (anyNext g w (H a)))))
+          (anyNext g w (λ x. anyNext g v (λ a. lost a x) & not (anyNext g v (λ a. H a x)))
+          & imp (own g even w) (not (anyNext g w (λ x. anyNext g v (λ a. H a x)))))
+          ≡ false
+      go true = So-not (λ t. let r = anyNext-out g v _ t in clash (and-out (r .2) .0) (alone (H v) (r .0) (r .1)))
+      go false = So-not (λ t.
+          let r = anyNext-out g w _ (and-out t .0) in
+          let q = anyNext-out g v _ (and-out (r .2) .0) in
+          clash (q .2) (none (q .0) (r .0) (q .1) (r .1 .inside)))
+
+  -- ---- from round to round
+
+  -- a smaller relation passes less
+  test-mono : (H K : Rel) (v w : ℕ) → ((x y : ℕ) → x < g .n → y < g .n → So (H x y) → So (K x y)) → So (test even g g H v w) → So (test even g g K v w)
+  unfolding test
+  test-mono H K v w f t =
+      moves-in (own g even v) (own g even w) g g K v w
+      (moves-mono (own g even v) (own g even w) (Succ g v) (Succ g w) (Holds H) (Holds K) (λ x y s u q. f x y (s .inside) (u .inside) q)
+      (moves-out (own g even v) (own g even w) g g H v w t))
+
+  -- the test goes by the pairs of vertices alone
+  pub test-same : (H K : Rel) (v w : ℕ) → ((x y : ℕ) → x < g .n → y < g .n → H x y ≡ K x y) → test even g g H v w ≡ test even g g K v w
+  test-same H K v w e =
+      So-ext (test-mono H K v w (λ x y hx hy t. sym (e x y hx hy) ∙ t)) (test-mono K H v w (λ x y hx hy t. e x y hx hy ∙ t))
+
+  -- under all pairs every pair passes, since every vertex has a successor
+  module _ (total : Total g) where
+    cpre-all : (X : ℕ → Bool) → ((x : ℕ) → x < g .n → So (X x)) → (w : ℕ) → w < g .n → So (cpre g X w)
+    unfolding cpre
+    cpre-all X f w hw = go (own g even w)
+      where
+        go : (b : Bool) → So (cond b (anyNext g w X) (allNext g w X))
+        go true = let r = total w hw in anyNext-in g w X (r .0) (r .1) (f (r .0) (r .1 .inside))
+        go false = allNext-in g w X (λ x s. f x (s .inside))
+
+    all-pass : (K : Rel) → ((x y : ℕ) → x < g .n → y < g .n → So (K x y)) → (v w : ℕ) → v < g .n → w < g .n → So (test even g g K v w)
+    unfolding rowTest united
+    all-pass K k v w hv hw = test-rows K v w ∙ go (own g even v)
+      where
+        go : (b : Bool) → So (cond b (allNext g v (λ a. cpre g (K a) w)) (cpre g (λ x. anyNext g v (λ a. K a x)) w))
+        go true = allNext-in g v _ (λ a s. cpre-all (K a) (λ x h. k a x (s .inside) h) w hw)
+        go false = let r = total v hv in cpre-all _ (λ x h. anyNext-in g v (λ a. K a x) (r .0) (r .1) (k (r .0) x (r .1 .inside) h)) w hw
+
+    -- all that isn't in H was taken out
+    pub fallen-start : (H lost : Rel) → ((v w : ℕ) → v < g .n → w < g .n → lost v w ≡ not (H v w)) → Fallen g H lost
+    fallen-start H lost e = record {
+      apart = λ v w hv hw t. not-out (sym (e v w hv hw) ∙ t);
+      passed = λ v w hv hw t.
+          all-pass (both H lost)
+          (λ x y hx hy. elim (decide (H x y)) [ inl a ↦ or-left _ a | inr f ↦ or-right _ (e x y hx hy ∙ not-in f) ]) v w hv hw;
+    }
+
+  module _ (H lost H′ lost′ : Rel) (f : Fallen g H lost) (r : Round g H lost H′ lost′) where
+    -- H is what is left and what was taken out
+    round-whole : (v w : ℕ) → v < g .n → w < g .n → H v w ≡ both H′ lost′ v w
+    unfolding loses
+    round-whole v w hv hw =
+        So-ext
+        (λ t. elim (decide (lost′ v w)) [ inl a ↦ or-right _ a | inr e ↦ or-left _ (r .left v w hv hw ∙ and-in t (not-in e)) ])
+        (λ t. elim (or-out t) [
+          | inl a ↦ and-out (sym (r .left v w hv hw) ∙ a) .0
+          | inr b ↦ and-out (sym (r .out v w hv hw) ∙ b) .0
+        ])
+
+    -- what is left is what passes
+    pub round-passes : (v w : ℕ) → v < g .n → w < g .n → H′ v w ≡ H v w & test even g g H v w
+    unfolding loses
+    round-passes v w hv hw =
+        So-ext
+        (λ t.
+        let a = and-out (sym (r .left v w hv hw) ∙ t) in
+        let e : fails g H lost v w ≡ false = and-rest _ _ (sym (r .out v w hv hw) ∙ not-out (a .1)) (a .0) in
+        and-in (a .0) (round-fails H lost f v w hv hw (a .0) ∙ not-in e))
+        (λ t.
+        let a = and-out t in
+        let e = not-out (sym (round-fails H lost f v w hv hw (a .0)) ∙ a .1) in
+        r .left v w hv hw ∙ and-in (a .0) (not-in (r .out v w hv hw ∙ and-none _ _ (λ h. e))))
+
+    pub fallen-next : Fallen g H′ lost′
+    fallen-next = record {
+      apart = λ v w hv hw t. r .left v w hv hw ∙ and-none _ _ (λ h. ap not t);
+      passed = λ v w hv hw t. sym (test-same H (both H′ lost′) v w round-whole) ∙ and-out (sym (round-passes v w hv hw) ∙ t) .1;
+    }
+
+  -- ---- rounds are the passes of the order
+
+  -- pass 0 takes out the unequal priorities
+  pub round-start : Total g → (H lost : Rel) → ((v w : ℕ) → v < g .n → w < g .n → H v w ≡ equalPriority g g v w)
+      → ((v w : ℕ) → v < g .n → w < g .n → lost v w ≡ not (H v w)) → AfterRound g 0 H lost
+  round-start total H lost e l = record {
+    pass = after-start (g .n) (test even g g) (equalPriority g g) test-same H e;
+    fallen = fallen-start total H lost l;
+  }
+
+  module _ (k : ℕ) (H lost : Rel) (p : AfterRound g k H lost) where
+    -- a round that takes something out isn't the last
+    pub round-next : (H′ lost′ : Rel) → Round g H lost H′ lost′ → (v w : ℕ) → v < g .n → w < g .n → So (lost′ v w) → AfterRound g (k + 1) H′ lost′
+    unfolding loses
+    round-next H′ lost′ r v w hv hw t =
+        let a = and-out (sym (r .out v w hv hw) ∙ t) in record {
+          pass =
+              after-next (g .n) (test even g g) (equalPriority g g) test-same k H (p .pass) H′ (round-passes H lost H′ lost′ (p .fallen) r) v w hv hw (a .0)
+              (round-fails H lost (p .fallen) v w hv hw (a .0) ∙ ap not (a .1));
+          fallen = fallen-next H lost H′ lost′ (p .fallen) r;
+        }
+
+    -- a round that takes nothing out is
+    module _ (none : (v w : ℕ) → v < g .n → w < g .n → loses g H lost v w ≡ false) where
+      all-passes : (v w : ℕ) → v < g .n → w < g .n → So (H v w) → So (test even g g H v w)
+      unfolding loses
+      all-passes v w hv hw t = round-fails H lost (p .fallen) v w hv hw t ∙ not-in (and-rest _ _ (none v w hv hw) t)
+
+      pub last-count : k + 1 ≡ orderPasses g
+      unfolding orderPasses
+      last-count = last-passes (g .n) (test even g g) (equalPriority g g) test-same k H (p .pass) all-passes
+
+      pub last-order : (v w : ℕ) → v < g .n → w < g .n → H v w ≡ marked (orderMarks g) (v * g .n + w)
+      unfolding orderMarks marksBetween
+      last-order = last-marks (g .n) (test even g g) (equalPriority g g) test-same k H (p .pass) all-passes
