@@ -3,7 +3,7 @@ use mathlib.Core.Path.{_≡_, refl, sym, ap, _∙_, subst}
 use mathlib.Core.Logic.{inl, inr}
 use mathlib.Core.Bool.{Bool, true, false, not, So, cond}
 use Prim.Native.Nat.{ℕ, zero, suc, _+_, _*_, _/_, _%_, _≤_, _<_, zero-le}
-use native.Mathlib.Nat.{not-suc-le-zero, le-refl, lt-irrefl, mod-lt, div-lt-iff-lt-mul, div-add-mod', mul-zero}
+use native.Mathlib.Nat.{not-suc-le-zero, le-refl, lt-irrefl, mod-lt, div-lt-iff-lt-mul, div-add-mod', mul-zero, add-zero, add-suc}
 use native.Mathlib.Decide.{decLt}
 use native.Mathlib.Numerals.{add-one}
 use native.Mathlib.Omega.{arith}
@@ -27,6 +27,12 @@ pub count-ext : (n : ℕ) (p q : ℕ → Bool) → ((i : ℕ) → i < n → p i 
 unfolding count
 count-ext zero p q f = refl
 count-ext (suc n) p q f = omega (arith, count-ext n p q (λ i h. f i (omega arith)), ap bit (f n (omega arith)))
+
+-- below n, and from n on
+pub count-append : (n m : ℕ) (p : ℕ → Bool) → count (n + m) p ≡ count n p + count m (λ i. p (n + i))
+unfolding count
+count-append n zero p = ap (λ (k : ℕ). count k p) (add-zero n) ∙ sym (add-zero (count n p))
+count-append n (suc m) p = ap (λ (k : ℕ). count k p) (add-suc n m) ∙ omega (arith, count-append n m p)
 
 pub count-none : (n : ℕ) (p : ℕ → Bool) → ((i : ℕ) → i < n → p i ≡ false) → count n p ≡ 0
 unfolding count bit

@@ -1,5 +1,5 @@
 -- Laws of bounded "each", "some" and "the first".
-use mathlib.Core.Path.{_≡_, refl, sym, subst, ap₂, _∙_}
+use mathlib.Core.Path.{_≡_, refl, sym, subst, ap, ap₂, _∙_}
 use mathlib.Core.Logic.{_⊎_, inl, inr}
 use mathlib.Core.Bool.{Bool, true, false, So, cond, false≢true}
 use Prim.Native.Nat.{ℕ, zero, suc, _+_, _-_, _≤_, _<_}
@@ -97,6 +97,20 @@ any-more n p = rw (add-one n)
 -- and one that doesn't pass
 pub any-same : (n : ℕ) (p : ℕ → Bool) → p n ≡ false → anyBelow (n + 1) p ≡ anyBelow n p
 any-same n p e = any-more n p ∙ rw e (or-false (anyBelow n p))
+
+-- below n, or from n on
+pub any-append : (n m : ℕ) (p : ℕ → Bool) → anyBelow (n + m) p ≡ (anyBelow n p or anyBelow m (λ i. p (n + i)))
+any-append n m p =
+    So-ext
+    (λ t. let r = any-out t in elim (decLt (r .0) n) [
+      | yes h ↦ or-left _ (any-in n p (r .0) h (r .2))
+      | no h ↦ (let e : n + (r .0 - n) ≡ r .0 = omega arith in
+          or-right _ (any-in m (λ i. p (n + i)) (r .0 - n) (omega (arith, r .1)) (ap p e ∙ r .2)))
+    ])
+    (λ t. elim (or-out t) [
+      | inl a ↦ (let r = any-out a in any-in (n + m) p (r .0) (omega (arith, r .1)) (r .2))
+      | inr b ↦ (let r = any-out b in any-in (n + m) p (n + r .0) (omega (arith, r .1)) (r .2))
+    ])
 
 -- ---- some, from a number on
 
@@ -238,6 +252,16 @@ firstOf-ext : (p q : ℕ → Bool) (f k : ℕ) → ((i : ℕ) → k ≤ i → i 
 unfolding firstOf
 firstOf-ext p q zero k h = refl
 firstOf-ext p q (suc f) k h = rw (h k (omega arith) (omega arith), firstOf-ext p q f (suc k) (λ i l m. h i (omega arith) (omega arith)))
+
+-- numbers that don't pass are skipped
+pub first-skip : (p : ℕ → Bool) (a b e : ℕ) → a ≤ b → b ≤ e → ((i : ℕ) → a ≤ i → i < b → p i ≡ false) → first p a e ≡ first p b e
+first-skip p a b e l m f = elim (decLt (first p b e) e) [
+  | yes h ↦ first-is p a e (first p b e) (omega (arith, first-ge p b e)) h (first-passes p b e m h)
+      (λ j x y. elim (decLt j b) [ yes z ↦ f j x z | no z ↦ first-before p b e j (omega arith) y ])
+  | no h ↦
+      (let n = first-none p a e (omega arith) (λ i x y. elim (decLt i b) [ yes z ↦ f i x z | no z ↦ first-before p b e i (omega arith) (omega arith) ]) in
+      omega (arith, n, first-le p a e (omega arith), first-le p b e m))
+]
 
 pub first-ext : (p q : ℕ → Bool) (a e : ℕ) → ((i : ℕ) → a ≤ i → i < e → p i ≡ q i) → first p a e ≡ first q a e
 unfolding first

@@ -1,0 +1,5 @@
+pub mod Bits
+pub mod WordLaws
+pub mod MembersLaws
+pub mod RowLaws
+pub mod MatrixLaws
