@@ -1,12 +1,12 @@
 -- Rows of bits: sets of numbers below the limit of vertices, in words of 64 bits. Bit x of a row is digit x % 64 of its word x / 64.
 use mathlib.Core.Path.{_≡_}
-use mathlib.Core.Bool.{Bool, not}
+use mathlib.Core.Bool.{Bool, not, So}
 use mathlib.Core.List.{List}
 use Prim.Native.Nat.{ℕ, _+_, _*_, _/_, _%_, _^_, _≤_, _<_}
 use lib.Dec.{eqb}
 use lib.ListN.{length, getD}
 use Rattle.theory.specs.Bools.{_&_, _or_}
-use Rattle.theory.specs.Range.{anyBelow}
+use Rattle.theory.specs.Range.{anyBelow, first}
 use Rattle.table.specs.Limits.{vertexLimit}
 
 -- bits of a word and of a row, and words of a row
@@ -22,6 +22,21 @@ rowWords = rowBits / wordBits
 -- binary digit k of x is set
 unfoldable pub digit : ℕ → ℕ → Bool
 digit x k = eqb (x / 2 ^ k % 2) 1
+
+-- the lowest digit that is set
+unfoldable pub lowestBit : ℕ → ℕ
+lowestBit x = first (digit x) 0 wordBits
+
+-- k is that digit
+pub record Lowest (x k : ℕ) : Type 0 where
+  pub is : k ≡ lowestBit x
+  pub inside : k < wordBits
+  pub set : So (digit x k)
+
+-- r is x without it
+pub record Rest (x r : ℕ) : Type 0 where
+  pub digits : (k : ℕ) → digit r k ≡ digit x k & not (eqb k (lowestBit x))
+  pub less : r < x
 
 -- x is in the row
 unfoldable pub has : List ℕ → ℕ → Bool
@@ -46,9 +61,9 @@ pub record Put (old new : List ℕ) (v : ℕ) (r : List ℕ) : Type 0 where
   pub here : RowIs r (cell new v)
   pub other : (u x : ℕ) → (u ≡ v → ⊥) → x < rowBits → cell new u x ≡ cell old u x
 
--- x is now in row v too
-abbrev pub Added : List ℕ → List ℕ → ℕ → ℕ → Type 0
-Added old new v x = (u y : ℕ) → y < rowBits → cell new u y ≡ ((eqb u v & eqb y x) or cell old u y)
+-- x is now in row v too, if b
+abbrev pub Added : List ℕ → List ℕ → ℕ → ℕ → Bool → Type 0
+Added old new v x b = (u y : ℕ) → y < rowBits → cell new u y ≡ ((eqb u v & (eqb y x & b)) or cell old u y)
 
 -- x is in one of the rows base + a, for a in `which`
 unfoldable pub unitedRows : List ℕ → ℕ → List ℕ → ℕ → Bool

@@ -1,21 +1,21 @@
 -- Laws of rows one after another: a row that is read, put or added to, and united rows by their words.
-use mathlib.Core.Path.{_≡_, refl, sym, ap, ap₂, _∙_, subst}
-use mathlib.Core.Bool.{Bool, true, false, not, So}
+use mathlib.Core.Path.{_≡_, refl, sym, ap, ap₂, _∙_}
+use mathlib.Core.Bool.{Bool, false, not}
 use mathlib.Core.List.{List}
 use Prim.Native.Nat.{ℕ, _+_, _*_, _/_, _%_, _≤_, _<_}
-use native.Mathlib.Decide.{decLt, ℕ-discrete}
+use native.Mathlib.Decide.{ℕ-discrete}
 use native.Mathlib.Omega.{arith}
 use lib.Arith.{digits-div, digits-mod}
 use lib.Dec.{eqb}
 use lib.ListN.{length, getD, set, replicate}
 use lib.Seq.{getD-set-same, getD-set-other}
 use Rattle.theory.specs.Bools.{_&_, _or_}
-use Rattle.theory.specs.BoolsLaws.{and-true}
+use Rattle.theory.specs.BoolsLaws.{and-assoc, and-neither}
 use Rattle.theory.specs.Range.{anyBelow}
 use Rattle.theory.specs.RangeLaws.{any-append, any-ext}
 use Rattle.theory.specs.CountLaws.{digits-one, digits-same}
 use Rattle.theory.specs.ListLaws.{zeros}
-use Rattle.bits.specs.Bits.{wordBits, rowBits, rowWords, digit, has, RowIs, cell, Put, Added, unitedRows}
+use Rattle.bits.specs.Bits.{wordBits, rowBits, rowWords, digit, has, cell, Put, Added, unitedRows}
 use Rattle.bits.specs.WordLaws.{digit-zero}
 use Rattle.bits.specs.RowLaws.{has-at, word-set, same-bit}
 
@@ -60,20 +60,15 @@ put-end k old new v r l p = record { here = λ x h. p .here x (omega arith); oth
 
 -- ---- a number is added to a row
 
-and-assoc : (a b c : Bool) → a & b & c ≡ a & (b & c)
-unfolding _&_
-and-assoc true b c = refl
-and-assoc false b c = refl
-
-pub add-is : (old : List ℕ) (v x z : ℕ) → x < rowBits → v * rowWords + x / 64 < length old
-    → ((j : ℕ) → j < wordBits → digit z j ≡ ((eqb j (x % 64) & true) or digit (getD old (v * rowWords + x / 64) 0) j))
-    → Added old (set old (v * rowWords + x / 64) z) v x
+pub add-is : (old : List ℕ) (v x z : ℕ) (b : Bool) → x < rowBits → v * rowWords + x / 64 < length old
+    → ((j : ℕ) → j < wordBits → digit z j ≡ ((eqb j (x % 64) & b) or digit (getD old (v * rowWords + x / 64) 0) j))
+    → Added old (set old (v * rowWords + x / 64) z) v x b
 unfolding cell
-add-is old v x z h l d u y k =
-    word-set old (v * rowWords + x / 64) (x % 64) z true l d (u * rowWords + y / 64) (y % 64) (omega arith)
-    ∙ ap (λ b. b or digit (getD old (u * rowWords + y / 64) 0) (y % 64))
-    (ap₂ _&_ (digits-same rowWords u (y / 64) v (x / 64) (omega arith) (omega arith)) (and-true (eqb (y % 64) (x % 64)))
-    ∙ and-assoc (eqb u v) _ _ ∙ ap (λ b. eqb u v & b) (same-bit x y))
+add-is old v x z b h l d u y k =
+    word-set old (v * rowWords + x / 64) (x % 64) z b l d (u * rowWords + y / 64) (y % 64) (omega arith)
+    ∙ ap (λ a. a or digit (getD old (u * rowWords + y / 64) 0) (y % 64))
+    (ap (λ a. a & (eqb (y % 64) (x % 64) & b)) (digits-same rowWords u (y / 64) v (x / 64) (omega arith) (omega arith))
+    ∙ and-assoc (eqb u v) _ _ ∙ ap (λ a. eqb u v & a) (sym (and-assoc _ _ b) ∙ ap (λ a. a & b) (same-bit x y)))
 
 -- ---- united rows, word by word
 
@@ -93,3 +88,18 @@ module _ (words : List ℕ) (base : ℕ) (which : List ℕ) (x : ℕ) where
   pub united-end : unitedTo rowWords ≡ unitedRows words base which x
   unfolding unitedRows
   united-end = refl
+
+-- no row of the first j words, nor of the next
+pub stripped-next : (words which : List ℕ) (x j : ℕ) (a b : Bool) → a ≡ b & not (unitedTo words 0 which x j)
+    → a & not (anyBelow wordBits (λ k. digit (getD which j 0) k & cell words (j * 64 + k) x)) ≡ b & not (unitedTo words 0 which x (j + 1))
+unfolding _&_ _or_
+stripped-next words which x j a b e =
+    rw (e, sym (united-next words 0 which x j (unitedTo words 0 which x j) refl), any-ext wordBits _ _ same) (and-neither b (unitedTo words 0 which x j) _)
+  where
+    same : (k : ℕ) → k < wordBits → digit (getD which j 0) k & cell words (j * 64 + k) x ≡ digit (getD which j 0) k & cell words (0 + j * 64 + k) x
+    same k h = let s : j * 64 + k ≡ 0 + j * 64 + k = omega arith in rw s
+
+-- a row by itself
+pub cell-row : (words : List ℕ) (x : ℕ) → cell words 0 x ≡ has words x
+unfolding cell has
+cell-row words x = let s : 0 * rowWords + x / 64 ≡ x / 64 = omega arith in rw s

@@ -1,16 +1,17 @@
--- A loop over the numbers below e that pass, from one to the next: what it has gathered of a test q before each of them.
-use mathlib.Core.Path.{_≡_, refl, sym, ap, _∙_, subst}
+-- A loop over the numbers below e that pass, from one to the next: where it stands, what it has picked by a test q, and what holds of each that
+-- it has passed.
+use mathlib.Core.Path.{_≡_, sym, subst}
 use mathlib.Core.Logic.{inl, inr}
-use mathlib.Core.Bool.{Bool, true, false, not, So}
+use mathlib.Core.Bool.{Bool, false, So}
 use Prim.Native.Nat.{ℕ, _+_, _≤_, _<_}
 use native.Mathlib.Decide.{decLt, ℕ-discrete}
 use native.Mathlib.Omega.{arith}
 use lib.Dec.{eqb, ltb}
 use borrow.Author.Tests.{eqb-true, eq-eqb, ltb-true, lt-ltb}
 use Rattle.theory.specs.Bools.{_&_, _or_}
-use Rattle.theory.specs.BoolsLaws.{clash, So-ext, So-not, and-in, and-out, and-true, or-false, or-left, or-right, or-out, not-in, not-out}
-use Rattle.theory.specs.Range.{anyBelow, first}
-use Rattle.theory.specs.RangeLaws.{any-in, any-out, any-more, first-ge, first-le, first-before, first-passes}
+use Rattle.theory.specs.BoolsLaws.{clash, So-ext, So-not, and-in, and-out, or-left, or-right, or-out}
+use Rattle.theory.specs.Range.{first}
+use Rattle.theory.specs.RangeLaws.{first-ge, first-le, first-before, first-passes}
 
 module _ (p : ℕ → Bool) (e : ℕ) where
   -- where the loop stands: at a member, or at the end
@@ -23,68 +24,9 @@ module _ (p : ℕ → Bool) (e : ℕ) where
   pub reached-next : (a : ℕ) → a < e → Reached (first p (a + 1) e)
   reached-next a h = (first-le p (a + 1) e (omega arith), first-passes p (a + 1) e (omega arith))
 
-  -- some member before n passes q
-  abbrev pub over : (ℕ → Bool) → ℕ → Bool
-  over q n = anyBelow n (λ a. p a & q a)
+  -- ---- the members before n that pass q
 
   module _ (q : ℕ → Bool) where
-    over-start : over q (first p 0 e) ≡ false
-    over-start = So-not (λ t. let r = any-out t in clash (and-out (r .2) .0) (first-before p 0 e (r .0) (omega arith) (r .1)))
-
-    skip : (k f : ℕ) → k ≤ f → ((i : ℕ) → k ≤ i → i < f → p i ≡ false) → over q f ≡ over q k
-    skip k f l none =
-        So-ext
-        (λ t. let r = any-out t in elim (decLt (r .0) k) [
-          | yes h ↦ any-in k _ (r .0) h (r .2)
-          | no m ↦ clash (and-out (r .2) .0) (none (r .0) (omega arith) (r .1))
-        ])
-        (λ t. let r = any-out t in any-in f _ (r .0) (omega (arith, r .1)) (r .2))
-
-    over-next : (a : ℕ) → So (p a) → over q (first p (a + 1) e) ≡ (over q a or q a)
-    unfolding _&_
-    over-next a t =
-        skip (a + 1) (first p (a + 1) e) (first-ge p (a + 1) e) (first-before p (a + 1) e)
-        ∙ any-more a _ ∙ ap (λ b. over q a or b) (rw t)
-
-    -- ---- or some member does
-
-    pub or-start : (b : Bool) → b ≡ (b or over q (first p 0 e))
-    or-start b = rw over-start (sym (or-false b))
-
-    pub or-next : (a : ℕ) → So (p a) → (b : Bool) → ((b or over q a) or q a) ≡ (b or over q (first p (a + 1) e))
-    unfolding _or_
-    or-next a t true = refl
-    or-next a t false = sym (over-next a t)
-
-    pub or-end : (a : ℕ) → a ≤ e → e ≤ a → (b : Bool) → (b or over q a) ≡ (b or over q e)
-    or-end a l m b = let s : a ≡ e = omega arith in rw s
-
-    -- ---- and no member does
-
-    pub not-start : (b : Bool) → b ≡ b & not (over q (first p 0 e))
-    not-start b = rw over-start (sym (and-true b))
-
-    pub not-next : (a : ℕ) → So (p a) → (b : Bool) → (b & not (over q a)) & not (q a) ≡ b & not (over q (first p (a + 1) e))
-    unfolding _&_ _or_
-    not-next a t b = rw (over-next a t) (go b (over q a) (q a))
-      where
-        go : (b x y : Bool) → (b & not x) & not y ≡ b & not (x or y)
-        go true true y = refl
-        go true false y = refl
-        go false x y = refl
-
-    pub not-end : (a : ℕ) → a ≤ e → e ≤ a → (b : Bool) → b & not (over q a) ≡ b & not (over q e)
-    not-end a l m b = let s : a ≡ e = omega arith in rw s
-
-    -- where nothing is left before a member, nothing is left after all of them
-    pub not-none : (a : ℕ) → a ≤ e → (b : Bool) → b & not (over q a) ≡ false → b & not (over q e) ≡ false
-    not-none a l b f = So-not (λ t.
-        let c = and-out t in
-        let g : over q a ≡ false = So-not (λ u. let r = any-out u in clash (any-in e _ (r .0) (omega (arith, r .1)) (r .2)) (not-out (c .1))) in
-        clash (and-in (c .0) (not-in g)) f)
-
-    -- ---- the members before n that pass q, one by one
-
     abbrev pub kept : ℕ → ℕ → Bool
     kept n i = ltb i n & (p i & q i)
 

@@ -1,20 +1,20 @@
 -- Laws of rows: a row that is filled word by word, what is in it by its words, and the first number in it.
-use mathlib.Core.Path.{_≡_, refl, sym, ap, ap₂, _∙_, subst}
+use mathlib.Core.Path.{_≡_, refl, sym, ap, _∙_}
 use mathlib.Core.Logic.{inl, inr}
-use mathlib.Core.Bool.{Bool, true, false, not, So}
+use mathlib.Core.Bool.{Bool, false, So}
 use mathlib.Core.List.{List}
 use Prim.Native.Nat.{ℕ, _+_, _*_, _/_, _%_, _≤_, _<_}
-use native.Mathlib.Decide.{decLt, ℕ-discrete}
+use native.Mathlib.Decide.{ℕ-discrete}
 use native.Mathlib.Omega.{arith}
 use lib.Arith.{digits-div, digits-mod}
 use lib.Dec.{eqb}
-use lib.ListN.{length, getD, set, replicate, length-set}
+use lib.ListN.{length, getD, set, replicate, length-set, length-replicate, getD-replicate}
 use lib.Seq.{getD-set-same, getD-set-other}
 use borrow.Author.Tests.{eqb-true, eq-eqb, ne-eqb}
 use Rattle.theory.specs.Bools.{_&_, _or_}
-use Rattle.theory.specs.BoolsLaws.{So-ext, and-in, and-out, and-true, or-left, or-right, or-out}
-use Rattle.theory.specs.Range.{anyBelow, count, first}
-use Rattle.theory.specs.RangeLaws.{any-in, any-out, any-append, any-ext, first-is, first-ge, first-passes, first-before, first-skip}
+use Rattle.theory.specs.BoolsLaws.{So-ext, and-in, and-out, or-left, or-right, or-out}
+use Rattle.theory.specs.Range.{allBelow, anyBelow, count, first}
+use Rattle.theory.specs.RangeLaws.{all-out, any-in, any-out, any-append, any-ext, first-is, first-ge, first-passes, first-before, first-skip}
 use Rattle.theory.specs.CountLaws.{count-append, count-ext}
 use Rattle.theory.specs.ListLaws.{zeros}
 use Rattle.bits.specs.Bits.{wordBits, rowBits, rowWords, digit, has, RowIs}
@@ -79,6 +79,15 @@ pub row-zero : (n x : ℕ) → has (replicate n 0) x ≡ false
 unfolding has
 row-zero n x = rw (zeros n (x / 64)) (digit-zero (x % 64))
 
+digits-full : (k : ℕ) → k < wordBits → So (digit 18446744073709551615 k)
+unfolding digit allBelow _&_
+digits-full = all-out {n = 64} {p = digit 18446744073709551615} refl .at
+
+-- words of ones hold all
+pub row-full : (x : ℕ) → x < rowBits → So (has (replicate rowWords 18446744073709551615) x)
+unfolding has
+row-full x h = rw (getD-replicate {A = ℕ} rowWords (x / 64) 18446744073709551615 0 (rw (length-replicate {A = ℕ} rowWords 18446744073709551615) (omega arith))) (digits-full (x % 64) (omega arith))
+
 -- a word that is stored
 pub word-set : (r : List ℕ) (i k z : ℕ) (b : Bool) → i < length r → ((j : ℕ) → j < wordBits → digit z j ≡ ((eqb j k & b) or digit (getD r i 0) j))
     → (h j : ℕ) → j < wordBits → digit (getD (set r i z) h 0) j ≡ ((eqb h i & (eqb j k & b)) or digit (getD r h 0) j)
@@ -94,13 +103,6 @@ same-bit x y =
     So-ext
     (λ t. let c = and-out t in eq-eqb y x (omega (arith, eqb-true (y / 64) (x / 64) (c .0), eqb-true (y % 64) (x % 64) (c .1))))
     (λ t. let e = eqb-true y x t in and-in (eq-eqb _ _ (ap (λ (i : ℕ). i / 64) e)) (eq-eqb _ _ (ap (λ (i : ℕ). i % 64) e)))
-
-pub row-with : (r : List ℕ) (x z : ℕ) → x / 64 < length r → ((j : ℕ) → j < wordBits → digit z j ≡ ((eqb j (x % 64) & true) or digit (getD r (x / 64) 0) j))
-    → (y : ℕ) → has (set r (x / 64) z) y ≡ (eqb y x or has r y)
-unfolding has
-row-with r x z l d y =
-    word-set r (x / 64) (x % 64) z true l d (y / 64) (y % 64) (omega arith)
-    ∙ ap (λ b. b or digit (getD r (y / 64) 0) (y % 64)) (ap (λ b. eqb (y / 64) (x / 64) & b) (and-true (eqb (y % 64) (x % 64))) ∙ same-bit x y)
 
 -- ---- the first number from a place on, by its word
 

@@ -6,18 +6,18 @@ use native.Mathlib.Nat.{mod-lt, mul-mod-left, one-mul, lt-of-lt-of-le, lt-of-le-
 use native.Mathlib.Omega.{arith}
 use native.Mathlib.Decide.{decLt, ℕ-discrete}
 use native.Mathlib.Numerals.{one-add}
-use lib.Bits.{and-mask, bitAnd, bitOr, bitXor, and-shr, or-shr, xor-shr, and-mod, or-mod, xor-mod}
+use lib.Bits.{and-mask, and-le-r, bitAnd, bitOr, bitXor, and-shr, or-shr, xor-shr, and-mod, or-mod, xor-mod}
 use lib.Arith.{lt-one}
 use lib.Count.{trailingZeros, under, ones, ones-step}
 use lib.Pow.{pow-pos, pow-lt, pow-mono, pow-add, shr-shr, shl-shr, shl-exact, shr-le}
 use lib.Dec.{eqb}
-use borrow.Author.Tests.{eqb-false, eq-eqb, ne-eqb}
+use borrow.Author.Tests.{eqb-true, eqb-false, eq-eqb, ne-eqb}
 use Rattle.theory.specs.Bools.{_&_, _or_, bit}
-use Rattle.theory.specs.BoolsLaws.{clash, So-ext, So-not, not-in, not-out, and-true, and-fails}
+use Rattle.theory.specs.BoolsLaws.{clash, So-ext, So-not, not-in, not-out, and-true, and-fails, or-flip}
 use Rattle.theory.specs.Range.{anyBelow, count, first}
 use Rattle.theory.specs.RangeLaws.{any-in, any-out, first-is, first-le, first-none}
 use Rattle.theory.specs.CountLaws.{count-ext, count-append}
-use Rattle.bits.specs.Bits.{wordBits, digit}
+use Rattle.bits.specs.Bits.{wordBits, digit, lowestBit, Lowest, Rest}
 
 -- ---- bitwise operations
 
@@ -85,6 +85,11 @@ pub digit-read : (x k : ℕ) → eqb (bitAnd (x / 2 ^ k) 1) 1 ≡ digit x k
 unfolding digit
 digit-read x k = rw (and-mask (x / 2 ^ k) 1)
 
+-- the same as a number
+pub digit-byte : (x k : ℕ) → bitAnd (x / 2 ^ k) 1 ≡ bit (digit x k)
+unfolding digit bit
+digit-byte x k = and-mask (x / 2 ^ k) 1 ∙ two (λ y. y ≡ bit (eqb y 1)) refl refl (x / 2 ^ k % 2) (half (x / 2 ^ k))
+
 digit-power : (j k : ℕ) → digit (1 * 2 ^ j) k ≡ eqb k j
 unfolding digit
 digit-power j k = rw (one-mul (2 ^ j)) (go (ℕ-discrete k j))
@@ -105,13 +110,6 @@ digit-power j k = rw (one-mul (2 ^ j)) (go (ℕ-discrete k j))
 
 -- ---- a bit that is set
 
-or-flip : (a b : Bool) → (a or b) ≡ (b or a)
-unfolding _or_
-or-flip true true = refl
-or-flip true false = refl
-or-flip false true = refl
-or-flip false false = refl
-
 pub with-bit : (x k j : ℕ) → k < wordBits → digit (bitOr x (1 * 2 ^ k % 2 ^ 64)) j ≡ ((eqb j k & true) or digit x j)
 with-bit x k j h =
     rw (shl-exact {a = 1} 1 k 64 (omega arith) (omega arith), digit-or x (1 * 2 ^ k) j, digit-power k j, and-true (eqb j k)) (or-flip (digit x j) (eqb j k))
@@ -122,7 +120,7 @@ with-none x k j = rw (and-fails (eqb j k) false refl)
 
 -- ---- the lowest digit that is set
 
-record Lowest (n x t : ℕ) : Type 0 where
+record Trailing (n x t : ℕ) : Type 0 where
   pub inside : t < n
   pub set : So (digit x t)
   pub below : (j : ℕ) → j < t → digit x j ≡ false
@@ -134,17 +132,17 @@ digit-first : (x : ℕ) → digit x 0 ≡ eqb (x % 2) 1
 unfolding digit
 digit-first x = rw (div-one x)
 
-lowest : (n x : ℕ) → x < 2 ^ n → (x ≡ 0 → ⊥) → Lowest n x (trailingZeros n x)
+trailing : (n x : ℕ) → x < 2 ^ n → (x ≡ 0 → ⊥) → Trailing n x (trailingZeros n x)
 unfolding trailingZeros
-lowest zero x h d = absurd (d (lt-one h))
-lowest (suc n) x h d = go (x % 2) refl (λ l m. lowest n (x / 2) l m)
+trailing zero x h d = absurd (d (lt-one h))
+trailing (suc n) x h d = go (x % 2) refl (λ l m. trailing n (x / 2) l m)
   where
     later : {t : ℕ} → x % 2 ≡ 0 → ((j : ℕ) → j < t → digit (x / 2) j ≡ false) → (j : ℕ) → j < suc t → digit x j ≡ false
     later e f zero l = digit-first x ∙ rw e
     later e f (suc j) l = sym (digit-suc x j) ∙ f j (omega arith)
 
-    go : (b : ℕ) → x % 2 ≡ b → (x / 2 < 2 ^ n → (x / 2 ≡ 0 → ⊥) → Lowest n (x / 2) (trailingZeros n (x / 2)))
-        → Lowest (suc n) x (under b (trailingZeros n (x / 2)))
+    go : (b : ℕ) → x % 2 ≡ b → (x / 2 < 2 ^ n → (x / 2 ≡ 0 → ⊥) → Trailing n (x / 2) (trailingZeros n (x / 2)))
+        → Trailing (suc n) x (under b (trailingZeros n (x / 2)))
     go zero e ih =
         let r = ih (omega (arith, pow-suc 2 n)) (λ z. d (omega arith)) in
         record { inside = omega (arith, r .inside); set = sym (digit-suc x _) ∙ r .set; below = later e (r .below) }
@@ -158,7 +156,7 @@ lowest (suc n) x h d = go (x % 2) refl (λ l m. lowest n (x / 2) l m)
 pub word-some : (x : ℕ) → x < 2 ^ 64 → not (eqb x 0) ≡ anyBelow wordBits (digit x)
 word-some x h =
     So-ext
-    (λ t. let r = lowest 64 x h (eqb-false x 0 (not-out t)) in any-in 64 (digit x) (trailingZeros 64 x) (r .inside) (r .set))
+    (λ t. let r = trailing 64 x h (eqb-false x 0 (not-out t)) in any-in 64 (digit x) (trailingZeros 64 x) (r .inside) (r .set))
     (λ t. let r = any-out t in not-in (ne-eqb x 0 (λ e. clash (subst (λ (i : ℕ). So (digit i (r .0))) e (r .2)) (digit-zero (r .0)))))
 
 pub some-none : anyBelow wordBits (digit 0) ≡ false
@@ -172,8 +170,8 @@ module _ (x s : ℕ) where
       omega (arith, n, first-le (digit x) s 64 (omega arith))
 
   module _ (fits : x < 2 ^ 64) (hs : s < wordBits) (d : x / 2 ^ s ≡ 0 → ⊥) where
-    low : Lowest 64 (x / 2 ^ s) (trailingZeros 64 (x / 2 ^ s))
-    low = lowest 64 (x / 2 ^ s) (lt-of-le-of-lt (shr-le x s) fits) d
+    low : Trailing 64 (x / 2 ^ s) (trailingZeros 64 (x / 2 ^ s))
+    low = trailing 64 (x / 2 ^ s) (lt-of-le-of-lt (shr-le x s) fits) d
 
     set-at : So (digit x (s + trailingZeros 64 (x / 2 ^ s)))
     set-at = sym (digit-shift x s (trailingZeros 64 (x / 2 ^ s))) ∙ low .set
@@ -188,6 +186,60 @@ module _ (x s : ℕ) where
     first-digit =
         sym (first-is (digit x) s 64 (s + trailingZeros 64 (x / 2 ^ s)) (omega arith) first-inside set-at
         (λ j a b. sym (digit-from x s j a) ∙ low .below (j - s) (omega arith)))
+
+-- ---- a word without its lowest digit
+
+pub lowest-is : (x : ℕ) → x < 2 ^ 64 → (x ≡ 0 → ⊥) → Lowest x (trailingZeros 64 x)
+unfolding lowestBit
+lowest-is x h d =
+    let r = trailing 64 x h d in
+    record {
+      is = sym (first-is (digit x) 0 64 (trailingZeros 64 x) (omega arith) (r .inside) (r .set) (λ j a b. r .below j b));
+      inside = r .inside;
+      set = r .set;
+    }
+
+and-same : (a : Bool) → a & a ≡ a & not false
+unfolding _&_
+and-same true = refl
+and-same false = refl
+
+and-false : {a : Bool} (b c : Bool) → a ≡ false → a & b ≡ a & c
+unfolding _&_
+and-false b c e = rw e
+
+eqb-suc : (j t : ℕ) → eqb (suc j) (suc t) ≡ eqb j t
+eqb-suc j t =
+    So-ext (λ s. eq-eqb j t (let e = eqb-true (suc j) (suc t) s in omega arith)) (λ s. eq-eqb (suc j) (suc t) (let e = eqb-true j t s in omega arith))
+
+rest-digit : (n x k : ℕ) → x < 2 ^ n → (x ≡ 0 → ⊥) → digit x k & digit (x - 1) k ≡ digit x k & not (eqb k (trailingZeros n x))
+unfolding trailingZeros
+rest-digit zero x k h d = absurd (d (lt-one h))
+rest-digit (suc n) x k h d = go (x % 2) refl (λ j l m. rest-digit n (x / 2) j l m) k
+  where
+    above : (j : ℕ) (e : ℕ) → (x - 1) / 2 ≡ e → digit (x - 1) (suc j) ≡ digit e j
+    above j e q = sym (digit-suc (x - 1) j) ∙ ap (λ (y : ℕ). digit y j) q
+
+    go : (b : ℕ) → x % 2 ≡ b
+        → ((j : ℕ) → x / 2 < 2 ^ n → (x / 2 ≡ 0 → ⊥) → digit (x / 2) j & digit (x / 2 - 1) j ≡ digit (x / 2) j & not (eqb j (trailingZeros n (x / 2))))
+        → (k : ℕ) → digit x k & digit (x - 1) k ≡ digit x k & not (eqb k (under b (trailingZeros n (x / 2))))
+    go zero e ih zero = and-false _ _ (digit-first x ∙ rw e)
+    go zero e ih (suc j) =
+        ap₂ _&_ (sym (digit-suc x j)) (above j (x / 2 - 1) (omega arith))
+        ∙ ih j (omega (arith, pow-suc 2 n)) (λ z. d (omega arith))
+        ∙ ap₂ (λ a b. a & not b) (digit-suc x j) (sym (eqb-suc j (trailingZeros n (x / 2))))
+    go (suc b) e ih zero =
+        let q : (x - 1) % 2 ≡ 0 = omega (arith, half x) in
+        ap (λ a. digit x 0 & a) (digit-first (x - 1) ∙ ap (λ (y : ℕ). eqb y 1) q)
+    go (suc b) e ih (suc j) =
+        ap (λ a. digit x (suc j) & a) (above j (x / 2) (omega (arith, half x)) ∙ digit-suc x j) ∙ and-same (digit x (suc j))
+        ∙ ap (λ a. digit x (suc j) & not a) (sym (ne-eqb (suc j) 0 (λ z. omega arith)))
+
+pub rest-is : (x : ℕ) → x < 2 ^ 64 → (x ≡ 0 → ⊥) → Rest x (bitAnd x (x - 1))
+rest-is x h d = record {
+  digits = λ k. digit-and x (x - 1) k ∙ rest-digit 64 x k h d ∙ ap (λ (t : ℕ). digit x k & not (eqb k t)) (lowest-is x h d .is);
+  less = let l = and-le-r x (x - 1) in omega (arith, l, d);
+}
 
 -- ---- how many digits are set
 

@@ -2,16 +2,13 @@
 use crate::row::Row;
 use crate::row::WORDS;
 use crate::row::either;
-use crate::row::first_from;
 use crate::row::is_some;
 use crate::row::meets;
 use crate::row::without;
 use crate::word;
-use table::limits::VERTICES;
 ghost use mathlib.Core.Path.{_≡_};
 ghost use mathlib.Core.Bool.{not};
 ghost use Prim.Native.Nat.{ℕ, _+_, _*_, _<_, _≤_};
-ghost use lib.Dec.{eqb};
 ghost use lib.ListN.{length};
 ghost use Rattle.theory.specs.Bools.{_&_, _or_};
 ghost use Rattle.theory.specs.Range.{anyBelow};
@@ -53,13 +50,13 @@ pub fn holds(words: &[u64], v: usize, x: usize) -> bool
     (words[v * WORDS + x / 64] >> (x % 64)) & 1 == 1
 }
 
-// Puts x into row v.
-pub fn add(words: &mut [u64], v: usize, x: usize)
+// Puts x into row v, if `yes`.
+pub fn add(words: &mut [u64], v: usize, x: usize, yes: bool)
     requires { ⌜ InRows (now words) v × (x < rowBits) ⌝ }
-    ensures { λ r. ⌜ Added (now (words .entry)) (now (words .exit)) v x ⌝ }
+    ensures { λ r. ⌜ Added (now (words .entry)) (now (words .exit)) v x yes ⌝ }
 {
     let at = v * WORDS + x / 64;
-    words[at] = word::with(words[at], x % 64, true);
+    words[at] = word::with(words[at], x % 64, yes);
 }
 
 // `into` and the rows of a word's bits; its bit 0 is for row `base`.
@@ -68,11 +65,11 @@ fn unite_word(words: &[u64], base: usize, which: u64, into: Row) -> Row
     ensures { λ r. ⌜ RowIs r (λ x. has into x or anyBelow wordBits (λ k. digit which k & cell (now (words .entry)) (base + k) x)) ⌝ }
 {
     let mut out = into;
-    let mut k = word::first_from(which, 0);
-    while k < 64 {
-        let more = either(out, row(words, base + k));
+    let mut left = which;
+    while left != 0 {
+        let more = either(out, row(words, base + word::lowest(left)));
         out = more;
-        k = word::first_from(which, k + 1);
+        left = word::rest(left);
     }
     out
 }
@@ -92,20 +89,35 @@ pub fn unite(words: &[u64], base: usize, which: Row) -> Row
     out
 }
 
+// What is left of `from` without the rows of a word's bits; its bit 0 is for row `base`. It ends early where nothing is left.
+fn strip_word(words: &[u64], base: usize, which: u64, from: Row) -> Row
+    requires { ⌜ (base + wordBits) * rowWords ≤ length (now words) ⌝ }
+    ensures { λ r. ⌜ RowIs r (λ x. has from x & not (anyBelow wordBits (λ k. digit which k & cell (now (words .entry)) (base + k) x))) ⌝ }
+{
+    let mut out = from;
+    let mut left = which;
+    while left != 0 {
+        let less = without(out, row(words, base + word::lowest(left)));
+        if !is_some(less) {
+            return less;
+        }
+        out = less;
+        left = word::rest(left);
+    }
+    out
+}
+
 // What is left of `from` without the rows of all a in `which`.
 pub fn strip(words: &[u64], which: Row, from: Row) -> Row
     requires { ⌜ rowBits * rowWords ≤ length (now words) ⌝ }
     ensures { λ r. ⌜ RowIs r (λ x. has from x & not (unitedRows (now (words .entry)) 0 which x)) ⌝ }
 {
     let mut out = from;
-    let mut a = first_from(which, 0);
-    while a < VERTICES {
-        let less = without(out, row(words, a));
-        if !is_some(less) {
-            return less;
-        }
+    let mut j = 0;
+    while j < WORDS {
+        let less = strip_word(words, j * 64, which[j], out);
         out = less;
-        a = first_from(which, a + 1);
+        j += 1;
     }
     out
 }
@@ -116,11 +128,11 @@ fn apart_word(words: &[u64], base: usize, which: u64, x: Row) -> u64
     ensures { λ r. ⌜ ((k : ℕ) → k < wordBits → digit r k ≡ digit which k & apart (now (words .entry)) (base + k) x) ⌝ }
 {
     let mut out: u64 = 0;
-    let mut k = word::first_from(which, 0);
-    while k < 64 {
-        let free = !meets(row(words, base + k), x);
-        out = word::with(out, k, free);
-        k = word::first_from(which, k + 1);
+    let mut left = which;
+    while left != 0 {
+        let k = word::lowest(left);
+        out = word::with(out, k, !meets(row(words, base + k), x));
+        left = word::rest(left);
     }
     out
 }

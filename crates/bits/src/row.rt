@@ -3,11 +3,11 @@ use crate::word;
 use table::limits::VERTICES;
 ghost use mathlib.Core.Path.{_≡_};
 ghost use mathlib.Core.Bool.{not};
-ghost use Prim.Native.Nat.{ℕ, _<_, _≤_};
-ghost use lib.Dec.{eqb};
+ghost use Prim.Native.Nat.{_≤_};
+ghost use lib.ListN.{length};
 ghost use Rattle.theory.specs.Bools.{_&_, _or_};
 ghost use Rattle.theory.specs.Range.{anyBelow, count, first};
-ghost use Rattle.bits.specs.Bits.{rowBits, has, RowIs};
+ghost use Rattle.bits.specs.Bits.{rowBits, rowWords, has, RowIs};
 
 pub const WORDS: usize = VERTICES / 64;
 
@@ -85,20 +85,10 @@ pub fn size(a: Row) -> u32
     total
 }
 
-// The row with x in it.
-pub fn with(a: Row, x: usize) -> Row
-    requires { ⌜ x < rowBits ⌝ }
-    ensures { λ r. ⌜ RowIs r (λ y. eqb y x or has a y) ⌝ }
-{
-    let mut out = a;
-    out[x / 64] = word::with(a[x / 64], x % 64, true);
-    out
-}
-
-// The first number from k on; the limit where there is none.
-pub fn first_from(a: Row, k: usize) -> usize
-    requires { ⌜ k ≤ rowBits ⌝ }
-    ensures { λ r. ⌜ r ≡ first (has a) k rowBits ⌝ }
+// The first number from k on; the limit where there is none. The row is lent, since callers go through it.
+pub fn first_from(a: &[u64], k: usize) -> usize
+    requires { ⌜ (rowWords ≤ length (now a)) × (k ≤ rowBits) ⌝ }
+    ensures { λ r. ⌜ r ≡ first (has (now (a .entry))) k rowBits ⌝ }
 {
     let mut at = k;
     while at < VERTICES {

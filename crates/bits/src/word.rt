@@ -1,10 +1,18 @@
 // A word of 64 bits.
 ghost use mathlib.Core.Path.{_≡_};
-ghost use Prim.Native.Nat.{ℕ, _<_, _≤_};
+ghost use Prim.Native.Nat.{ℕ, _+_, _<_, _≤_, min};
 ghost use lib.Dec.{eqb};
 ghost use Rattle.theory.specs.Bools.{_&_, _or_};
 ghost use Rattle.theory.specs.Range.{anyBelow, count, first};
-ghost use Rattle.bits.specs.Bits.{wordBits, digit};
+ghost use Rattle.bits.specs.Bits.{wordBits, rowBits, digit, Lowest, Rest};
+
+// The end of a word's numbers that starts at `base`, and at most n.
+pub fn end_of(base: usize, n: usize) -> usize
+    requires { ⌜ base ≤ rowBits ⌝ }
+    ensures { λ r. ⌜ r ≡ min n (base + wordBits) ⌝ }
+{
+    if base + 64 < n { base + 64 } else { n }
+}
 
 // Whether a bit is set.
 pub fn is_some(word: u64) -> bool
@@ -18,6 +26,22 @@ pub fn size(word: u64) -> u32
     ensures { λ r. ⌜ r ≡ count wordBits (digit word) ⌝ }
 {
     u64::count_ones(word)
+}
+
+// The lowest set bit.
+pub fn lowest(word: u64) -> usize
+    requires { ⌜ (word ≡ 0 → ⊥) ⌝ }
+    ensures { λ r. ⌜ Lowest word r ⌝ }
+{
+    u64::trailing_zeros(word) as usize
+}
+
+// The word without its lowest set bit.
+pub fn rest(word: u64) -> u64
+    requires { ⌜ (word ≡ 0 → ⊥) ⌝ }
+    ensures { λ r. ⌜ Rest word r ⌝ }
+{
+    word & (word - 1)
 }
 
 // The first set bit from k on; 64 where there is none.

@@ -22,7 +22,7 @@ use Rattle.table.specs.WellFormed.{WellFormed}
 use Rattle.order.specs.OrderCall.{orderRows, orderAnswer, orderBytes}
 use Rattle.order.specs.OrderRules.{OrderFits}
 use Rattle.order.specs.OrderRulesLaws.{order-accepts}
-use Rattle.order.specs.Clearing.{OrderDone}
+use Rattle.order.specs.OrderWritten.{OrderDone}
 use Rattle.classes.specs.Numbering.{Ordered}
 use Rattle.classes.specs.HoldingLaws.{ordered-written}
 use Rattle.reduction.specs.TableCall.{tableRows, tableCounts, classTable, TableCall}

@@ -15,7 +15,7 @@ use Rattle.table.specs.WellFormed.{WellFormed}
 use Rattle.table.specs.declared.Refusal.{Refusal}
 use Rattle.table.specs.declared.Reading.the-variants.{Refused}
 use Rattle.pairs.specs.Marks.{relation}
-use Rattle.order.specs.Clearing.{OrderDone}
+use Rattle.order.specs.OrderWritten.{OrderDone}
 use Rattle.order.specs.OrderCall.{orderBytes}
 use Rattle.classes.specs.ClassesCall.{memoryRows, memoryAnswer, classRows, classWords, classesAnswer, ClassesCall}
 use Rattle.classes.specs.HoldingLaws.{ordered-done, ordered-total, ordered-words}

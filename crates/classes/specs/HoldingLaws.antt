@@ -28,7 +28,7 @@ use Rattle.table.specs.WellFormed.{WellFormed}
 use Rattle.pairs.specs.Marks.{marksLength, relation}
 use Rattle.pairs.specs.MarksLaws.{relation-mark, mark-written}
 use Rattle.order.specs.OrderCall.{orderBytes}
-use Rattle.order.specs.Clearing.{OrderDone}
+use Rattle.order.specs.OrderWritten.{OrderDone}
 use Rattle.order.specs.OrderRulesLaws.{length-orderBytes}
 use Rattle.classes.specs.Numbering.{Numbered, PreorderMarks, Holding, Ordered, classesIn}
 use Rattle.classes.specs.ClassesCall.{classTotal, classWords}

@@ -1,7 +1,7 @@
 pub mod OrderCall
 pub mod OrderRules
-pub mod Clearing
-pub mod ClearingLaws
+pub mod OrderWritten
+pub mod OrderWrittenLaws
 pub mod OrderCallLaws
 pub mod OrderRulesLaws
 pub mod SameOrderLaws

@@ -15,7 +15,7 @@ use Rattle.table.specs.declared.Refusal.{Refusal}
 use Rattle.table.specs.declared.Reading.the-variants.{Accepted, Refused}
 use Rattle.pairs.specs.Marks.{marksLength}
 use Rattle.order.specs.OrderCall.{orderRows, orderAnswer, orderBytes, OrderCall}
-use Rattle.order.specs.Clearing.{OrderDone}
+use Rattle.order.specs.OrderWritten.{OrderDone}
 
 module _ (game marks spare : List ℕ) where
   abbrev needed : ℕ

@@ -1,18 +1,20 @@
 // The direct simulation order of a parity game.
-pub mod marking;
-
+use bits::row::WORDS;
+use board::edges::EDGE_WORDS;
+use board::edges::fill;
 use pairs::marks::length_for;
+use pairs::writing::write_marks;
+use rounds::rounds;
 use table::Reading;
 use table::Refusal;
-use table::limits::EDGES;
-use table::limits::VERTEX_STARTS;
+use table::limits::VERTICES;
 use table::refusal_of;
 ghost use Prim.Native.Nat.{_≤_};
 ghost use lib.ListN.{length};
 ghost use Rattle.table.specs.Table.{vertexCount};
 ghost use Rattle.table.specs.WellFormed.{WellFormed};
 ghost use Rattle.pairs.specs.Marks.{marksLength};
-ghost use Rattle.order.specs.Clearing.{OrderDone};
+ghost use Rattle.order.specs.OrderWritten.{OrderDone};
 ghost use Rattle.order.specs.OrderCall.{orderingAnswer, OrderCall};
 
 pub struct PassCount {
@@ -24,17 +26,27 @@ pub enum Ordering {
     Refused(Refusal),
 }
 
-// Writes the order of a well-formed table into buffers that are long enough, over an index of its edges in local arrays of 8,706 bytes. A
-// part of the calls that leave the order; no host calls it.
+// The words of a relation in rows.
+const RELATION_WORDS: usize = VERTICES * WORDS;
+
+// Writes the order of a well-formed table into buffers that are long enough, by rows of bits in local arrays of 48 KiB. A part of the calls
+// that leave the order; no host calls it.
 pub fn fill_order(game: &[u16], marks: &mut [u8], spare: &mut [u8]) -> u32
     requires { ⌜ WellFormed (now game) ⌝ }
     requires { ⌜ (marksLength (vertexCount (now game)) ≤ length (now marks)) × (marksLength (vertexCount (now game)) ≤ length (now spare)) ⌝ }
     ensures { λ r. ⌜ OrderDone (now (game .entry)) (now (marks .entry)) (now (spare .entry)) r (now (marks .exit)) (now (spare .exit)) ⌝ }
 {
-    let mut starts = [0u16; VERTEX_STARTS];
-    let mut targets = [0u16; EDGES];
-    index::of_edges(game, &mut starts, &mut targets);
-    marking::settle(game, &starts, &targets, marks, spare)
+    let mut edges = [0u64; EDGE_WORDS];
+    let mut related = [0u64; RELATION_WORDS];
+    let mut lost = [0u64; RELATION_WORDS];
+    let mut falls = [0u64; RELATION_WORDS];
+    let mut next = [0u64; RELATION_WORDS];
+    fill(game, &mut edges);
+    let passes = rounds(game, &edges, &mut related, &mut lost, &mut falls, &mut next);
+    let n = game[0] as usize;
+    write_marks(&related, n, marks);
+    write_marks(&related, n, spare);
+    passes
 }
 
 // Judges the game and the buffers, and writes the order into both. The verdict carries the pass count.

@@ -3,3 +3,5 @@ pub mod MarksLaws
 pub mod Search
 pub mod PairLaws
 pub mod Ready
+pub mod Writing
+pub mod WritingLaws

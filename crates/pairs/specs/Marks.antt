@@ -7,7 +7,7 @@ use Prim.Native.Nat.{ℕ, _+_, _*_, _<_}
 use lib.Dec.{eqb, ltb}
 use lib.ListN.{length, getD}
 use Rattle.theory.specs.Bools.{bit}
-use Rattle.theory.specs.Range.{first, tabulate}
+use Rattle.theory.specs.Range.{first}
 use Rattle.theory.specs.Passes.{Marks, Rel, relOf}
 
 -- how many bytes hold the marks of n vertices
@@ -25,10 +25,6 @@ bytes m = map bit m
 -- byte i is a mark
 unfoldable pub isMark : List ℕ → ℕ → Bool
 isMark b i = eqb (getD b i 0) 1
-
--- the marks of the first N bytes
-unfoldable pub marksOf : ℕ → List ℕ → Marks
-marksOf N b = tabulate N (isMark b)
 
 -- the relation between n vertices that is marked
 unfoldable pub relation : ℕ → List ℕ → Rel

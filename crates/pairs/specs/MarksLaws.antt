@@ -1,5 +1,5 @@
 -- Laws of marks in memory, and of a buffer that is written from its start.
-use mathlib.Core.Path.{_≡_, refl, sym, ap}
+use mathlib.Core.Path.{_≡_, refl, ap}
 use mathlib.Core.Bool.{Bool, false, So}
 use mathlib.Core.List.{List, _∷_}
 use Prim.Native.Nat.{ℕ, zero, suc, _+_, _*_, _≤_, _<_}
@@ -11,11 +11,10 @@ use lib.ListN.{length, getD, set, length-map, List·getD-map}
 use Rattle.theory.specs.Bools.{bit}
 use Rattle.theory.specs.BoolsLaws.{bit-is-one}
 use Rattle.theory.specs.Range.{tabulate}
-use Rattle.theory.specs.ListLaws.{tabulate-by}
 use Rattle.theory.specs.Passes.{Marks, marked, relOf}
 use Rattle.table.specs.Verdict.{written}
 use Rattle.table.specs.VerdictLaws.{getD-written, written-start, written-more}
-use Rattle.pairs.specs.Marks.{marksLength, InMarks, bytes, isMark, marksOf, relation, Marked}
+use Rattle.pairs.specs.Marks.{marksLength, InMarks, bytes, isMark, relation, Marked}
 
 -- ---- a mark and the relation
 
@@ -49,11 +48,6 @@ getD-bytes m i = List·getD-map bit m i false
 pub mark-written : (m : Marks) (old : List ℕ) (i : ℕ) → i < length m → isMark (written (bytes m) old) i ≡ marked m i
 unfolding isMark
 mark-written m old i h = rw (getD-written (bytes m) old i 0 (omega (arith, length-bytes m)), getD-bytes m i) (bit-is-one (marked m i))
-
-pub marks-written : (N : ℕ) (m : Marks) (old : List ℕ) → length m ≡ N → marksOf N (written (bytes m) old) ≡ m
-unfolding marksOf
-marks-written N m old e =
-    sym (tabulate-by N _ false m e (λ i h. sym (mark-written m old i (omega arith))))
 
 -- ---- the bytes of f 0, .., f (k - 1) over the start of a buffer
 

@@ -7,7 +7,7 @@ use Rattle.theory.specs.Range.{tabulate}
 use Rattle.theory.specs.Game.{Game, edgeCount}
 use Rattle.table.specs.Table.{vertexCount, gameOf}
 use Rattle.table.specs.Verdict.{written}
-use Rattle.order.specs.Clearing.{OrderDone}
+use Rattle.order.specs.OrderWritten.{OrderDone}
 use Rattle.classes.specs.ClassesCall.{classTotal, classWords}
 use Rattle.reduction.specs.TableCall.{classTable}
 use Rattle.reduction.specs.declared.TableCounts.{TableCounts}

@@ -3,7 +3,7 @@
 use crate::TableCounts;
 use class_edges::listing::list_edges;
 use classes::numbering::number_classes;
-use order::marking::settle;
+use order::fill_order;
 use table::limits::EDGES;
 use table::limits::VERTEX_STARTS;
 use table::limits::VERTICES;
@@ -85,8 +85,7 @@ fn fill_table(
     }
 }
 
-// Writes all lent memory: the order, the classes and the table. One index of the edges, in local arrays of 8,706 bytes, serves the passes
-// and the table.
+// Writes all lent memory: the order, the classes and the table, over an index of the edges in local arrays of 8,706 bytes.
 pub fn fill_memory(
     game: &[u16],
     marks: &mut [u8],
@@ -98,9 +97,9 @@ pub fn fill_memory(
     requires { ⌜ TableFits (now game) (now marks) (now spare) (now classes) (now output) ⌝ }
     ensures { λ r. ⌜ TableDone (gameBy drop) (now (game .entry)) (now (marks .entry)) (now (spare .entry)) (now (classes .entry)) (now (output .entry)) r (now (marks .exit)) (now (spare .exit)) (now (classes .exit)) (now (output .exit)) ⌝ }
 {
+    fill_order(game, marks, spare);
     let mut starts = [0u16; VERTEX_STARTS];
     let mut targets = [0u16; EDGES];
     index::of_edges(game, &mut starts, &mut targets);
-    settle(game, &starts, &targets, marks, spare);
     fill_table(game, &starts, &targets, marks, classes, output, drop)
 }

@@ -56,6 +56,34 @@ unfolding _&_
 and-true true = refl
 and-true false = refl
 
+-- the first is known
+pub and-first : {a : Bool} (b : Bool) → a ≡ false → a & b ≡ false
+unfolding _&_
+and-first b e = rw e
+
+pub and-one : {a : Bool} (b : Bool) → So a → a & b ≡ b
+unfolding _&_
+and-one b e = rw e
+
+pub and-flip : (a b : Bool) → a & b ≡ b & a
+unfolding _&_
+and-flip true true = refl
+and-flip true false = refl
+and-flip false true = refl
+and-flip false false = refl
+
+pub and-assoc : (a b c : Bool) → a & b & c ≡ a & (b & c)
+unfolding _&_
+and-assoc true b c = refl
+and-assoc false b c = refl
+
+-- a, and neither b nor c
+pub and-neither : (a b c : Bool) → a & not b & not c ≡ a & not (b or c)
+unfolding _&_ _or_
+and-neither true true c = refl
+and-neither true false c = refl
+and-neither false b c = refl
+
 pub imp-in : {a b : Bool} → (So a → So b) → So (imp a b)
 unfolding imp
 imp-in {a = true} {b} f = f refl
@@ -85,6 +113,17 @@ pub or-out : {a b : Bool} → So (a or b) → So a ⊎ So b
 unfolding _or_
 or-out {a = true} {b} p = inl refl
 or-out {a = false} {b} p = inr p
+
+pub or-first : {a : Bool} (b : Bool) → a ≡ false → (a or b) ≡ b
+unfolding _or_
+or-first b e = rw e
+
+pub or-flip : (a b : Bool) → (a or b) ≡ (b or a)
+unfolding _or_
+or-flip true true = refl
+or-flip true false = refl
+or-flip false true = refl
+or-flip false false = refl
 
 pub or-false : (b : Bool) → (b or false) ≡ b
 unfolding _or_

@@ -1,8 +1,14 @@
 -- Passes as rounds over relations, for any test of pairs of the numbers below n.
 use mathlib.Core.Path.{_≡_}
-use Prim.Native.Nat.{ℕ, suc, _*_, _≤_, _<_}
-use Rattle.theory.specs.Range.{first}
+use mathlib.Core.Bool.{not}
+use Prim.Native.Nat.{ℕ, suc, _*_, _/_, _%_, _≤_, _<_}
+use Rattle.theory.specs.Bools.{_&_}
+use Rattle.theory.specs.Range.{first, count}
 use Rattle.theory.specs.Passes.{Rel, marked, relOf, pass, settled, rounds, pairTest, pairStart}
+
+-- how many pairs of numbers below n are in H and not in H′
+unfoldable pub cleared : ℕ → Rel → Rel → ℕ
+cleared n H H′ = count (n * n) (λ i. H (i / n) (i % n) & not (H′ (i / n) (i % n)))
 
 module _ (n : ℕ) (test : Rel → Rel) (start : Rel) where
   -- the relation after pass k

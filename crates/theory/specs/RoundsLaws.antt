@@ -1,20 +1,41 @@
 -- Rounds are passes: a relation that starts as the passes do and keeps in each round what passes the test is the relation after that pass
--- (`after-start`, `after-next`); where a round keeps all, the passes end with it (`last-passes`, `last-marks`).
+-- (`after-start`, `after-next`); where a round keeps all, the passes end with it (`last-passes`, `last-marks`). A round keeps all where no pair
+-- that it takes out is counted (`cleared-none`, `cleared-some`).
 use mathlib.Core.Path.{_≡_, refl, sym, _∙_, subst₂}
-use mathlib.Core.Bool.{Bool, false, So}
+use mathlib.Core.Logic.{inl, inr}
+use mathlib.Core.Bool.{Bool, false, not, So}
 use Prim.Native.Nat.{ℕ, suc, _+_, _*_, _/_, _%_, _≤_, _<_}
 use native.Mathlib.Nat.{div-add-mod'}
 use native.Mathlib.Numerals.{add-one}
 use native.Mathlib.Omega.{arith}
 use lib.Arith.{digits-lt, digits-div, digits-mod}
 use Rattle.theory.specs.Bools.{_&_}
-use Rattle.theory.specs.BoolsLaws.{clash, So-not, imp-in, imp-out}
-use Rattle.theory.specs.Range.{first}
-use Rattle.theory.specs.RangeLaws.{all-in, all-out, first-step, first-hit, first-ge}
-use Rattle.theory.specs.CountLaws.{row-lt, col-lt}
+use Rattle.theory.specs.BoolsLaws.{decide, clash, So-not, imp-in, imp-out}
+use Rattle.theory.specs.Range.{anyBelow, first}
+use Rattle.theory.specs.RangeLaws.{any-out, any-fails, all-in, all-out, first-step, first-hit, first-ge}
+use Rattle.theory.specs.CountLaws.{count-none, count-lt, row-lt, col-lt}
 use Rattle.theory.specs.Passes.{Test, Rel, marked, relOf, pass, settled, rounds, passCount, finalMarks, pairTest, pairStart}
 use Rattle.theory.specs.PassesLaws.{pass-zero, pass-suc, rounds-le}
-use Rattle.theory.specs.Rounds.{afterPass, AfterPass}
+use Rattle.theory.specs.Rounds.{cleared, afterPass, AfterPass}
+
+-- ---- the pairs that a round takes out
+
+module _ (n : ℕ) (H H′ : Rel) where
+  -- none is counted: none is there
+  pub cleared-none : cleared n H H′ ≡ 0 → (v w : ℕ) → v < n → w < n → H v w & not (H′ v w) ≡ false
+  unfolding cleared
+  cleared-none e v w hv hw = So-not (λ t.
+      let c = count-lt (n * n) (λ i. H (i / n) (i % n) & not (H′ (i / n) (i % n))) (v * n + w) (digits-lt hv hw)
+      (rw (digits-div v hw, digits-mod v hw) t) in
+      omega (arith, c, e))
+
+  -- some is counted: one is there
+  pub cleared-some : (cleared n H H′ ≡ 0 → ⊥) → (v w : ℕ) × (v < n) × (w < n) × So (H v w & not (H′ v w))
+  unfolding cleared
+  cleared-some d = elim (decide (anyBelow (n * n) (λ i. H (i / n) (i % n) & not (H′ (i / n) (i % n))))) [
+    | inl t ↦ (let r = any-out t in (r .0 / n, r .0 % n, row-lt n n (r .0) (r .1), col-lt n n (r .0) (r .1), r .2))
+    | inr f ↦ absurd (d (count-none (n * n) _ (any-fails (n * n) _ f)))
+  ]
 
 module _ (n : ℕ) (test : Rel → Rel) (start : Rel)
     (same-test : (H K : Rel) (v w : ℕ) → ((x y : ℕ) → x < n → y < n → H x y ≡ K x y) → test H v w ≡ test K v w) where

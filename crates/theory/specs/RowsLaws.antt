@@ -39,7 +39,7 @@ opposite {a} b f h = So-ext (λ t. not-in (So-not (f t))) (λ t. elim (decide a)
 -- ---- each and some successor
 
 module _ (g : Game) where
-  any-same : (v : ℕ) (p q : ℕ → Bool) → ((x : ℕ) → Succ g v x → p x ≡ q x) → anyNext g v p ≡ anyNext g v q
+  pub any-same : (v : ℕ) (p q : ℕ → Bool) → ((x : ℕ) → Succ g v x → p x ≡ q x) → anyNext g v p ≡ anyNext g v q
   any-same v p q e =
       So-ext
       (λ t. let r = anyNext-out g v p t in anyNext-in g v q (r .0) (r .1) (sym (e (r .0) (r .1)) ∙ r .2))
@@ -84,6 +84,16 @@ module _ (g : Game) where
   cpre-same X Y w e = rw (any-same w X Y (λ x s. e x (s .inside)), all-same w X Y (λ x s. e x (s .inside)))
 
   -- ---- the fall of a row: X is left of X and L, which are apart
+
+  -- it goes by the vertices alone
+  pub fall-same : (L X L′ X′ : ℕ → Bool) (w : ℕ) → ((x : ℕ) → x < g .n → L x ≡ L′ x) → ((x : ℕ) → x < g .n → X x ≡ X′ x) → fall g L X w ≡ fall g L′ X′ w
+  unfolding fall
+  fall-same L X L′ X′ w l x = rw (any-same w L L′ (λ y s. l y (s .inside)), any-same w X X′ (λ y s. x y (s .inside)))
+
+  -- where nothing is taken out, nothing falls
+  pub fall-none : (L X : ℕ → Bool) (w : ℕ) → ((x : ℕ) → x < g .n → L x ≡ false) → fall g L X w ≡ false
+  unfolding fall
+  fall-none L X w e = So-not (λ t. let r = anyNext-out g w L (and-out t .0) in clash (r .2) (e (r .0) (r .1 .inside)))
 
   pub fall-is : (L X : ℕ → Bool) (w : ℕ) → ((x : ℕ) → x < g .n → So (L x) → X x ≡ false) → So (cpre g (λ x. X x or L x) w)
       → cpre g X w ≡ not (fall g L X w)
@@ -150,6 +160,15 @@ module _ (g : Game) where
         go false s =
             fall-is (unitedLost g H lost v) (united g H v) w (λ x k l. not-out (unfold unitedLost in (and-out l .1)))
             (sym (cpre-same _ _ w (λ x k. union x)) ∙ s)
+
+  -- what is lost goes by the vertices alone
+  pub loses-same : (H lost lost′ : Rel) → ((a x : ℕ) → a < g .n → x < g .n → lost a x ≡ lost′ a x) → (v w : ℕ) → loses g H lost v w ≡ loses g H lost′ v w
+  unfolding loses fails unitedLost united
+  loses-same H lost lost′ e v w = rw (
+    any-same v (λ a. fall g (lost a) (H a) w) (λ a. fall g (lost′ a) (H a) w) (λ a s. fall-same _ _ _ _ w (λ x h. e a x (s .inside) h) (λ x h. refl)),
+    fall-same (λ x. anyNext g v (λ a. lost a x) & not (anyNext g v (λ a. H a x))) (λ x. anyNext g v (λ a. H a x)) _ _ w
+        (λ x h. ap (λ b. b & not (anyNext g v (λ a. H a x))) (any-same v (λ a. lost a x) (λ a. lost′ a x) (λ a s. e a x (s .inside) h))) (λ x h. refl),
+  )
 
   -- a row no successor of which lost anything loses nothing
   pub loses-none : (H lost : Rel) (v : ℕ) → ((a x : ℕ) → Succ g v a → x < g .n → lost a x ≡ false) → (w : ℕ) → loses g H lost v w ≡ false

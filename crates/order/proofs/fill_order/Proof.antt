@@ -1,29 +1,56 @@
--- The arrays hold the index of any well-formed table.
+-- The arrays hold the rows of any well-formed table.
 use borrow.Author.Needs.{needs}
 use native.Mathlib.Omega.{arith}
-use Prim.Native.Nat.{_+_}
-use Rattle.theory.specs.ListLaws.{zeros}
-use Rattle.table.specs.Limits.{vertexLimit}
+use Rattle.bits.specs.MatrixLaws.{cell-zero}
+use Rattle.board.specs.Board.{edgeWords}
+use Rattle.order.specs.OrderWrittenLaws.{order-done}
 use Rattle.order.proofs.fill_order.Statement.{statement}
 use Rattle.order.proofs.fill_order.Tie as tie
 
-slice-aggregate-of-edges : tie.Need-slice-aggregate-of-edges
-slice-aggregate-of-edges c = search needs
+slice-aggregate-fill : tie.Need-slice-aggregate-fill
+slice-aggregate-fill c = search needs
 
-slice-aggregate-of-edges-2 : tie.Need-slice-aggregate-of-edges-2
-slice-aggregate-of-edges-2 c = search needs
+fill-requires : tie.Need-fill-requires
+fill-requires c κs = let s = c .before .before .before .before in (s .pre .0, (omega arith, cell-zero edgeWords))
 
-of-edges-requires : tie.Need-of-edges-requires
-of-edges-requires c κs = let p = c .before .before .before .before .before .pre in (p .0, ((omega arith, p .0 .edges), zeros (vertexLimit + 1)))
+slice-aggregate-rounds : tie.Need-slice-aggregate-rounds
+slice-aggregate-rounds c = search needs
 
-slice-aggregate-settle : tie.Need-slice-aggregate-settle
-slice-aggregate-settle c = search needs
+slice-aggregate-rounds-2 : tie.Need-slice-aggregate-rounds-2
+slice-aggregate-rounds-2 c = search needs
 
-slice-aggregate-settle-2 : tie.Need-slice-aggregate-settle-2
-slice-aggregate-settle-2 c = search needs
+slice-aggregate-rounds-3 : tie.Need-slice-aggregate-rounds-3
+slice-aggregate-rounds-3 c = search needs
 
-settle-requires : tie.Need-settle-requires
-settle-requires c κs = search needs
+slice-aggregate-rounds-4 : tie.Need-slice-aggregate-rounds-4
+slice-aggregate-rounds-4 c = search needs
+
+slice-aggregate-rounds-5 : tie.Need-slice-aggregate-rounds-5
+slice-aggregate-rounds-5 c = search needs
+
+rounds-requires : tie.Need-rounds-requires
+rounds-requires c κs = let f = c .before .before .before .before .before .before .fill in
+    (c .before .before .before .before .before .before .before .before .before .before .before .pre .0, ((f .ensures, omega (arith, f .kept)), (omega arith, omega arith, omega arith, omega arith)))
+
+shared-slice-read-n : tie.Need-shared-slice-read-n
+shared-slice-read-n c = search needs
+
+cast-n : tie.Need-cast-n
+cast-n c = search needs
+
+slice-aggregate-write-marks : tie.Need-slice-aggregate-write-marks
+slice-aggregate-write-marks c = search needs
+
+write-marks-requires : tie.Need-write-marks-requires
+write-marks-requires c κs = let s = c .before .before .before .before .before .before .before .before .before .before .before .before .before .before .before .before .before .before .before in
+    (s .pre .0 .vertices, omega (arith, c .before .before .before .before .before .before .before .rounds .kept, s .pre .0 .vertices), s .pre .1 .0)
+
+slice-aggregate-write-marks-2 : tie.Need-slice-aggregate-write-marks-2
+slice-aggregate-write-marks-2 c = search needs
+
+write-marks-requires-2 : tie.Need-write-marks-requires-2
+write-marks-requires-2 c κs = let s = c .before .before .before .before .before .before .before .before .before .before .before .before .before .before .before .before .before .before .before .before .before .before .before .before in
+    (s .pre .0 .vertices, omega (arith, c .before .before .before .before .before .before .before .before .before .before .before .before .rounds .kept, s .pre .0 .vertices), s .pre .1 .1)
 
 same-length : tie.Need-same-length
 same-length c = search needs
@@ -32,18 +59,27 @@ same-length-2 : tie.Need-same-length-2
 same-length-2 c = search needs
 
 returns : tie.Need-returns
-returns c = search needs
+returns c = let s = c .before .before .before .before .before .before .before .before .before .before .before .before .before .before .before .before .before .before .before .before .before .before .before .before .before .before .before in
+    order-done (s .args .game .now) _ _ _ _ _ _ (c .before .before .before .before .before .before .before .before .before .before .before .before .before .before .before .rounds .ensures) (c .before .before .before .before .before .before .before .write-marks .ensures) (c .before .before .write-marks2 .ensures)
 
 pub fill-order-spec : {M : Type 1} → statement M
 fill-order-spec =
     tie.close
     (tie.spec
-    slice-aggregate-of-edges
-    slice-aggregate-of-edges-2
-    of-edges-requires
-    slice-aggregate-settle
-    slice-aggregate-settle-2
-    settle-requires
+    slice-aggregate-fill
+    fill-requires
+    slice-aggregate-rounds
+    slice-aggregate-rounds-2
+    slice-aggregate-rounds-3
+    slice-aggregate-rounds-4
+    slice-aggregate-rounds-5
+    rounds-requires
+    shared-slice-read-n
+    cast-n
+    slice-aggregate-write-marks
+    write-marks-requires
+    slice-aggregate-write-marks-2
+    write-marks-requires-2
     same-length
     same-length-2
     returns)

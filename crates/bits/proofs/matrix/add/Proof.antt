@@ -29,7 +29,7 @@ same-length : tie.Need-same-length
 same-length c = search needs
 
 returns : tie.Need-returns
-returns c = let s = c .before .before .before in add-is _ _ _ _ (s .pre .1) (omega (arith, s .pre)) (c .with .ensures)
+returns c = let s = c .before .before .before in add-is _ _ _ _ _ (s .pre .1) (omega (arith, s .pre)) (c .with .ensures)
 
 pub add-spec : {M : Type 1} → statement M
 add-spec =

@@ -1,6 +1,5 @@
-use mathlib.Core.Path.{_≡_, refl, sym, ap, _∙_}
-use Prim.Native.Nat.{ℕ, _+_, _-_, _*_, _≤_, _<_}
-use native.Mathlib.Omega.{arith}
+use mathlib.Core.Path.{refl, sym, ap, _∙_}
+use Prim.Native.Nat.{_+_, _-_, _*_, _≤_}
 use Rattle.theory.specs.Bools.{_&_}
 use Rattle.bits.specs.Bits.{rowWords, has, apart}
 use Rattle.bits.specs.RowLaws.{has-at, Filled, filled-start, filled-next, filled-end}

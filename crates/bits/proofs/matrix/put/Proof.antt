@@ -1,7 +1,7 @@
 use mathlib.Core.Path.{_≡_, refl}
-use Prim.Native.Nat.{ℕ, _+_, _-_, _*_, _≤_, _<_}
+use Prim.Native.Nat.{_-_, _≤_}
 use native.Mathlib.Omega.{arith}
-use lib.ListN.{length, length-set}
+use lib.ListN.{length}
 use Rattle.bits.specs.Bits.{rowWords}
 use Rattle.bits.specs.MatrixLaws.{PutTo, put-start, put-next, put-end}
 use borrow.Author.Needs.{needs}

@@ -1,6 +1,5 @@
-use mathlib.Core.Path.{_≡_, refl, sym, _∙_}
-use Prim.Native.Nat.{ℕ, _+_, _-_, _*_, _≤_, _<_}
-use native.Mathlib.Omega.{arith}
+use mathlib.Core.Path.{refl, sym}
+use Prim.Native.Nat.{_-_, _≤_}
 use Rattle.bits.specs.Bits.{rowWords, cell}
 use Rattle.bits.specs.RowLaws.{Filled, filled-start, filled-next, filled-end}
 use Rattle.bits.specs.MatrixLaws.{cell-at}

@@ -1,5 +1,5 @@
-use mathlib.Core.Path.{_≡_, refl, sym, _∙_}
-use Prim.Native.Nat.{_≤_, _<_, _-_}
+use mathlib.Core.Path.{_≡_, sym, _∙_}
+use Prim.Native.Nat.{_≤_, _-_}
 use native.Mathlib.Omega.{arith}
 use Rattle.theory.specs.Range.{first}
 use Rattle.theory.specs.RangeLaws.{first-end}
@@ -10,10 +10,10 @@ use Rattle.bits.proofs.row.first_from.Statement.{statement}
 use Rattle.bits.proofs.row.first_from.Tie as tie
 
 abbrev Inv-loop : tie.InvT-loop
-Inv-loop k a at₀ at = (at ≤ rowBits) × (first (has a) k rowBits ≡ first (has a) at rowBits)
+Inv-loop a k at₀ at = (at ≤ rowBits) × (first (has a) k rowBits ≡ first (has a) at rowBits)
 
 abbrev μ-loop : tie.MeasureT-loop
-μ-loop k a at₀ at = rowBits - at
+μ-loop a k at₀ at = rowBits - at
 
 loop-holds : tie.Need-loop-holds Inv-loop μ-loop
 loop-holds c = search needs
@@ -21,8 +21,8 @@ loop-holds c = search needs
 mul-first-from : tie.Need-mul-first-from Inv-loop μ-loop
 mul-first-from c = search needs
 
-array-read-first-from : tie.Need-array-read-first-from Inv-loop μ-loop
-array-read-first-from c = search needs
+shared-slice-read-first-from : tie.Need-shared-slice-read-first-from Inv-loop μ-loop
+shared-slice-read-first-from c = search needs
 
 first-from-requires : tie.Need-first-from-requires Inv-loop μ-loop
 first-from-requires c κs = search needs
@@ -34,9 +34,11 @@ add-result : tie.Need-add-result Inv-loop μ-loop
 add-result c = search needs
 
 returns : tie.Need-returns Inv-loop μ-loop
-returns c = let l = c .before .before .before in
+returns c = let l = c .before .before .before .before in
     let f = c .before .first-from .ensures in
-    rw f (first-here (l .before .args .t1) (l .loop .at) (c .before .before .loop-test .taken) (omega (arith, f, c .if1 .taken)) ∙ sym (l .loop .inv .1))
+    let a = l .before .before .args .a .now in
+    let t = c .before .before .before .loop-test .taken in
+    rw f (first-here a (l .loop .at) t (omega (arith, f, c .if1 .taken)) ∙ sym (l .loop .inv .1))
 
 add-at : tie.Need-add-at Inv-loop μ-loop
 add-at c = search needs
@@ -48,13 +50,15 @@ loop-less : tie.Need-loop-less Inv-loop μ-loop
 loop-less c = search needs
 
 loop-again : tie.Need-loop-again Inv-loop μ-loop
-loop-again c = let l = c .before .before .before in
+loop-again c = let l = c .before .before .before .before in
     let f = c .before .first-from .ensures in
-    (search needs, l .loop .inv .1 ∙ first-later (l .before .args .t1) (l .loop .at) (c .before .before .loop-test .taken) (λ k. omega (arith, k, f, c .if1 .left)))
+    let a = l .before .before .args .a .now in
+    let t = c .before .before .before .loop-test .taken in
+    (search needs, l .loop .inv .1 ∙ first-later a (l .loop .at) t (λ k. omega (arith, k, f, c .if1 .left)))
 
 returns-2 : tie.Need-returns-2 Inv-loop μ-loop
 returns-2 c = let l = c .before in
-    sym (l .loop .inv .1 ∙ first-end (has (l .before .args .t1)) (l .loop .at) rowBits (c .loop-test .left))
+    sym (l .loop .inv .1 ∙ first-end (has (l .before .before .args .a .now)) (l .loop .at) rowBits (c .loop-test .left))
 
 pub first-from-spec : {M : Type 1} → statement M
 first-from-spec =
@@ -64,7 +68,7 @@ first-from-spec =
     μ-loop
     loop-holds
     mul-first-from
-    array-read-first-from
+    shared-slice-read-first-from
     first-from-requires
     mul-result
     add-result

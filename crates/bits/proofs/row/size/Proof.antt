@@ -1,10 +1,10 @@
 use mathlib.Core.Path.{_≡_, refl, sym, ap, ap₂, _∙_}
-use Prim.Native.Nat.{ℕ, _+_, _-_, _*_, _≤_, _<_}
+use Prim.Native.Nat.{ℕ, _+_, _-_, _*_, _≤_}
 use native.Mathlib.Omega.{arith}
 use lib.ListN.{getD}
 use Rattle.theory.specs.Range.{count}
 use Rattle.theory.specs.CountLaws.{count-le}
-use Rattle.bits.specs.Bits.{wordBits, rowBits, rowWords, has, digit}
+use Rattle.bits.specs.Bits.{wordBits, rowWords, has, digit}
 use Rattle.bits.specs.RowLaws.{count-words}
 use borrow.Author.Needs.{needs}
 use Rattle.bits.proofs.row.size.Statement.{statement}

@@ -1,10 +1,8 @@
-use mathlib.Core.Path.{_≡_, refl, sym, ap, ap₂, _∙_}
+use mathlib.Core.Path.{refl, sym, ap₂, _∙_}
 use mathlib.Core.Bool.{not}
-use Prim.Native.Nat.{ℕ, _+_, _-_, _*_, _≤_, _<_}
-use lib.ListN.{getD}
-use native.Mathlib.Omega.{arith}
-use Rattle.theory.specs.Bools.{_&_, _or_}
-use Rattle.bits.specs.Bits.{rowWords, has, digit}
+use Prim.Native.Nat.{_-_, _≤_}
+use Rattle.theory.specs.Bools.{_&_}
+use Rattle.bits.specs.Bits.{rowWords, has}
 use Rattle.bits.specs.WordLaws.{digit-less}
 use Rattle.bits.specs.RowLaws.{has-at, Filled, filled-start, filled-next, filled-end}
 use borrow.Author.Needs.{needs}

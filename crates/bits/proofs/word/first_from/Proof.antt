@@ -1,7 +1,6 @@
 use Prim.Native.Nat.{_+_, _/_, _^_, _<_}
 use lib.Count.{trailingZeros}
 use Rattle.bits.specs.Bits.{wordBits, digit}
-use mathlib.Core.Path.{_≡_, refl, sym, ap, ap₂, _∙_}
 use native.Mathlib.Omega.{arith}
 use Rattle.bits.specs.WordLaws.{first-none-left, first-inside, first-digit}
 use Rattle.theory.specs.RangeLaws.{first-end}

@@ -1,5 +1,4 @@
 use Rattle.bits.specs.WordLaws.{word-some}
-use borrow.Author.Needs.{needs}
 use Rattle.bits.proofs.word.is_some.Statement.{statement}
 use Rattle.bits.proofs.word.is_some.Tie as tie
 

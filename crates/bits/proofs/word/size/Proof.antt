@@ -1,5 +1,4 @@
 use Rattle.bits.specs.WordLaws.{word-size}
-use borrow.Author.Needs.{needs}
 use Rattle.bits.proofs.word.size.Statement.{statement}
 use Rattle.bits.proofs.word.size.Tie as tie
 

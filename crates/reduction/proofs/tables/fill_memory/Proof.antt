@@ -1,4 +1,4 @@
--- The arrays hold the index of any well-formed table; what the passes leave holds the order.
+-- The arrays hold the index of any well-formed table; what the rounds leave holds the order.
 use Prim.Native.Nat.{_+_}
 use native.Mathlib.Omega.{arith}
 use Rattle.theory.specs.ListLaws.{zeros}
@@ -8,11 +8,14 @@ use borrow.Author.Needs.{needs}
 use Rattle.reduction.proofs.tables.fill_memory.Statement.{statement}
 use Rattle.reduction.proofs.tables.fill_memory.Tie as tie
 
-abbrev start : tie.After-of-edges → tie.Start
+abbrev start : tie.After-fill-order → tie.Start
 start c = c .before .before .before .before .before .before .before .before
 
-abbrev indexed-at : tie.After-settle → tie.After-of-edges
-indexed-at c = c .before .before .before .before .before .before .before
+abbrev ordered-at : tie.After-of-edges → tie.After-fill-order
+ordered-at c = c .before .before .before .before .before .before .before
+
+fill-order-requires : tie.Need-fill-order-requires
+fill-order-requires c κs = let f = c .before .before .before .before .before .before .before .pre .classesFit .orderFits in (f .game, (f .marksFit, f .spareFit))
 
 slice-aggregate-of-edges : tie.Need-slice-aggregate-of-edges
 slice-aggregate-of-edges c = search needs
@@ -21,21 +24,8 @@ slice-aggregate-of-edges-2 : tie.Need-slice-aggregate-of-edges-2
 slice-aggregate-of-edges-2 c = search needs
 
 of-edges-requires : tie.Need-of-edges-requires
-of-edges-requires c κs =
-    let g = c .before .before .before .before .before .before .before .pre .classesFit .orderFits .game in
+of-edges-requires c κs = let g = start (c .before .before .before .before .before .before) .pre .classesFit .orderFits .game in
     (g, ((omega (arith, g .vertices), g .edges), zeros (vertexLimit + 1)))
-
-slice-aggregate-settle : tie.Need-slice-aggregate-settle
-slice-aggregate-settle c = search needs
-
-slice-aggregate-settle-2 : tie.Need-slice-aggregate-settle-2
-slice-aggregate-settle-2 c = search needs
-
-settle-requires : tie.Need-settle-requires
-settle-requires c κs =
-    let o = c .before .before .before .before .before .before in
-    let f = start o .pre .classesFit .orderFits in
-    record { game = f .game; index = o .of-edges .ensures; marksFit = f .marksFit; spareFit = f .spareFit }
 
 slice-aggregate-fill-table : tie.Need-slice-aggregate-fill-table
 slice-aggregate-fill-table c = search needs
@@ -44,12 +34,11 @@ slice-aggregate-fill-table-2 : tie.Need-slice-aggregate-fill-table-2
 slice-aggregate-fill-table-2 c = search needs
 
 fill-table-requires : tie.Need-fill-table-requires
-fill-table-requires c κs =
-    let s = c .before .before .before .before .before .before .before .before .before in
-    let o = indexed-at s in
-    let f = start o .pre in
+fill-table-requires c κs = let o = c .before .before .before .before .before .before .before in
+    let s = ordered-at o in
+    let f = start s .pre in
     let g = f .classesFit .orderFits in
-    ((g .game, o .of-edges .ensures, ordered-done (g .marksFit) (s .settle .ensures)), (f .classesFit .wordsFit, f .outputFit))
+    ((g .game, o .of-edges .ensures, ordered-done (g .marksFit) (s .fill-order .ensures)), (f .classesFit .wordsFit, f .outputFit))
 
 same-length : tie.Need-same-length
 same-length c = search needs
@@ -64,21 +53,17 @@ same-length-4 : tie.Need-same-length-4
 same-length-4 c = search needs
 
 returns : tie.Need-returns
-returns c =
-    let t = c .before .before .before .before in
-    let s = t .before .before .before .before .before .before .before .before .before .before in
-    record { passes = _; order = s .settle .ensures; table = t .fill-table .ensures }
+returns c = let t = c .before .before .before .before in
+    record { passes = _; order = ordered-at (t .before .before .before .before .before .before .before .before) .fill-order .ensures; table = t .fill-table .ensures }
 
 pub fill-memory-spec : {M : Type 1} → statement M
 fill-memory-spec =
     tie.close
     (tie.spec
+    fill-order-requires
     slice-aggregate-of-edges
     slice-aggregate-of-edges-2
     of-edges-requires
-    slice-aggregate-settle
-    slice-aggregate-settle-2
-    settle-requires
     slice-aggregate-fill-table
     slice-aggregate-fill-table-2
     fill-table-requires

@@ -1,0 +1,13 @@
+use native.Mathlib.Omega.{arith}
+use Rattle.bits.specs.WordLaws.{lowest-is}
+use Rattle.bits.proofs.word.lowest.Statement.{statement}
+use Rattle.bits.proofs.word.lowest.Tie as tie
+
+cast-result : tie.Need-cast-result
+cast-result c = omega (arith, lowest-is _ (c .fits .word .fits) (c .pre) .inside)
+
+returns : tie.Need-returns
+returns c = lowest-is _ (c .fits .word .fits) (c .pre)
+
+pub lowest-spec : {M : Type 1} → statement M
+lowest-spec = tie.close (tie.spec cast-result returns)

@@ -1,0 +1,4 @@
+pub mod Board
+pub mod ValuesLaws
+pub mod EdgesLaws
+pub mod BoardLaws

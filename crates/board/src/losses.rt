@@ -1,0 +1,73 @@
+// What each vertex loses in a round.
+use crate::edges::fall_of;
+use bits::matrix::add;
+use bits::matrix::holds;
+use bits::matrix::put;
+use bits::matrix::row;
+use bits::matrix::strip;
+use bits::matrix::unite;
+use bits::row::Row;
+use bits::row::WORDS;
+use bits::row::common;
+use bits::row::first_from;
+use bits::row::is_some;
+use table::limits::VERTICES;
+ghost use mathlib.Core.Path.{_≡_};
+ghost use mathlib.Core.Bool.{false};
+ghost use Prim.Native.Nat.{ℕ, _<_, _≤_};
+ghost use lib.ListN.{length};
+ghost use Rattle.theory.specs.Game.{Game};
+ghost use Rattle.theory.specs.Rows.{loses};
+ghost use Rattle.bits.specs.Bits.{rowBits, rowWords, has, RowIs, cell};
+ghost use Rattle.board.specs.Board.{edgeWords, EdgeRows, relationWords, struck, Fell, oddLoss, LossesTo};
+
+// What an Odd vertex v loses, where `gone` is what the rows of its successors lost. It ends early where other successors still have all of it.
+fn lose_odd(edges: &[u64], related: &[u64], gone: Row, v: usize) -> Row
+    requires { ⌜ (edgeWords ≤ length (now edges)) × (relationWords ≤ length (now related)) × (v < rowBits) ⌝ }
+    ensures { λ r. ⌜ ((G : Game) → EdgeRows G (now (edges .entry)) → RowIs r (oddLoss G (cell (now (related .entry))) (has gone) v)) ⌝ }
+{
+    let next = row(edges, v);
+    let less = strip(related, next, gone);
+    if !is_some(less) {
+        return [0u64; WORDS];
+    }
+    let left = unite(related, 0, next);
+    common(row(related, v), fall_of(edges, less, left))
+}
+
+// What v loses.
+fn lose(edges: &[u64], related: &[u64], lost: &[u64], falls: &[u64], changed: Row, v: usize) -> Row
+    requires { ⌜ (edgeWords ≤ length (now edges)) × (relationWords ≤ length (now related)) × (relationWords ≤ length (now lost)) × (relationWords ≤ length (now falls)) × (v < rowBits) ⌝ }
+    ensures { λ r. ⌜ ((G : Game) → EdgeRows G (now (edges .entry)) → v < G .n → Fell G (now (related .entry)) (now (lost .entry)) (now (falls .entry)) changed → RowIs r (loses G (cell (now (related .entry))) (struck changed (now (lost .entry))) v)) ⌝ }
+{
+    let which = common(row(edges, v), changed);
+    if holds(edges, 2 * VERTICES, v) {
+        return lose_odd(edges, related, unite(lost, 0, which), v);
+    }
+    common(row(related, v), unite(falls, 0, which))
+}
+
+// Writes what each vertex of `near` loses into its row of `next`, and those that lose something into `losing`, which is empty.
+pub fn lose_all(
+    edges: &[u64],
+    related: &[u64],
+    lost: &[u64],
+    falls: &[u64],
+    changed: Row,
+    near: &[u64],
+    next: &mut [u64],
+    losing: &mut [u64],
+)
+    requires { ⌜ (edgeWords ≤ length (now edges)) × (relationWords ≤ length (now related)) × (relationWords ≤ length (now lost)) × (relationWords ≤ length (now falls)) ⌝ }
+    requires { ⌜ (rowWords ≤ length (now near)) × (relationWords ≤ length (now next)) × (rowWords ≤ length (now losing)) ⌝ }
+    requires { ⌜ ((x : ℕ) → x < rowBits → cell (now losing) 0 x ≡ false) ⌝ }
+    ensures { λ r. ⌜ LossesTo (now (edges .entry)) (now (related .entry)) (now (lost .entry)) (now (falls .entry)) changed (now (near .entry)) rowBits (now (next .exit)) (now (losing .exit)) ⌝ }
+{
+    let mut v = first_from(near, 0);
+    while v < VERTICES {
+        let out = lose(edges, related, lost, falls, changed, v);
+        put(next, v, out);
+        add(losing, 0, v, is_some(out));
+        v = first_from(near, v + 1);
+    }
+}

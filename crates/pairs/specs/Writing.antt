@@ -1,0 +1,30 @@
+-- A relation in rows of bits, as it is written into a buffer of marks.
+use mathlib.Core.Path.{_≡_}
+use mathlib.Core.Bool.{Bool}
+use mathlib.Core.List.{List}
+use Prim.Native.Nat.{ℕ, _+_, _*_, _/_, _%_, _≤_, _<_}
+use lib.ListN.{length}
+use Rattle.theory.specs.Range.{tabulate}
+use Rattle.table.specs.Verdict.{written}
+use Rattle.bits.specs.Bits.{digit, cell}
+use Rattle.pairs.specs.Marks.{bytes}
+
+-- what held the marks before number `at` now holds `count` more, the first bits of the word
+abbrev pub BitsWritten : ℕ → ℕ → ℕ → List ℕ → List ℕ → Type 0
+BitsWritten word at count old new =
+    (f : ℕ → Bool) (base : List ℕ) → at + count ≤ length base → ((k : ℕ) → k < count → f (at + k) ≡ digit word k)
+    → old ≡ written (bytes (tabulate at f)) base → new ≡ written (bytes (tabulate (at + count) f)) base
+
+-- the mark of pair i of n vertices
+unfoldable pub rowMark : ℕ → List ℕ → ℕ → Bool
+rowMark n rows i = cell rows (i / n) (i % n)
+
+-- what held the marks before (v, 0) now holds those before (v, w)
+abbrev pub RowWritten : ℕ → List ℕ → ℕ → ℕ → List ℕ → List ℕ → Type 0
+RowWritten n rows v w old new =
+    (base : List ℕ) → n * n ≤ length base → old ≡ written (bytes (tabulate (v * n) (rowMark n rows))) base
+    → new ≡ written (bytes (tabulate (v * n + w) (rowMark n rows))) base
+
+-- all marks are written
+abbrev pub RowsWritten : ℕ → List ℕ → List ℕ → List ℕ → Type 0
+RowsWritten n rows old new = new ≡ written (bytes (tabulate (n * n) (rowMark n rows))) old

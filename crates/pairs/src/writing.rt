@@ -1,0 +1,47 @@
+// A relation in rows of bits, written as marks.
+use bits::row::WORDS;
+use bits::word;
+ghost use Prim.Native.Nat.{_+_, _*_, _<_, _≤_};
+ghost use lib.ListN.{length};
+ghost use Rattle.table.specs.Limits.{vertexLimit};
+ghost use Rattle.bits.specs.Bits.{wordBits, rowWords};
+ghost use Rattle.pairs.specs.Marks.{marksLength};
+ghost use Rattle.pairs.specs.Writing.{BitsWritten, RowWritten, RowsWritten};
+
+// Writes the first `count` bits of a word as marks, from mark `at` on.
+fn write_bits(marks: &mut [u8], at: usize, word: u64, count: usize)
+    requires { ⌜ (count ≤ wordBits) × (at + count ≤ length (now marks)) ⌝ }
+    ensures { λ r. ⌜ BitsWritten word at count (now (marks .entry)) (now (marks .exit)) ⌝ }
+{
+    let mut k = 0;
+    while k < count {
+        marks[at + k] = ((word >> k) & 1) as u8;
+        k += 1;
+    }
+}
+
+// Writes row v of n.
+fn write_row(rows: &[u64], n: usize, v: usize, marks: &mut [u8])
+    requires { ⌜ (v < n) × (n ≤ vertexLimit) × (n * rowWords ≤ length (now rows)) × (marksLength n ≤ length (now marks)) ⌝ }
+    ensures { λ r. ⌜ RowWritten n (now (rows .entry)) v n (now (marks .entry)) (now (marks .exit)) ⌝ }
+{
+    let row = v * n;
+    let mut w = 0;
+    while w < n {
+        let end = word::end_of(w, n);
+        write_bits(marks, row + w, rows[v * WORDS + w / 64], end - w);
+        w = end;
+    }
+}
+
+// Writes the relation between n vertices that the rows hold.
+pub fn write_marks(rows: &[u64], n: usize, marks: &mut [u8])
+    requires { ⌜ (n ≤ vertexLimit) × (n * rowWords ≤ length (now rows)) × (marksLength n ≤ length (now marks)) ⌝ }
+    ensures { λ r. ⌜ RowsWritten n (now (rows .entry)) (now (marks .entry)) (now (marks .exit)) ⌝ }
+{
+    let mut v = 0;
+    while v < n {
+        write_row(rows, n, v, marks);
+        v += 1;
+    }
+}

@@ -1,0 +1,4 @@
+pub mod Taking
+pub mod TakingLaws
+pub mod Rounds
+pub mod RoundsLaws

@@ -1,0 +1,216 @@
+-- Laws of rounds over rows: the first round is pass 0, a later one is the pass after, and the one that takes nothing out is the last.
+use mathlib.Core.Path.{_≡_, refl, sym, ap, ap₂, _∙_, subst}
+use mathlib.Core.Logic.{inl, inr}
+use mathlib.Core.Bool.{Bool, false, not, So, Bool·not-not}
+use mathlib.Core.List.{List}
+use Prim.Native.Nat.{ℕ, _+_, _<_}
+use native.Mathlib.Decide.{ℕ-discrete}
+use native.Mathlib.Omega.{arith}
+use lib.Dec.{eqb, ltb}
+use borrow.Author.Tests.{eqb-true, eq-eqb, ltb-true, lt-ltb, le-ltb}
+use Rattle.theory.specs.Bools.{_&_, _or_}
+use Rattle.theory.specs.BoolsLaws.{decide, clash, So-ext, So-not, and-in, and-out, and-fails, and-true, or-left, or-right, or-out, not-in, not-out, and-one, and-first}
+use Rattle.theory.specs.Range.{anyBelow}
+use Rattle.theory.specs.RangeLaws.{any-in, any-ext}
+use Rattle.theory.specs.Passes.{Rel}
+use Rattle.theory.specs.RoundsLaws.{cleared-none, cleared-some}
+use Rattle.theory.specs.Game.{Game, Total}
+use Rattle.theory.specs.Order.{anyNext, equalPriority}
+use Rattle.theory.specs.OrderLaws.{anyNext-in}
+use Rattle.theory.specs.Rows.{loses, AfterRound}
+use Rattle.theory.specs.RowsLaws.{fall-same, loses-same, loses-none, round-start, round-next, last-count, last-order}
+use Rattle.table.specs.Table.{vertexCount, priorityAt, gameOf}
+use Rattle.bits.specs.Bits.{rowBits, has, RowIs, cell, Put, Added, unitedRows}
+use Rattle.bits.specs.MatrixLaws.{cell-row}
+use Rattle.bits.specs.MembersLaws.{kept-end}
+use Rattle.board.specs.Board.{differs, EdgeRows, struck, Fell, Losses, LossesTo}
+use Rattle.board.specs.EdgesLaws.{eqb-flip}
+use Rattle.board.specs.BoardLaws.{near-is, next-vertex, loses-vertex}
+use Rattle.rounds.specs.Taking.{TakenTo}
+use Rattle.rounds.specs.TakingLaws.{out-count}
+use Rattle.rounds.specs.Rounds.{unequal, Started, Begun, RoundOf, Settled}
+
+below-next : (q : ℕ → Bool) (v u : ℕ) → ((eqb u v & q v) or (ltb u v & q u)) ≡ ltb u (v + 1) & q u
+below-next q v u =
+    So-ext
+    (λ t. elim (or-out t) [
+      | inl a ↦ (let c = and-out a in
+          let e = eqb-true u v (c .0) in
+          and-in (lt-ltb u (v + 1) (omega arith)) (subst (λ (i : ℕ). So (q i)) (sym e) (c .1)))
+      | inr a ↦ (let c = and-out a in and-in (lt-ltb u (v + 1) (omega (arith, ltb-true u v (c .0)))) (c .1))
+    ])
+    (λ t. let c = and-out t in elim (ℕ-discrete u v) [
+      | yes e ↦ or-left _ (and-in (eq-eqb u v e) (subst (λ (i : ℕ). So (q i)) e (c .1)))
+      | no d ↦ or-right _ (and-in (lt-ltb u v (omega (arith, ltb-true u (v + 1) (c .0)))) (c .1))
+    ])
+
+-- only pairs of the relation are lost
+loses-in : (G : Game) (H lost : Rel) (v w : ℕ) → So (loses G H lost v w) → So (H v w)
+unfolding loses
+loses-in G H lost v w t = and-out t .0
+
+-- ---- what was taken out, as the rows that changed tell it
+
+module _ (G : Game) (edges next losing old : List ℕ) (c : ℕ) (related lost falls : List ℕ) (s : EdgeRows G edges)
+    (t : TakenTo edges next losing rowBits old c related lost falls) where
+  taken-left : (u x : ℕ) → u < rowBits → x < rowBits → cell related u x ≡ cell old u x & not (struck losing next u x)
+  taken-left u x h k = t .left u x h k ∙ ap (λ b. cell old u x & not b) (kept-end (has losing) rowBits (λ v. cell next v x) rowBits (omega arith) u h)
+
+  struck-is : (v w : ℕ) → v < rowBits → w < rowBits → struck losing lost v w ≡ struck losing next v w
+  struck-is v w hv hw =
+      So-ext
+      (λ o. let a = and-out o in and-in (a .0) (sym (t .loss v hv (a .0) w hw) ∙ a .1))
+      (λ o. let a = and-out o in and-in (a .0) (t .loss v hv (a .0) w hw ∙ a .1))
+
+  taken-fell : Fell G related lost falls losing
+  taken-fell a w ha hw o =
+      let k : a < rowBits = omega (arith, ha, s .small) in
+      t .fallen G s a k o w hw ∙ fall-same G _ _ _ _ w (λ x h. sym (t .loss a k o x (omega (arith, h, s .small)))) (λ x h. refl)
+
+-- ---- the first round
+
+-- a row is the vertices of another priority
+pub unequal-row : (g : List ℕ) (v x : ℕ) → differs g 2 (vertexCount g) (priorityAt g v) x ≡ unequal (gameOf g) v x
+unfolding differs unequal equalPriority gameOf
+unequal-row g v x = ap (λ b. ltb x (vertexCount g) & not b) (eqb-flip (priorityAt g x) (priorityAt g v))
+
+pub started-none : (G : Game) (related next losing : List ℕ) → ((x : ℕ) → x < rowBits → cell losing 0 x ≡ false) → Started G 0 related next losing
+started-none G related next losing z = record {
+  all = λ u x h. absurd (omega arith);
+  rows = λ u x h. absurd (omega arith);
+  some = λ u h. z u h ∙ sym (and-first _ (le-ltb u 0 (omega arith)));
+}
+
+pub started-next : (G : Game) (v : ℕ) (related next losing full out related′ next′ losing′ : List ℕ) (b : Bool) → Started G v related next losing
+    → ((x : ℕ) → x < rowBits → So (has full x)) → RowIs out (unequal G v) → Put related related′ v full → Put next next′ v out
+    → b ≡ anyBelow rowBits (has out) → Added losing losing′ 0 v b → Started G (v + 1) related′ next′ losing′
+started-next G v related next losing full out related′ next′ losing′ b s f e ph pn k add = record {
+  all = λ u x h m. by-row (λ u. So (cell related′ u x)) u (sym (ph .here x m) ∙ f x m) (λ d. ph .other u x d m ∙ s .all u x (omega arith) m);
+  rows = λ u x h m. by-row (λ u. cell next′ u x ≡ unequal G u x) u (sym (pn .here x m) ∙ e x m) (λ d. pn .other u x d m ∙ s .rows u x (omega arith) m);
+  some = λ u h.
+      add 0 u h
+      ∙ ap₂ _or_ (and-one _ (eq-eqb 0 0 refl) ∙ ap (λ c. eqb u v & c) (k ∙ any-ext rowBits (has out) (unequal G v) e)) (s .some u h)
+      ∙ below-next (λ w. anyBelow rowBits (unequal G w)) v u;
+}
+  where
+    by-row : (P : ℕ → Type 0) (u : ℕ) → P v → ((u ≡ v → ⊥) → P u) → P u
+    by-row P u p q = elim (ℕ-discrete u v) [ yes e ↦ subst P (sym e) p | no n ↦ q n ]
+
+and-some : (n : ℕ) (p : ℕ → Bool) (x : ℕ) → x < n → anyBelow n p & p x ≡ p x
+and-some n p x h = So-ext (λ t. and-out t .1) (λ t. and-in (any-in n p x h t) t)
+
+pub begun : (G : Game) (edges old next losing : List ℕ) (c : ℕ) (related lost falls : List ℕ) → EdgeRows G edges → Total G → Started G (G .n) old next losing
+    → TakenTo edges next losing rowBits old c related lost falls → Begun G related lost falls losing
+unfolding unequal
+begun G edges old next losing c related lost falls s total st t = record {
+  fell = taken-fell G edges next losing old c related lost falls s t;
+  after = round-start G total (cell related) (struck losing lost) equal
+      (λ v w hv hw.
+      struck-is G edges next losing old c related lost falls s t v w (omega (arith, hv, s .small)) (omega (arith, hw, s .small))
+      ∙ lose v w hv hw ∙ ap not (sym (equal v w hv hw)));
+}
+  where
+    lose : (v w : ℕ) → v < G .n → w < G .n → struck losing next v w ≡ not (equalPriority G G v w)
+    lose v w hv hw =
+        let kv : v < rowBits = omega (arith, hv, s .small) in
+        let kw : w < rowBits = omega (arith, hw, s .small) in
+        ap₂ _&_ (sym (cell-row losing v) ∙ st .some v kv ∙ and-one _ (lt-ltb v (G .n) hv)) (st .rows v w hv kw)
+        ∙ and-some rowBits (unequal G v) w kw ∙ and-one _ (lt-ltb w (G .n) hw)
+
+    equal : (v w : ℕ) → v < G .n → w < G .n → cell related v w ≡ equalPriority G G v w
+    equal v w hv hw =
+        let kv : v < rowBits = omega (arith, hv, s .small) in
+        let kw : w < rowBits = omega (arith, hw, s .small) in
+        taken-left G edges next losing old c related lost falls s t v w kv kw
+        ∙ and-one _ (st .all v w hv kw) ∙ ap not (lose v w hv hw) ∙ Bool·not-not (equalPriority G G v w)
+
+-- ---- a later round
+
+module _ (G : Game) (edges related lost falls changed before near next losing : List ℕ) (s : EdgeRows G edges) (f : Fell G related lost falls changed)
+    (same : RowIs before (has changed)) (e : RowIs near (unitedRows edges rowBits before))
+    (l : LossesTo edges related lost falls before near rowBits next losing) where
+  near-any : (v : ℕ) → v < rowBits → has near v ≡ anyNext G v (has before)
+  near-any v h = e v h ∙ near-is G edges s before v h
+
+  near-vertex : (u : ℕ) → u < rowBits → So (has near u) → u < G .n
+  near-vertex u h t = next-vertex G edges s (has before) u (sym (near-any u h) ∙ t)
+
+  abbrev lose : Rel
+  lose = loses G (cell related) (struck before lost)
+
+  fell : Fell G related lost falls before
+  fell a w ha hw o = f a w ha hw (sym (same a (omega (arith, ha, s .small))) ∙ o)
+
+  found : Losses lose near rowBits next losing
+  found = l G s fell near-vertex
+
+  -- only a vertex near one that changed loses something
+  far : (v w : ℕ) → v < rowBits → has near v ≡ false → lose v w ≡ false
+  far v w hv n =
+      loses-none G (cell related) (struck before lost) v
+      (λ a x t h. So-not (λ c. clash (near-any v hv ∙ anyNext-in G v (has before) a t (and-out c .0)) n)) w
+
+  losses : (v w : ℕ) → v < rowBits → w < rowBits → struck losing next v w ≡ lose v w
+  losses v w hv hw =
+      ap (λ b. b & cell next v w) (sym (cell-row losing v) ∙ found .some v hv ∙ kept-end (has near) rowBits (λ u. anyBelow rowBits (lose u)) rowBits (omega arith) v hv)
+      ∙ elim (decide (has near v)) [
+        | inl t ↦ ap₂ _&_ (and-one _ t) (found .rows v hv t w hw) ∙ and-some rowBits (lose v) w hw
+        | inr n ↦ and-first _ (and-first _ n) ∙ sym (far v w hv n)
+      ]
+
+  changed-lose : (v w : ℕ) → lose v w ≡ loses G (cell related) (struck changed lost) v w
+  changed-lose = loses-same G (cell related) _ _ (λ a x ha hx. ap (λ b. b & cell lost a x) (same a (omega (arith, ha, s .small))))
+
+  pub round-of : (c : ℕ) (related′ lost′ falls′ : List ℕ) → TakenTo edges next losing rowBits related c related′ lost′ falls′
+      → RoundOf G related lost changed c related′ lost′ falls′ losing
+  round-of c related′ lost′ falls′ t = record {
+    fell = taken-fell G edges next losing related c related′ lost′ falls′ s t;
+    round = record {
+      out = λ v w hv hw.
+          let kv : v < rowBits = omega (arith, hv, s .small) in
+          let kw : w < rowBits = omega (arith, hw, s .small) in
+          struck-is G edges next losing related c related′ lost′ falls′ s t v w kv kw ∙ losses v w kv kw ∙ changed-lose v w;
+      left = λ v w hv hw.
+          let kv : v < rowBits = omega (arith, hv, s .small) in
+          let kw : w < rowBits = omega (arith, hw, s .small) in
+          taken-left G edges next losing related c related′ lost′ falls′ s t v w kv kw
+          ∙ ap (λ b. cell related v w & not b) (sym (struck-is G edges next losing related c related′ lost′ falls′ s t v w kv kw));
+    };
+    count = t .size ∙ out-count (G .n) (cell related) (cell related′) (struck losing next) (s .small)
+        (λ v w hv hw. taken-left G edges next losing related c related′ lost′ falls′ s t v w (omega (arith, hv, s .small)) (omega (arith, hw, s .small)))
+        (λ v w hv hw o. loses-in G _ _ v w (sym (losses v w (omega (arith, hv, s .small)) (omega (arith, hw, s .small))) ∙ o))
+        (λ v w hv hw o. let p = sym (losses v w hv hw) ∙ o in (vertex v w hv p, loses-vertex G edges s _ _ v w p));
+  }
+    where
+      vertex : (v w : ℕ) → v < rowBits → So (lose v w) → v < G .n
+      vertex v w hv p = elim (decide (has near v)) [ inl t ↦ near-vertex v hv t | inr n ↦ clash p (far v w hv n) ]
+
+-- ---- rounds are passes
+
+module _ (G : Game) (k c : ℕ) (related lost changed related′ lost′ falls′ changed′ : List ℕ) (a : AfterRound G k (cell related) (struck changed lost))
+    (r : RoundOf G related lost changed c related′ lost′ falls′ changed′) where
+  -- a pair that was counted is lost
+  counted : (v w : ℕ) → v < G .n → w < G .n → So (cell related v w & not (cell related′ v w)) → So (struck changed′ lost′ v w)
+  counted v w hv hw t = elim (decide (struck changed′ lost′ v w)) [
+    | inl o ↦ o
+    | inr n ↦ clash (r .round .left v w hv hw ∙ and-in (and-out t .0) (not-in n)) (not-out (and-out t .1))
+  ]
+
+  pub after-more : (c ≡ 0 → ⊥) → AfterRound G (k + 1) (cell related′) (struck changed′ lost′)
+  after-more d =
+      let p = cleared-some (G .n) (cell related) (cell related′) (λ e. d (r .count ∙ e)) in
+      round-next G k (cell related) (struck changed lost) a (cell related′) (struck changed′ lost′) (r .round) (p .0) (p .1) (p .2) (p .3)
+      (counted (p .0) (p .1) (p .2) (p .3) (p .4))
+
+  pub after-last : c ≡ 0 → Settled G (k + 1) related′
+  after-last e = record {
+    count = last-count G k (cell related) (struck changed lost) a none;
+    marks = λ v w hv hw.
+        r .round .left v w hv hw ∙ rw (r .round .out v w hv hw ∙ none v w hv hw) (and-true (cell related v w))
+        ∙ last-order G k (cell related) (struck changed lost) a none v w hv hw;
+  }
+    where
+      none : (v w : ℕ) → v < G .n → w < G .n → loses G (cell related) (struck changed lost) v w ≡ false
+      none v w hv hw = So-not (λ t.
+          let gone : cell related′ v w ≡ false = r .round .left v w hv hw ∙ and-fails _ _ (ap not (r .round .out v w hv hw ∙ t)) in
+          clash (and-in (loses-in G _ _ v w t) (not-in gone)) (cleared-none (G .n) (cell related) (cell related′) (sym (r .count) ∙ e) v w hv hw))

@@ -1,0 +1,56 @@
+// Losses are taken out of a relation, and counted.
+use bits::matrix::put;
+use bits::matrix::row;
+use bits::row::first_from;
+use bits::row::size;
+use bits::row::without;
+use board::edges::fall_of;
+use table::limits::VERTICES;
+ghost use Prim.Native.Nat.{_<_, _≤_};
+ghost use lib.ListN.{length};
+ghost use Rattle.bits.specs.Bits.{rowBits, rowWords, cell};
+ghost use Rattle.board.specs.Board.{edgeWords, relationWords};
+ghost use Rattle.rounds.specs.Taking.{RowTaken, TakenTo};
+
+// Takes row a of `next` out of `related`, and works out its fall; how many pairs it holds.
+fn take_row(
+    edges: &[u64],
+    next: &[u64],
+    related: &mut [u64],
+    lost: &mut [u64],
+    falls: &mut [u64],
+    a: usize,
+) -> u32
+    requires { ⌜ (edgeWords ≤ length (now edges)) × (relationWords ≤ length (now next)) × (a < rowBits) ⌝ }
+    requires { ⌜ (relationWords ≤ length (now related)) × (relationWords ≤ length (now lost)) × (relationWords ≤ length (now falls)) ⌝ }
+    ensures { λ r. ⌜ RowTaken (now (edges .entry)) (cell (now (next .entry)) a) a (now (related .entry)) (now (lost .entry)) (now (falls .entry)) r (now (related .exit)) (now (lost .exit)) (now (falls .exit)) ⌝ }
+{
+    let out = row(next, a);
+    let left = without(row(related, a), out);
+    put(related, a, left);
+    put(lost, a, out);
+    put(falls, a, fall_of(edges, out, left));
+    size(out)
+}
+
+// Takes the rows of `losing` in `next` out of `related`; how many pairs they hold.
+pub fn take_all(
+    edges: &[u64],
+    next: &[u64],
+    losing: &[u64],
+    related: &mut [u64],
+    lost: &mut [u64],
+    falls: &mut [u64],
+) -> u32
+    requires { ⌜ (edgeWords ≤ length (now edges)) × (relationWords ≤ length (now next)) × (rowWords ≤ length (now losing)) ⌝ }
+    requires { ⌜ (relationWords ≤ length (now related)) × (relationWords ≤ length (now lost)) × (relationWords ≤ length (now falls)) ⌝ }
+    ensures { λ r. ⌜ TakenTo (now (edges .entry)) (now (next .entry)) (now (losing .entry)) rowBits (now (related .entry)) r (now (related .exit)) (now (lost .exit)) (now (falls .exit)) ⌝ }
+{
+    let mut cleared: u32 = 0;
+    let mut a = first_from(losing, 0);
+    while a < VERTICES {
+        cleared += take_row(edges, next, related, lost, falls, a);
+        a = first_from(losing, a + 1);
+    }
+    cleared
+}
