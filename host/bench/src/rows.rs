@@ -1,6 +1,6 @@
 //! The benchmark's games.
 
-use generator::{chain, largest_plan, random, round_complete, round_of_loops, two_rings, Lcg};
+use generator::{chain, largest_plan, random, rings, round_complete, round_of_loops, Lcg};
 
 /// What a row calls.
 pub enum Work {
@@ -66,6 +66,6 @@ pub fn rows() -> Vec<Row> {
     rows.push(Row { name: "largest plan".into(), game: game.words(), work });
     rows.extend([carried(4, 1024), carried(64, 4)].into_iter().flatten());
     rows.push(Row::seed([1, 256, 16, 8]));
-    rows.push(Row::reduce("rings 127 and 128", two_rings(127, 128)));
+    rows.push(Row::reduce("rings 127 and 128", rings(&[127, 128])));
     rows
 }

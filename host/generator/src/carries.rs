@@ -24,9 +24,8 @@ pub fn branching(lcg: &mut Lcg, plan: &Plan, count: usize) -> Plan {
 /// The game with all vertices the opponent's and of one priority, of the player's parity. There each
 /// vertex is below each, and every plan that answers all moves wins.
 pub fn opponents(mut game: Table, player: u16) -> Table {
-    game.owners.fill(1 - player);
     game.priorities.fill(player);
-    game
+    game.owned_by(1 - player)
 }
 
 /// A plan of the opponent's game with these vertices. The first links lead from each position to the next

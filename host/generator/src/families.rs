@@ -5,8 +5,20 @@ use std::collections::HashSet;
 
 /// Even's game of priority 0 with the given edges.
 fn plain(n: usize, edges: impl IntoIterator<Item = (usize, usize)>) -> Table {
-    let edges = edges.into_iter().map(|(source, target)| (source as u16, target as u16));
-    Table { priorities: vec![0; n], owners: vec![0; n], edges: edges.collect() }
+    let mut game = Table { priorities: vec![0; n], owners: vec![0; n], edges: vec![] };
+    add_edges(&mut game, edges);
+    game
+}
+
+/// Adds a vertex of Even's; its number.
+fn add_vertex(game: &mut Table, priority: u16) -> usize {
+    game.priorities.push(priority);
+    game.owners.push(0);
+    game.n() - 1
+}
+
+fn add_edges(game: &mut Table, edges: impl IntoIterator<Item = (usize, usize)>) {
+    game.edges.extend(edges.into_iter().map(|(source, target)| (source as u16, target as u16)));
 }
 
 /// A random game of n vertices and m edges, m from n to n × n, with priorities below `priorities`
@@ -47,16 +59,48 @@ pub fn forced_ring(n: usize, degree: usize) -> Table {
     plain(n, (0..n * degree).map(|i| (i / degree, (i / degree + 1 + i % degree) % n)))
 }
 
-/// Rings a of p and b of q vertices and a vertex t of priority 1 with a loop; a₀ has an edge to t,
-/// and each vertex of b but b₀ has one. For coprime p and q the order takes p × q + 1 passes.
-pub fn two_rings(p: usize, q: usize) -> Table {
-    let t = p + q;
-    let a = (0..p).map(|i| (i, (i + 1) % p));
-    let b = (0..q).map(|j| (p + j, p + (j + 1) % q));
-    let exits = (1..q).map(|j| (p + j, t));
-    let mut rings = plain(t + 1, a.chain(b).chain([(0, t), (t, t)]).chain(exits));
-    rings.priorities[t] = 1;
-    rings
+/// Rings that the order compares two by two: a and b, a before b, one pair after the other, by b and then
+/// by a. Each pair has an exit s of a priority of its own: a₀ has an edge to s, each vertex of b but b₀ has
+/// one, and each vertex of the rings after b. The first pair's exit has a loop. Each later pair has a second
+/// exit r of the same priority, to which all rings' vertices have edges; s leads to vertex 1 of the ring a
+/// of the pair before, r to vertex 1 of its b. So (s, r), and then (a₀, b₀), is unmarked right after the
+/// last marks of the pair before. A pair of coprime lengths p and q takes p × q + 1 passes.
+pub fn rings(lengths: &[usize]) -> Table {
+    let first = |ring: usize| lengths[..ring].iter().sum::<usize>();
+    let vertex = |ring: usize, i: usize| first(ring) + i % lengths[ring];
+    let around = |ring| (0..lengths[ring]).map(move |i| (vertex(ring, i), vertex(ring, i + 1)));
+    let all = first(lengths.len());
+    let mut game = plain(all, (0..lengths.len()).flat_map(around));
+    let pairs = (0..lengths.len()).flat_map(|b| (0..b).map(move |a| (a, b)));
+    let mut before = None;
+    for (priority, (a, b)) in (1..).zip(pairs) {
+        let s = add_vertex(&mut game, priority);
+        add_edges(&mut game, [vertex(a, 0)].into_iter().chain(first(b) + 1..all).map(|v| (v, s)));
+        match before.replace((a, b)) {
+            None => add_edges(&mut game, [(s, s)]),
+            Some((a, b)) => {
+                let r = add_vertex(&mut game, priority);
+                add_edges(&mut game, (0..all).map(|v| (v, r)));
+                add_edges(&mut game, [(s, vertex(a, 1)), (r, vertex(b, 1))]);
+            }
+        }
+    }
+    game
+}
+
+/// Two rings a and b with their exit t, a vertex u of priority 0 with a loop and an edge to t, and watchers
+/// of priority 2: so many with an edge to each vertex of a, and as many with one to each of b and to u. The
+/// passes are those of the rings.
+pub fn watched_rings(p: usize, q: usize, watchers: usize) -> Table {
+    let mut game = rings(&[p, q]);
+    let (t, u) = (p + q, add_vertex(&mut game, 0));
+    add_edges(&mut game, [(u, u), (u, t)]);
+    for _ in 0..watchers {
+        let [x, y] = [(); 2].map(|()| add_vertex(&mut game, 2));
+        add_edges(&mut game, (0..p).map(|v| (x, v)));
+        add_edges(&mut game, (p..t).chain([u]).map(|v| (y, v)));
+    }
+    game
 }
 
 /// Copies of a game side by side; where `mixed`, vertices with a single successor get an owner

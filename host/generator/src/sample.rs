@@ -1,12 +1,14 @@
 //! Samples over all families: what a differential test draws from.
 
-use crate::families::{chain, complete, copies, forced_ring, random, ring, two_rings};
+use crate::families::{chain, complete, copies, forced_ring, random, ring, rings, watched_rings};
 use crate::repeats::repeated;
 use crate::{Lcg, Plan, Table};
 
 pub(crate) const MOST_EDGES: usize = 4096;
-/// The passes of two rings grow with the square of their vertices.
+/// The passes of rings grow with the square of their vertices.
 const MOST_IN_RINGS: usize = 32;
+/// Pairwise coprime lengths of several rings.
+const COPRIME: [&[usize]; 5] = [&[2, 3, 5], &[3, 4, 5], &[5, 6, 7], &[1, 2, 3, 5], &[2, 3, 5, 7]];
 
 /// A game of at most `most` vertices from any family, shuffled; some have an edge several times.
 pub fn any_game(lcg: &mut Lcg, most: usize) -> Table {
@@ -31,10 +33,7 @@ fn of_some_family(lcg: &mut Lcg, n: usize) -> Table {
         4 => recoloured(lcg, ring(n)),
         5 => some_copies(lcg, n, false),
         6 => some_copies(lcg, n, true),
-        7 if n >= 4 => {
-            let half = n.min(MOST_IN_RINGS) / 2;
-            two_rings(half, half - 1)
-        }
+        7 if n >= 4 => some_rings(lcg, n.min(MOST_IN_RINGS)),
         8 => recoloured(lcg, complete(n.min(64))),
         _ => {
             let degree = n.min(lcg.between(1, 4));
@@ -64,6 +63,19 @@ fn dense(lcg: &mut Lcg, n: usize) -> Table {
 fn recoloured(lcg: &mut Lcg, game: Table) -> Table {
     let few = lcg.pick(&[1, 2, 3]);
     game.with_owners(lcg).with_priorities(lcg, few)
+}
+
+/// One player's rings of coprime lengths, with at most n vertices, of which there are four or more: two,
+/// two that are watched, or several.
+fn some_rings(lcg: &mut Lcg, n: usize) -> Table {
+    let (several, watchers) = (rings(lcg.pick(&COPRIME)), lcg.between(1, 4));
+    let length = ((n - 1) / 2).saturating_sub(watchers);
+    let game = match lcg.below(3) {
+        0 if several.n() <= n => several,
+        1 if length >= 2 => watched_rings(length, length - 1, watchers),
+        _ => rings(&[n / 2, n / 2 - 1]),
+    };
+    game.owned_by(lcg.below(2) as u16)
 }
 
 /// Copies of a small random game, so that classes have several members.

@@ -87,6 +87,12 @@ impl Table {
         self
     }
 
+    /// The game with all vertices one player's.
+    pub fn owned_by(mut self, player: u16) -> Table {
+        self.owners.fill(player);
+        self
+    }
+
     /// The game with each owner drawn anew.
     pub fn with_owners(mut self, lcg: &mut Lcg) -> Table {
         for owner in &mut self.owners {

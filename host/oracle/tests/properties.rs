@@ -47,7 +47,7 @@ fn passes_are_at_most_their_bound() {
         assert!(exact().order_of(&game).1 as usize <= n * n - n + 1);
     }
     for (p, q) in [(2, 3), (3, 4), (7, 8)] {
-        let game = game(&generator::two_rings(p, q));
+        let game = game(&generator::rings(&[p, q]));
         assert_eq!(exact().order_of(&game).1 as usize, p * q + 1);
     }
 }

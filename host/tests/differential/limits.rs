@@ -2,7 +2,7 @@
 
 use crate::calls::{Call, Case};
 use crate::carries::{room, round};
-use generator::{chain, complete, largest_plan, opponents, random, two_rings, Lcg, Table};
+use generator::{chain, complete, largest_plan, opponents, random, Lcg, Table};
 use oracle::{Memory, Oracle};
 
 /// Memory of the exact lengths.
@@ -98,15 +98,6 @@ fn one_byte_or_word_short_is_refused() {
         let case = Case::on_memory(Call::Reduce, &table.words(), memory);
         assert_eq!(agree(&case), number);
     }
-}
-
-/// Coprime rings take the product of their lengths in passes.
-#[test]
-fn two_rings_agree() {
-    let table = two_rings(40, 41);
-    let case = Case::on_memory(Call::Order, &table.words(), exact_memory(&table));
-    assert_eq!(agree(&case), 0);
-    assert_eq!(case.actual().answer.passes, 40 * 41 + 1);
 }
 
 /// A place is a length, and may need more than 32 bits.

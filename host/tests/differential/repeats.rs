@@ -31,7 +31,7 @@ fn same_writing(one: &Table, other: &Table) {
 }
 
 /// Every call agrees with the oracle; the relation judged is the order, the plans are the winners'.
-fn all_calls_agree(table: &Table) {
+pub fn all_calls_agree(table: &Table) {
     let words = table.words();
     let mut with_order = exact_memory(table);
     Oracle::exact().order(&words, &mut with_order);
