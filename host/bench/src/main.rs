@@ -1,16 +1,18 @@
-//! The library beside a baseline: safe Rust of the same algorithm, in one run, on the same buffers,
-//! which neither clears first.
+//! The library beside a baseline: safe Rust of the same algorithms, in one run, on buffers of the same
+//! lengths, which neither clears first. The order stands beside plain passes, too.
 #![forbid(unsafe_code)]
 
 mod baseline;
 mod measure;
 mod rows;
 
+use measure::First;
 use raskjomi::exports::{self, RaskjomiAnswer};
-use rows::{Row, Work};
+use rows::{Row, Work, WATCHED};
+use std::array::from_fn;
 use std::time::Duration;
 
-/// The memory that both sides work in.
+/// The memory that a side works in.
 #[derive(Clone, PartialEq, Eq)]
 struct Memory {
     marks: Vec<u8>,
@@ -44,8 +46,8 @@ type CarryClass = fn(
 impl Memory {
     fn for_game(game: &[u16]) -> Memory {
         let n = game[0] as usize;
-        let (marks, classes) = (vec![0; n * n], vec![0; n]);
-        let (output, plan) = (vec![0; game.len()], vec![0; raskjomi::MOST_PLAN_WORDS]);
+        let (marks, classes) = (vec![7; n * n], vec![7; n]);
+        let (output, plan) = (vec![7; game.len()], vec![7; raskjomi::MOST_PLAN_WORDS]);
         Memory { spare: marks.clone(), marks, classes, output, plan }
     }
 
@@ -67,117 +69,150 @@ impl Memory {
 /// A call that draws a game.
 type Seed = fn(u32, u32, u32, u32, &mut [u16]) -> RaskjomiAnswer;
 
-/// The two sides of the comparison, and their calls.
+/// The first side of a comparison. The second is the baseline, and the reduction has a third, whose order
+/// goes by plain passes.
 const LIBRARY: usize = 0;
-const BASELINE: usize = 1;
-const REDUCE: [Reduce; 2] = [exports::reduce, baseline::reduce];
+const REDUCE: [Reduce; 3] = [
+    exports::reduce,
+    |game, marks, spare, classes, output| {
+        baseline::reduce(baseline::by_rows, game, marks, spare, classes, output)
+    },
+    |game, marks, spare, classes, output| {
+        baseline::reduce(baseline::by_passes, game, marks, spare, classes, output)
+    },
+];
 const ACCEPT_PLAN: [AcceptPlan; 2] = [exports::accept_plan, baseline::accept_plan];
 const CARRY: [Carry; 2] = [exports::carry, baseline::carry];
 const CARRY_CLASS: [CarryClass; 2] = [exports::carry_class, baseline::carry_class];
 const SEED: [Seed; 2] = [exports::seed, baseline::seed];
 
-/// What a row shows.
-struct Figures {
-    passes: Option<u32>,
-    times: (Duration, Duration),
+/// What all sides answer, their best times, and the library's stack.
+struct Sides<const N: usize> {
+    answer: RaskjomiAnswer,
+    times: [Duration; N],
     stack: Option<usize>,
 }
 
-fn reduce_figures(game: Vec<u16>) -> Figures {
-    let mut memory = Memory::for_game(&game);
-    let [library, baseline] = [LIBRARY, BASELINE].map(|side| {
-        let answer = memory.reduce(side, &game);
-        (answer, memory.clone())
-    });
-    assert!(library == baseline, "library and baseline differ");
-    let passes = exports::order(&game, &mut memory.marks, &mut memory.spare).passes;
-    let mut other = memory.clone();
-    let times = measure::best_times(
-        || memory.reduce(LIBRARY, &game).number,
-        || other.reduce(BASELINE, &game).number,
-    );
-    let stack = measure::stack(move || memory.reduce(LIBRARY, &game).number);
-    Figures { passes: Some(passes), times, stack }
+impl<const N: usize> Sides<N> {
+    /// Measures a call, for which each side has a copy of the memory. All answer and leave the same.
+    fn of<M: Clone + PartialEq + Send>(
+        memory: M,
+        call: impl Fn(usize, &mut M) -> RaskjomiAnswer + Sync,
+    ) -> Sides<N> {
+        let mut memory: [M; N] = from_fn(|_| memory.clone());
+        let first: [First; N] = from_fn(|side| measure::first(|| call(side, &mut memory[side])));
+        for side in 1..N {
+            assert_eq!(first[side].answer, first[LIBRARY].answer, "answers differ");
+            assert!(memory[side] == memory[LIBRARY], "buffers differ");
+        }
+        let times = first.each_ref().map(|first| first.time);
+        let times = measure::best_times(times, |side| call(side, &mut memory[side]));
+        Sides { answer: first[LIBRARY].answer, times, stack: first[LIBRARY].stack }
+    }
 }
 
-fn plan_figures(game: Vec<u16>, plan: Vec<u16>) -> Figures {
-    let [library, baseline] = ACCEPT_PLAN.map(|call| call(&game, raskjomi::EVEN, &plan));
-    assert!(library == baseline, "library and baseline differ");
-    let call = move |side: usize| ACCEPT_PLAN[side](&game, raskjomi::EVEN, &plan).number;
-    let times = measure::best_times(|| call(LIBRARY), || call(BASELINE));
-    let stack = measure::stack(move || call(LIBRARY));
-    Figures { passes: None, times, stack }
+/// What a row shows.
+struct Figures {
+    passes: Option<u32>,
+    library: Duration,
+    /// By plain passes.
+    plain: Option<Duration>,
+    baseline: Duration,
+    stack: Option<usize>,
 }
 
-fn carry_figures(game: Vec<u16>, plan: Vec<u16>, class: bool) -> Figures {
-    let mut memory = Memory::for_game(&game);
-    let [library, baseline] = [LIBRARY, BASELINE].map(|side| {
-        let answer = memory.carry(side, &game, &plan, class);
-        (answer, memory.clone())
-    });
-    assert!(library == baseline, "library and baseline differ");
-    assert_eq!((library.0.number, library.0.links), (0, 16_384), "as many links as there may be");
-    let mut other = memory.clone();
-    let times = measure::best_times(
-        || memory.carry(LIBRARY, &game, &plan, class).number,
-        || other.carry(BASELINE, &game, &plan, class).number,
-    );
-    let stack = measure::stack(move || memory.carry(LIBRARY, &game, &plan, class).number);
-    Figures { passes: None, times, stack }
+fn reduce_figures(game: &[u16]) -> Figures {
+    let mut memory = Memory::for_game(game);
+    let passes = exports::order(game, &mut memory.marks, &mut memory.spare).passes;
+    // The library's reduction doesn't tell the passes.
+    let call = |side: usize, memory: &mut Memory| match side {
+        LIBRARY => RaskjomiAnswer { passes, ..memory.reduce(side, game) },
+        _ => memory.reduce(side, game),
+    };
+    let Sides { times: [library, baseline, plain], stack, .. } =
+        Sides::of(Memory::for_game(game), call);
+    Figures { passes: Some(passes), library, plain: Some(plain), baseline, stack }
 }
 
-fn seed_figures(numbers: [u32; 4], words: usize) -> Figures {
-    let [seed, n, degree, priorities] = numbers;
-    let call =
-        move |side: usize, output: &mut [u16]| SEED[side](seed, n, degree, priorities, output);
-    let [mut one, mut other] = [(); 2].map(|()| vec![0; words]);
-    let answers = (call(LIBRARY, &mut one), call(BASELINE, &mut other));
-    assert!(answers.0 == answers.1 && one == other, "library and baseline differ");
-    let times = measure::best_times(
-        || call(LIBRARY, &mut one).number,
-        || call(BASELINE, &mut other).number,
-    );
-    let stack = measure::stack(move || call(LIBRARY, &mut one).number);
-    Figures { passes: None, times, stack }
+/// The figures of a call that has one baseline, and its answer.
+fn figures<M: Clone + PartialEq + Send>(
+    memory: M,
+    call: impl Fn(usize, &mut M) -> RaskjomiAnswer + Sync,
+) -> (Figures, RaskjomiAnswer) {
+    let Sides { answer, times: [library, baseline], stack } = Sides::of(memory, call);
+    (Figures { passes: None, library, plain: None, baseline, stack }, answer)
+}
+
+fn plan_figures(game: &[u16], plan: &[u16]) -> Figures {
+    figures((), |side, _| ACCEPT_PLAN[side](game, raskjomi::EVEN, plan)).0
+}
+
+fn carry_figures(game: &[u16], plan: &[u16], class: bool) -> Figures {
+    let call = |side: usize, memory: &mut Memory| memory.carry(side, game, plan, class);
+    let (figures, answer) = figures(Memory::for_game(game), call);
+    assert_eq!((answer.number, answer.links), (0, 16_384), "as many links as there may be");
+    figures
+}
+
+fn seed_figures([seed, n, degree, priorities]: [u32; 4], words: usize) -> Figures {
+    figures(vec![7; words], |side, output| SEED[side](seed, n, degree, priorities, output)).0
 }
 
 /// A line of the table.
-fn line(cells: [&str; 8]) -> String {
-    let [name, n, m, passes, library, baseline, ratio, stack] = cells;
+fn line(cells: [&str; 10]) -> String {
+    let [name, n, m, passes, library, plain, to_plain, baseline, ratio, stack] = cells;
     format!(
-        "{name:22} {n:>4} {m:>5} {passes:>6} {library:>11} {baseline:>11} {ratio:>6} {stack:>6}"
+        "{name:23} {n:>4} {m:>5} {passes:>6} {library:>11} {plain:>11} {to_plain:>6} \
+         {baseline:>11} {ratio:>6} {stack:>6}"
     )
 }
 
-/// Measures a row and prints its line; the ratio.
-fn show(Row { name, game, work }: Row) -> f64 {
-    let (n, m) = (game[0].to_string(), game[1].to_string());
-    let Figures { passes, times, stack } = match work {
+/// Measures a row and prints its line; the ratios to the baseline and to plain passes.
+fn show(Row { name, game, work }: &Row) -> (f64, Option<f64>) {
+    let Figures { passes, library, plain, baseline, stack } = match work {
         Work::Reduce => reduce_figures(game),
         Work::AcceptPlan(plan) => plan_figures(game, plan),
         Work::Carry(plan) => carry_figures(game, plan, false),
         Work::CarryClass(plan) => carry_figures(game, plan, true),
-        Work::Seed(numbers) => seed_figures(numbers, game.len()),
+        Work::Seed(numbers) => seed_figures(*numbers, game.len()),
     };
-    let [library, baseline] = [times.0, times.1].map(|time| time.as_secs_f64() * 1e6);
-    let ratio = library / baseline;
-    let passes = passes.map_or("-".into(), |passes| passes.to_string());
-    let stack = stack.map_or("-".into(), |size| size.to_string());
-    let [a, b, c] = [format!("{library:.1}"), format!("{baseline:.1}"), format!("{ratio:.2}")];
-    println!("{}", line([&name, &n, &m, &passes, &a, &b, &c, &stack]));
-    ratio
+    let micros = |time: Duration| format!("{:.1}", time.as_secs_f64() * 1e6);
+    let ratio_to = |time: Duration| library.as_secs_f64() / time.as_secs_f64();
+    let (ratio, to_plain) = (ratio_to(baseline), plain.map(ratio_to));
+    let shown = |cell: Option<String>| cell.unwrap_or("-".into());
+    let cells = [
+        name.clone(),
+        game[0].to_string(),
+        game[1].to_string(),
+        shown(passes.map(|passes| passes.to_string())),
+        micros(library),
+        shown(plain.map(micros)),
+        shown(to_plain.map(|ratio| format!("{ratio:.4}"))),
+        micros(baseline),
+        format!("{ratio:.2}"),
+        shown(stack.map(|size| size.to_string())),
+    ];
+    println!("{}", line(cells.each_ref().map(|cell| cell.as_str())));
+    (ratio, to_plain)
 }
 
 fn main() {
-    let heads = ["game", "n", "m", "passes", "library µs", "baseline µs", "ratio", "KiB"];
+    let [library, plain, baseline] = ["library µs", "plain µs", "bit rows µs"];
+    let heads = ["game", "n", "m", "passes", library, plain, "ratio", baseline, "ratio", "KiB"];
     println!("{}", line(heads));
-    let mut largest = 0f64;
+    let (mut largest, mut largest_to_plain, mut watched) = (0f64, 0f64, 0f64);
     for row in rows::rows() {
-        let counts = row.game[0] == 256;
-        let ratio = show(row);
-        if counts {
+        let (ratio, to_plain) = show(&row);
+        if row.game[0] == 256 {
             largest = largest.max(ratio);
         }
+        let to_plain = to_plain.unwrap_or(0.0);
+        largest_to_plain = largest_to_plain.max(to_plain);
+        if row.name.starts_with(WATCHED) {
+            watched = watched.max(to_plain);
+        }
     }
-    println!("largest ratio at n 256: {largest:.2}");
+    println!("largest ratio to the bit rows at n 256: {largest:.2}");
+    println!("largest ratio to plain passes: {largest_to_plain:.2}");
+    println!("{WATCHED}: at least {:.1} times as fast as plain passes", 1.0 / watched);
 }

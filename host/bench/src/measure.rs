@@ -1,43 +1,55 @@
 //! Times and stack.
 
+use raskjomi::exports::RaskjomiAnswer;
 use std::fs;
 use std::hint::black_box;
 use std::thread;
 use std::time::{Duration, Instant};
 
-/// How long and how often a row is measured, at the least.
-const A_ROW: Duration = Duration::from_secs(1);
-const TIMES: u32 = 3;
+/// How long the calls of a side take in all, at the least. A side that takes longer is called once.
+const A_SIDE: Duration = Duration::from_millis(500);
 
-/// The best times of two pieces of work that are run in turn, so that both meet the same load.
-pub fn best_times(
-    mut first: impl FnMut() -> u32,
-    mut second: impl FnMut() -> u32,
-) -> (Duration, Duration) {
-    let mut best = (Duration::MAX, Duration::MAX);
-    let (start, mut times) = (Instant::now(), 0);
-    while times < TIMES || start.elapsed() < A_ROW {
-        times += 1;
-        best.0 = best.0.min(time(&mut first));
-        best.1 = best.1.min(time(&mut second));
+/// A side's first call.
+pub struct First {
+    pub answer: RaskjomiAnswer,
+    pub time: Duration,
+    /// The stack that the call's thread has in memory afterwards, in KiB: no less than the call needs.
+    /// `None` where the system doesn't tell.
+    pub stack: Option<usize>,
+}
+
+/// Makes a side's first call, on a thread of its own.
+pub fn first(call: impl FnOnce() -> RaskjomiAnswer + Send) -> First {
+    let busy = || {
+        let (answer, time) = timed(call);
+        First { answer, time, stack: resident_stack() }
+    };
+    thread::scope(|scope| scope.spawn(busy).join().expect("the call returns"))
+}
+
+/// The best time of each side. After their first calls the sides are called in turn, so that all meet the
+/// same load.
+pub fn best_times<const N: usize>(
+    first: [Duration; N],
+    mut call: impl FnMut(usize) -> RaskjomiAnswer,
+) -> [Duration; N] {
+    let (mut best, mut spent) = (first, first);
+    while spent.iter().any(|&spent| spent < A_SIDE) {
+        for side in 0..N {
+            if spent[side] < A_SIDE {
+                let time = timed(|| call(side)).1;
+                best[side] = best[side].min(time);
+                spent[side] += time;
+            }
+        }
     }
     best
 }
 
-fn time(work: &mut impl FnMut() -> u32) -> Duration {
+fn timed(call: impl FnOnce() -> RaskjomiAnswer) -> (RaskjomiAnswer, Duration) {
     let start = Instant::now();
-    black_box(work());
-    start.elapsed()
-}
-
-/// The stack that a thread has in memory after the work, in KiB: no less than the work needs.
-/// `None` where the system doesn't tell.
-pub fn stack(work: impl FnOnce() -> u32 + Send + 'static) -> Option<usize> {
-    let busy = thread::spawn(move || {
-        black_box(work());
-        resident_stack()
-    });
-    busy.join().ok()?
+    let answer = black_box(call());
+    (answer, start.elapsed())
 }
 
 /// The KiB of this thread's stack that are in memory, as Linux tells.

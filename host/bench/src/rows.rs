@@ -1,6 +1,11 @@
 //! The benchmark's games.
 
-use generator::{chain, largest_plan, random, rings, round_complete, round_of_loops, Lcg};
+use generator::{
+    chain, largest_plan, random, rings, round_complete, round_of_loops, watched_rings, Lcg,
+};
+
+/// How the names of the rows begin that are compared with plain passes at the end.
+pub const WATCHED: &str = "two rings watched";
 
 /// What a row calls.
 pub enum Work {
@@ -50,7 +55,7 @@ fn carried(n: usize, round: usize) -> [Row; 2] {
 }
 
 /// All rows: random games, a chain, the largest plan, plans carried to the limits, the largest game by a
-/// seed, and two rings with coprime lengths.
+/// seed, and rings of coprime lengths.
 pub fn rows() -> Vec<Row> {
     let mut lcg = Lcg::new(2024);
     let mut rows = Vec::new();
@@ -66,6 +71,11 @@ pub fn rows() -> Vec<Row> {
     rows.push(Row { name: "largest plan".into(), game: game.words(), work });
     rows.extend([carried(4, 1024), carried(64, 4)].into_iter().flatten());
     rows.push(Row::seed([1, 256, 16, 8]));
-    rows.push(Row::reduce("rings 127 and 128", rings(&[127, 128])));
+    rows.push(Row::reduce("two rings", rings(&[127, 128])));
+    rows.push(Row::reduce("four rings", rings(&[59, 61, 62, 63])));
+    for (player, owner) in [(0, "Even"), (1, "Odd")] {
+        let watched = watched_rings(109, 113, 16).owned_by(player);
+        rows.push(Row::reduce(&format!("{WATCHED}, {owner}"), watched));
+    }
     rows
 }

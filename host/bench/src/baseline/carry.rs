@@ -1,8 +1,10 @@
 //! Plans carried to another vertex: a search through pairs of a position and a vertex, in which those
 //! found for one position are a chain.
 
+use super::game::Game;
 use super::index::Index;
-use super::reduction::{lengths, reduce, write_order};
+use super::reduction::{lengths, reduce};
+use super::rounds::write_order;
 use super::{plan, reader, refused};
 use raskjomi::exports::RaskjomiAnswer;
 
@@ -30,7 +32,9 @@ pub fn carry(
         Ok(sizes) => sizes,
         Err(refusal) => return refusal,
     };
-    write_order(game, n, m, marks, spare);
+    let (mut starts, mut places) = ([0; 257], [0; 4096]);
+    let parts = Game::new(game, n, m, &mut starts, &mut places);
+    write_order(&parts, &mut marks[..n * n], &mut spare[..n * n]);
     let mut same = [0; 256];
     (0..n).for_each(|v| same[v] = v as u16);
     let order = Order { marks, n, stands_for: &same, turned: player == raskjomi::ODD };
@@ -51,7 +55,7 @@ pub fn carry_class(
     reduction: &mut [u16],
     output: &mut [u16],
 ) -> RaskjomiAnswer {
-    let counts = reduce(game, marks, spare, classes, reduction);
+    let counts = reduce(write_order, game, marks, spare, classes, reduction);
     if counts.number != 0 {
         return counts;
     }
@@ -64,7 +68,7 @@ pub fn carry_class(
         .and_then(|()| write(reduced, game, player, plan, vertex as usize, &order, output));
     match written {
         Ok(RaskjomiAnswer { positions, links, .. }) => {
-            RaskjomiAnswer { positions, links, ..counts }
+            RaskjomiAnswer { positions, links, passes: 0, ..counts }
         }
         Err(refusal) => refusal,
     }

@@ -1,16 +1,22 @@
-//! The yardstick: the library's own algorithm in safe Rust, with local arrays in place of a heap.
+//! The yardstick: the library's own algorithms in safe Rust, with local arrays in place of a heap; and the
+//! order by plain passes as well.
 
+mod bits;
 mod carry;
+mod game;
 mod index;
-mod order;
+mod passes;
 mod plan;
 mod reader;
 mod reduction;
+mod rounds;
 mod seed;
 
 pub use carry::{carry, carry_class};
+pub use passes::write_order as by_passes;
 pub use plan::accept_plan;
 pub use reduction::reduce;
+pub use rounds::write_order as by_rows;
 pub use seed::seed;
 
 use raskjomi::exports::RaskjomiAnswer;

@@ -1,12 +1,15 @@
 //! Classes and the reduced game.
 
-use super::index::Index;
-use super::order::Game;
+use super::game::Game;
 use super::{reader, refused};
 use raskjomi::exports::RaskjomiAnswer;
 
-/// The reduced game, as the library's call of this name.
+/// Writes the order of a game into two buffers, whose length is n × n; the number of passes.
+pub type WriteOrder = fn(&Game, &mut [u8], &mut [u8]) -> u32;
+
+/// The reduced game, as the library's call of this name. The answer tells the passes, too.
 pub fn reduce(
+    write_order: WriteOrder,
     game: &[u16],
     marks: &mut [u8],
     spare: &mut [u8],
@@ -22,9 +25,10 @@ pub fn reduce(
         return refusal;
     }
     let (mut starts, mut places) = ([0; 257], [0; 4096]);
-    let game = parts(game, n, m, &mut starts, &mut places);
-    game.write_order(&mut marks[..n * n], &mut spare[..n * n]);
-    write_reduced(&game, &marks[..n * n], &mut classes[..n], output)
+    let game = Game::new(game, n, m, &mut starts, &mut places);
+    let passes = write_order(&game, &mut marks[..n * n], &mut spare[..n * n]);
+    let counts = write_reduced(&game, &marks[..n * n], &mut classes[..n], output);
+    RaskjomiAnswer { passes, ..counts }
 }
 
 /// Refusals 21 to 24, as far as there are buffers.
@@ -33,26 +37,6 @@ pub fn lengths(lent: &[usize], needed: &[usize]) -> Result<(), RaskjomiAnswer> {
         Some(i) => Err(refused(21 + i as u32, needed[i])),
         None => Ok(()),
     }
-}
-
-/// The game's parts, with its edges grouped by source.
-fn parts<'a>(
-    game: &'a [u16],
-    n: usize,
-    m: usize,
-    starts: &'a mut [u16; 257],
-    places: &'a mut [u16; 4096],
-) -> Game<'a> {
-    let (sources, targets) = game[2 + 2 * n..].split_at(m);
-    let next = Index::build(sources, targets, &mut starts[..n + 1], places);
-    Game { priorities: &game[2..2 + n], owners: &game[2 + n..2 + 2 * n], next }
-}
-
-/// Writes the order of a game that the reader accepts into buffers that are long enough.
-pub fn write_order(game: &[u16], n: usize, m: usize, marks: &mut [u8], spare: &mut [u8]) {
-    let (mut starts, mut places) = ([0; 257], [0; 4096]);
-    let game = parts(game, n, m, &mut starts, &mut places);
-    game.write_order(&mut marks[..n * n], &mut spare[..n * n]);
 }
 
 /// Writes classes and the reduced game's table.

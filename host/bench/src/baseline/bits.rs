@@ -1,0 +1,112 @@
+//! Sets of vertices as rows of bits.
+
+use std::array::from_fn;
+use std::ops::{BitAnd, BitOr, Sub};
+
+/// A set of vertices: v is in it if bit v % 64 of word v / 64 is set.
+#[derive(Clone, Copy)]
+pub struct Row([u64; 4]);
+
+/// A row for each vertex.
+pub type Rows = [Row; 256];
+
+impl Row {
+    pub const EMPTY: Row = Row([0; 4]);
+    pub const FULL: Row = Row([u64::MAX; 4]);
+
+    /// The places of the items for which the test holds.
+    pub fn of<T>(items: &[T], test: impl Fn(&T) -> bool) -> Row {
+        let bit = |word: u64, item: &T| word << 1 | test(item) as u64;
+        let word = |items: &[T]| items.iter().rev().fold(0, bit);
+        let mut words = items.chunks(64).map(word);
+        Row(from_fn(|_| words.next().unwrap_or(0)))
+    }
+
+    pub fn insert(&mut self, v: usize) {
+        self.0[v / 64] |= 1 << (v % 64);
+    }
+
+    pub fn has(self, v: usize) -> bool {
+        self.0[v / 64] >> (v % 64) & 1 == 1
+    }
+
+    pub fn is_empty(self) -> bool {
+        self.0.iter().fold(0, |all, word| all | word) == 0
+    }
+
+    pub fn len(self) -> u32 {
+        self.0.iter().map(|word| word.count_ones()).sum()
+    }
+
+    /// Whether the test holds for every member; it is tried, ascending, until it doesn't.
+    #[inline]
+    pub fn all(self, mut test: impl FnMut(usize) -> bool) -> bool {
+        for (k, mut word) in self.0.into_iter().enumerate() {
+            while word != 0 {
+                if !test(64 * k + word.trailing_zeros() as usize) {
+                    return false;
+                }
+                word &= word - 1;
+            }
+        }
+        true
+    }
+
+    /// Visits the members, ascending.
+    #[inline]
+    pub fn each(self, mut visit: impl FnMut(usize)) {
+        self.all(|v| {
+            visit(v);
+            true
+        });
+    }
+
+    /// The members for which the test holds.
+    #[inline]
+    pub fn filter(self, mut test: impl FnMut(usize) -> bool) -> Row {
+        let mut kept = Row::EMPTY;
+        self.each(|v| kept.0[v / 64] |= (test(v) as u64) << (v % 64));
+        kept
+    }
+
+    /// The union of the members' rows.
+    #[inline]
+    pub fn union(self, rows: &Rows) -> Row {
+        let mut union = Row::EMPTY;
+        self.each(|v| union = union | rows[v]);
+        union
+    }
+
+    /// Writes a byte for each vertex: 1 if it is in the set, else 0.
+    pub fn write(self, bytes: &mut [u8]) {
+        for (word, bytes) in self.0.iter().zip(bytes.chunks_mut(64)) {
+            for (i, byte) in bytes.iter_mut().enumerate() {
+                *byte = (word >> i & 1) as u8;
+            }
+        }
+    }
+}
+
+impl BitAnd for Row {
+    type Output = Row;
+
+    fn bitand(self, other: Row) -> Row {
+        Row(from_fn(|k| self.0[k] & other.0[k]))
+    }
+}
+
+impl BitOr for Row {
+    type Output = Row;
+
+    fn bitor(self, other: Row) -> Row {
+        Row(from_fn(|k| self.0[k] | other.0[k]))
+    }
+}
+
+impl Sub for Row {
+    type Output = Row;
+
+    fn sub(self, other: Row) -> Row {
+        Row(from_fn(|k| self.0[k] & !other.0[k]))
+    }
+}
