@@ -3,6 +3,7 @@ use bits::row::WORDS;
 use board::edges::EDGE_WORDS;
 use board::edges::fill;
 use pairs::marks::length_for;
+use pairs::writing::copy_marks;
 use pairs::writing::write_marks;
 use rounds::rounds;
 use table::Reading;
@@ -45,7 +46,7 @@ pub fn fill_order(game: &[u16], marks: &mut [u8], spare: &mut [u8]) -> u32
     let passes = rounds(game, &edges, &mut related, &mut lost, &mut falls, &mut next);
     let n = game[0] as usize;
     write_marks(&related, n, marks);
-    write_marks(&related, n, spare);
+    copy_marks(marks, spare, length_for(n));
     passes
 }
 

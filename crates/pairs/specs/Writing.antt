@@ -3,7 +3,7 @@ use mathlib.Core.Path.{_≡_}
 use mathlib.Core.Bool.{Bool}
 use mathlib.Core.List.{List}
 use Prim.Native.Nat.{ℕ, _+_, _*_, _/_, _%_, _≤_, _<_}
-use lib.ListN.{length}
+use lib.ListN.{length, getD}
 use Rattle.theory.specs.Range.{tabulate}
 use Rattle.table.specs.Verdict.{written}
 use Rattle.bits.specs.Bits.{digit, cell}
@@ -28,3 +28,7 @@ RowWritten n rows v w old new =
 -- all marks are written
 abbrev pub RowsWritten : ℕ → List ℕ → List ℕ → List ℕ → Type 0
 RowsWritten n rows old new = new ≡ written (bytes (tabulate (n * n) (rowMark n rows))) old
+
+-- the first `count` bytes are those of another buffer
+abbrev pub Copied : ℕ → List ℕ → List ℕ → List ℕ → Type 0
+Copied count from old new = new ≡ written (tabulate count (λ i. getD from i 0)) old

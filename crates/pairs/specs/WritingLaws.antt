@@ -1,5 +1,5 @@
 -- Laws of marks that are written from rows of bits: bit by bit, word by word, row by row.
-use mathlib.Core.Path.{_≡_, sym, ap, _∙_}
+use mathlib.Core.Path.{_≡_, refl, sym, ap, _∙_}
 use mathlib.Core.Bool.{false}
 use mathlib.Core.List.{List}
 use Prim.Native.Nat.{ℕ, _+_, _-_, _*_, _/_, _%_, _≤_, _<_, min}
@@ -14,11 +14,12 @@ use Rattle.theory.specs.ListLaws.{tabulate-by}
 use Rattle.theory.specs.CountLaws.{row-lt, col-lt}
 use Rattle.theory.specs.Passes.{Marks, marked}
 use Rattle.table.specs.Verdict.{written}
+use Rattle.table.specs.VerdictLaws.{getD-written}
 use Rattle.bits.specs.Bits.{rowWords, digit, cell}
 use Rattle.bits.specs.MatrixLaws.{cell-at}
 use Rattle.pairs.specs.Marks.{bytes}
 use Rattle.pairs.specs.MarksLaws.{fill-more}
-use Rattle.pairs.specs.Writing.{BitsWritten, rowMark, RowWritten, RowsWritten}
+use Rattle.pairs.specs.Writing.{BitsWritten, rowMark, RowWritten, RowsWritten, Copied}
 
 -- ---- bit by bit
 
@@ -66,3 +67,9 @@ rows-are n rows m old new r l e =
     r ∙ ap (λ (k : Marks). written (bytes k) old)
     (sym (tabulate-by (n * n) _ false m l
     (λ i h. sym (e (i / n) (i % n) (row-lt n n i h) (col-lt n n i h) ∙ ap (λ (k : ℕ). marked m k) (div-add-mod' i n)))))
+
+-- a buffer that is written so, copied
+pub copied-is : (new old from old′ new′ : List ℕ) → from ≡ written new old → Copied (length new) from old′ new′ → new′ ≡ written new old′
+copied-is new old from old′ new′ e c =
+    c ∙ ap (λ (l : List ℕ). written l old′)
+    (sym (tabulate-by (length new) _ 0 new refl (λ i h. sym (rw e (getD-written new old i 0 h)))))

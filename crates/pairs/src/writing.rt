@@ -6,16 +6,18 @@ ghost use lib.ListN.{length};
 ghost use Rattle.table.specs.Limits.{vertexLimit};
 ghost use Rattle.bits.specs.Bits.{wordBits, rowWords};
 ghost use Rattle.pairs.specs.Marks.{marksLength};
-ghost use Rattle.pairs.specs.Writing.{BitsWritten, RowWritten, RowsWritten};
+ghost use Rattle.pairs.specs.Writing.{BitsWritten, RowWritten, RowsWritten, Copied};
 
 // Writes the first `count` bits of a word as marks, from mark `at` on.
 fn write_bits(marks: &mut [u8], at: usize, word: u64, count: usize)
     requires { ⌜ (count ≤ wordBits) × (at + count ≤ length (now marks)) ⌝ }
     ensures { λ r. ⌜ BitsWritten word at count (now (marks .entry)) (now (marks .exit)) ⌝ }
 {
+    let mut rest = word;
     let mut k = 0;
     while k < count {
-        marks[at + k] = ((word >> k) & 1) as u8;
+        marks[at + k] = (rest & 1) as u8;
+        rest = rest >> 1;
         k += 1;
     }
 }
@@ -43,5 +45,17 @@ pub fn write_marks(rows: &[u64], n: usize, marks: &mut [u8])
     while v < n {
         write_row(rows, n, v, marks);
         v += 1;
+    }
+}
+
+// Copies the first `count` bytes.
+pub fn copy_marks(from: &[u8], to: &mut [u8], count: usize)
+    requires { ⌜ (count ≤ length (now from)) × (count ≤ length (now to)) ⌝ }
+    ensures { λ r. ⌜ Copied count (now (from .entry)) (now (to .entry)) (now (to .exit)) ⌝ }
+{
+    let mut i = 0;
+    while i < count {
+        to[i] = from[i];
+        i += 1;
     }
 }

@@ -45,12 +45,13 @@ write-marks-requires : tie.Need-write-marks-requires
 write-marks-requires c κs = let s = c .before .before .before .before .before .before .before .before .before .before .before .before .before .before .before .before .before .before .before in
     (s .pre .0 .vertices, omega (arith, c .before .before .before .before .before .before .before .rounds .kept, s .pre .0 .vertices), s .pre .1 .0)
 
-slice-aggregate-write-marks-2 : tie.Need-slice-aggregate-write-marks-2
-slice-aggregate-write-marks-2 c = search needs
+length-for-requires : tie.Need-length-for-requires
+length-for-requires c κs = c .before .before .before .before .before .before .before .before .before .before .before .before .before .before .before .before .before .before .before .before .before .before .before .before .pre .0 .vertices
 
-write-marks-requires-2 : tie.Need-write-marks-requires-2
-write-marks-requires-2 c κs = let s = c .before .before .before .before .before .before .before .before .before .before .before .before .before .before .before .before .before .before .before .before .before .before .before .before in
-    (s .pre .0 .vertices, omega (arith, c .before .before .before .before .before .before .before .before .before .before .before .before .rounds .kept, s .pre .0 .vertices), s .pre .1 .1)
+copy-marks-requires : tie.Need-copy-marks-requires
+copy-marks-requires c κs = let s = c .before .before .before .before .before .before .before .before .before .before .before .before .before .before .before .before .before .before .before .before .before .before .before .before .before in
+    let e = c .length-for .ensures in
+    let k = c .before .before .before .before .before .write-marks .kept in (omega (arith, e, k, s .pre .1), omega (arith, e, s .pre .1))
 
 same-length : tie.Need-same-length
 same-length c = search needs
@@ -59,8 +60,9 @@ same-length-2 : tie.Need-same-length-2
 same-length-2 c = search needs
 
 returns : tie.Need-returns
-returns c = let s = c .before .before .before .before .before .before .before .before .before .before .before .before .before .before .before .before .before .before .before .before .before .before .before .before .before .before .before in
-    order-done (s .args .game .now) _ _ _ _ _ _ (c .before .before .before .before .before .before .before .before .before .before .before .before .before .before .before .rounds .ensures) (c .before .before .before .before .before .before .before .write-marks .ensures) (c .before .before .write-marks2 .ensures)
+returns c = let s = c .before .before .before .before .before .before .before .before .before .before .before .before .before .before .before .before .before .before .before .before .before .before .before .before .before .before .before .before in
+    let e = c .before .before .before .length-for .ensures in
+    order-done (s .args .game .now) _ _ _ _ _ _ (c .before .before .before .before .before .before .before .before .before .before .before .before .before .before .before .before .rounds .ensures) (c .before .before .before .before .before .before .before .before .write-marks .ensures) (rw e at (c .before .before .copy-marks .ensures))
 
 pub fill-order-spec : {M : Type 1} → statement M
 fill-order-spec =
@@ -78,8 +80,8 @@ fill-order-spec =
     cast-n
     slice-aggregate-write-marks
     write-marks-requires
-    slice-aggregate-write-marks-2
-    write-marks-requires-2
+    length-for-requires
+    copy-marks-requires
     same-length
     same-length-2
     returns)
