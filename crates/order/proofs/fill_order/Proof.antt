@@ -46,7 +46,7 @@ write-marks-requires c κs = let s = c .before .before .before .before .before .
     (s .pre .0 .vertices, omega (arith, c .before .before .before .before .before .before .before .rounds .kept, s .pre .0 .vertices), s .pre .1 .0)
 
 length-for-requires : tie.Need-length-for-requires
-length-for-requires c κs = c .before .before .before .before .before .before .before .before .before .before .before .before .before .before .before .before .before .before .before .before .before .before .before .before .pre .0 .vertices
+length-for-requires c κs = search needs
 
 copy-marks-requires : tie.Need-copy-marks-requires
 copy-marks-requires c κs = let s = c .before .before .before .before .before .before .before .before .before .before .before .before .before .before .before .before .before .before .before .before .before .before .before .before .before in
