@@ -1,6 +1,6 @@
 -- Rounds over rows: the first, each later one, and the last.
 use mathlib.Core.Path.{_≡_}
-use mathlib.Core.Bool.{not, So}
+use mathlib.Core.Bool.{not}
 use mathlib.Core.List.{List}
 use Prim.Native.Nat.{ℕ, _+_, _*_, _≤_, _<_}
 use lib.Dec.{ltb}
@@ -11,7 +11,7 @@ use Rattle.theory.specs.Passes.{Rel, marked}
 use Rattle.theory.specs.Rounds.{cleared}
 use Rattle.theory.specs.Game.{Game}
 use Rattle.theory.specs.Order.{equalPriority, orderMarks, orderPasses}
-use Rattle.theory.specs.Rows.{Round, AfterRound}
+use Rattle.theory.specs.Rows.{fall, Round, AfterRound}
 use Rattle.bits.specs.Bits.{rowBits, cell}
 use Rattle.board.specs.Board.{EdgeRows, relationWords, struck, Fell}
 
@@ -24,11 +24,15 @@ RowsFit related lost falls next =
 unfoldable pub unequal : Game → Rel
 unequal G u x = ltb x (G .n) & not (equalPriority G G u x)
 
--- before the first round: the rows before k hold all pairs, and the pairs of unequal priorities; the vertices that have one are in `losing`
-pub record Started (G : Game) (k : ℕ) (related next losing : List ℕ) : Type 0 where
-  pub all : (u x : ℕ) → u < k → x < rowBits → So (cell related u x)
-  pub rows : (u x : ℕ) → u < k → x < rowBits → cell next u x ≡ unequal G u x
-  pub some : (u : ℕ) → u < rowBits → cell losing 0 u ≡ ltb u k & anyBelow rowBits (unequal G u)
+-- pass 0 as far as row k: what is left of all pairs, what is taken out, and its fall
+pub record Parted (G : Game) (k : ℕ) (related lost falls : List ℕ) : Type 0 where
+  pub left : (u x : ℕ) → u < k → x < rowBits → cell related u x ≡ not (unequal G u x)
+  pub loss : (u x : ℕ) → u < k → x < rowBits → cell lost u x ≡ unequal G u x
+  pub fallen : (u w : ℕ) → u < k → w < rowBits → cell falls u w ≡ fall G (unequal G u) (λ x. not (unequal G u x)) w
+
+-- the vertices before k that pass 0 takes something out for
+abbrev pub Started : Game → ℕ → List ℕ → Type 0
+Started G k changed = (u : ℕ) → u < rowBits → cell changed 0 u ≡ ltb u k & anyBelow rowBits (unequal G u)
 
 -- pass 0 is done
 pub record Begun (G : Game) (related lost falls changed : List ℕ) : Type 0 where

@@ -17,7 +17,7 @@ use Rattle.theory.specs.RoundsLaws.{cleared-none, cleared-some}
 use Rattle.theory.specs.Game.{Game, Total}
 use Rattle.theory.specs.Order.{anyNext, equalPriority}
 use Rattle.theory.specs.OrderLaws.{anyNext-in}
-use Rattle.theory.specs.Rows.{loses, AfterRound}
+use Rattle.theory.specs.Rows.{fall, loses, AfterRound}
 use Rattle.theory.specs.RowsLaws.{fall-same, loses-same, loses-none, round-start, round-next, last-count, last-order}
 use Rattle.table.specs.Table.{vertexCount, priorityAt, gameOf}
 use Rattle.bits.specs.Bits.{rowBits, has, RowIs, cell, Put, Added, unitedRows}
@@ -28,7 +28,7 @@ use Rattle.board.specs.EdgesLaws.{eqb-flip}
 use Rattle.board.specs.BoardLaws.{near-is, next-vertex, loses-vertex}
 use Rattle.rounds.specs.Taking.{TakenTo}
 use Rattle.rounds.specs.TakingLaws.{out-count}
-use Rattle.rounds.specs.Rounds.{unequal, Started, Begun, RoundOf, Settled}
+use Rattle.rounds.specs.Rounds.{unequal, Parted, Started, Begun, RoundOf, Settled}
 
 below-next : (q : ℕ → Bool) (v u : ℕ) → ((eqb u v & q v) or (ltb u v & q u)) ≡ ltb u (v + 1) & q u
 below-next q v u =
@@ -74,55 +74,90 @@ pub unequal-row : (g : List ℕ) (v x : ℕ) → differs g 2 (vertexCount g) (pr
 unfolding differs unequal equalPriority gameOf
 unequal-row g v x = ap (λ b. ltb x (vertexCount g) & not b) (eqb-flip (priorityAt g x) (priorityAt g v))
 
-pub started-none : (G : Game) (related next losing : List ℕ) → ((x : ℕ) → x < rowBits → cell losing 0 x ≡ false) → Started G 0 related next losing
-started-none G related next losing z = record {
-  all = λ u x h. absurd (omega arith);
-  rows = λ u x h. absurd (omega arith);
-  some = λ u h. z u h ∙ sym (and-first _ (le-ltb u 0 (omega arith)));
+-- a vertex of equal priority has the same row
+unequal-same : (G : Game) (u v x : ℕ) → So (equalPriority G G u v) → unequal G u x ≡ unequal G v x
+unfolding unequal equalPriority
+unequal-same G u v x t = rw (eqb-true (G .priority u) (G .priority v) t)
+
+-- rows before k hold p, and the next one is put
+row-next : (p : Rel) (v : ℕ) (words words′ r : List ℕ) → ((u x : ℕ) → u < v → x < rowBits → cell words u x ≡ p u x) → RowIs r (p v) → Put words words′ v r
+    → (u x : ℕ) → u < v + 1 → x < rowBits → cell words′ u x ≡ p u x
+row-next p v words words′ r s e t u x h k = elim (ℕ-discrete u v) [
+  | yes i ↦ subst (λ (i : ℕ). cell words′ i x ≡ p i x) (sym i) (sym (t .here x k) ∙ e x k)
+  | no n ↦ t .other u x n k ∙ s u x (omega arith) k
+]
+
+pub parted-none : (G : Game) (related lost falls : List ℕ) → Parted G 0 related lost falls
+parted-none G related lost falls = record {
+  left = λ u x h. absurd (omega arith);
+  loss = λ u x h. absurd (omega arith);
+  fallen = λ u x h. absurd (omega arith);
 }
 
-pub started-next : (G : Game) (v : ℕ) (related next losing full out related′ next′ losing′ : List ℕ) (b : Bool) → Started G v related next losing
-    → ((x : ℕ) → x < rowBits → So (has full x)) → RowIs out (unequal G v) → Put related related′ v full → Put next next′ v out
-    → b ≡ anyBelow rowBits (has out) → Added losing losing′ 0 v b → Started G (v + 1) related′ next′ losing′
-started-next G v related next losing full out related′ next′ losing′ b s f e ph pn k add = record {
-  all = λ u x h m. by-row (λ u. So (cell related′ u x)) u (sym (ph .here x m) ∙ f x m) (λ d. ph .other u x d m ∙ s .all u x (omega arith) m);
-  rows = λ u x h m. by-row (λ u. cell next′ u x ≡ unequal G u x) u (sym (pn .here x m) ∙ e x m) (λ d. pn .other u x d m ∙ s .rows u x (omega arith) m);
-  some = λ u h.
-      add 0 u h
-      ∙ ap₂ _or_ (and-one _ (eq-eqb 0 0 refl) ∙ ap (λ c. eqb u v & c) (k ∙ any-ext rowBits (has out) (unequal G v) e)) (s .some u h)
-      ∙ below-next (λ w. anyBelow rowBits (unequal G w)) v u;
-}
-  where
-    by-row : (P : ℕ → Type 0) (u : ℕ) → P v → ((u ≡ v → ⊥) → P u) → P u
-    by-row P u p q = elim (ℕ-discrete u v) [ yes e ↦ subst P (sym e) p | no n ↦ q n ]
+module _ (G : Game) (v : ℕ) (related lost falls left out fallen related′ lost′ falls′ : List ℕ) (s : Parted G v related lost falls)
+    (ph : Put related related′ v left) (pl : Put lost lost′ v out) (pf : Put falls falls′ v fallen) where
+  parted-next : RowIs left (λ x. not (unequal G v x)) → RowIs out (unequal G v) → RowIs fallen (fall G (unequal G v) (λ x. not (unequal G v x)))
+      → Parted G (v + 1) related′ lost′ falls′
+  parted-next l o f = record {
+    left = row-next (λ u x. not (unequal G u x)) v related related′ left (s .left) l ph;
+    loss = row-next (unequal G) v lost lost′ out (s .loss) o pl;
+    fallen = row-next (λ u w. fall G (unequal G u) (λ x. not (unequal G u x)) w) v falls falls′ fallen (s .fallen) f pf;
+  }
+
+  pub parted-copy : (u : ℕ) → u < v → So (equalPriority G G u v) → RowIs left (cell related u) → RowIs out (cell lost u) → RowIs fallen (cell falls u)
+      → Parted G (v + 1) related′ lost′ falls′
+  parted-copy u h t l o f =
+      parted-next
+      (λ x k. l x k ∙ s .left u x h k ∙ ap not (unequal-same G u v x t))
+      (λ x k. o x k ∙ s .loss u x h k ∙ unequal-same G u v x t)
+      (λ w k. f w k ∙ s .fallen u w h k
+      ∙ fall-same G _ _ _ _ w (λ x m. unequal-same G u v x t) (λ x m. ap not (unequal-same G u v x t)))
+
+  pub parted-row : (edges full : List ℕ) → EdgeRows G edges → ((x : ℕ) → x < rowBits → So (has full x)) → RowIs out (unequal G v)
+      → RowIs left (λ x. has full x & not (has out x)) → RowIs fallen (fall G (has out) (has left)) → Parted G (v + 1) related′ lost′ falls′
+  parted-row edges full e a o l f =
+      parted-next rest o
+      (λ w k. f w k ∙ fall-same G _ _ _ _ w (λ x m. o x (omega (arith, m, e .small))) (λ x m. rest x (omega (arith, m, e .small))))
+    where
+      rest : RowIs left (λ x. not (unequal G v x))
+      rest x k = l x k ∙ and-one _ (a x k) ∙ ap not (o x k)
+
+pub started-none : (G : Game) (changed : List ℕ) → ((x : ℕ) → x < rowBits → cell changed 0 x ≡ false) → Started G 0 changed
+started-none G changed z u h = z u h ∙ sym (and-first _ (le-ltb u 0 (omega arith)))
+
+pub started-next : (G : Game) (v : ℕ) (related lost falls out changed changed′ : List ℕ) (b : Bool) → Parted G (v + 1) related lost falls
+    → Started G v changed → RowIs out (cell lost v) → b ≡ anyBelow rowBits (has out) → Added changed changed′ 0 v b → Started G (v + 1) changed′
+started-next G v related lost falls out changed changed′ b p s e k add u h =
+    add 0 u h
+    ∙ ap₂ _or_
+    (and-one _ (eq-eqb 0 0 refl)
+    ∙ ap (λ c. eqb u v & c) (k ∙ any-ext rowBits (has out) (unequal G v) (λ x m. e x m ∙ p .loss v x (omega arith) m)))
+    (s u h)
+    ∙ below-next (λ w. anyBelow rowBits (unequal G w)) v u
 
 and-some : (n : ℕ) (p : ℕ → Bool) (x : ℕ) → x < n → anyBelow n p & p x ≡ p x
 and-some n p x h = So-ext (λ t. and-out t .1) (λ t. and-in (any-in n p x h t) t)
 
-pub begun : (G : Game) (edges old next losing : List ℕ) (c : ℕ) (related lost falls : List ℕ) → EdgeRows G edges → Total G → Started G (G .n) old next losing
-    → TakenTo edges next losing rowBits old c related lost falls → Begun G related lost falls losing
+pub begun : (G : Game) (edges related lost falls changed : List ℕ) → EdgeRows G edges → Total G → Parted G (G .n) related lost falls
+    → Started G (G .n) changed → Begun G related lost falls changed
 unfolding unequal
-begun G edges old next losing c related lost falls s total st t = record {
-  fell = taken-fell G edges next losing old c related lost falls s t;
-  after = round-start G total (cell related) (struck losing lost) equal
+begun G edges related lost falls changed s total p st = record {
+  fell = λ a w ha hw o.
+      p .fallen a w ha hw
+      ∙ fall-same G _ _ _ _ w
+      (λ x h. sym (p .loss a x ha (omega (arith, h, s .small))))
+      (λ x h. sym (p .left a x ha (omega (arith, h, s .small))));
+  after = round-start G total (cell related) (struck changed lost) equal
       (λ v w hv hw.
-      struck-is G edges next losing old c related lost falls s t v w (omega (arith, hv, s .small)) (omega (arith, hw, s .small))
-      ∙ lose v w hv hw ∙ ap not (sym (equal v w hv hw)));
+      let kv : v < rowBits = omega (arith, hv, s .small) in
+      let kw : w < rowBits = omega (arith, hw, s .small) in
+      ap₂ _&_ (sym (cell-row changed v) ∙ st v kv ∙ and-one _ (lt-ltb v (G .n) hv)) (p .loss v w hv kw)
+      ∙ and-some rowBits (unequal G v) w kw ∙ and-one _ (lt-ltb w (G .n) hw) ∙ ap not (sym (equal v w hv hw)));
 }
   where
-    lose : (v w : ℕ) → v < G .n → w < G .n → struck losing next v w ≡ not (equalPriority G G v w)
-    lose v w hv hw =
-        let kv : v < rowBits = omega (arith, hv, s .small) in
-        let kw : w < rowBits = omega (arith, hw, s .small) in
-        ap₂ _&_ (sym (cell-row losing v) ∙ st .some v kv ∙ and-one _ (lt-ltb v (G .n) hv)) (st .rows v w hv kw)
-        ∙ and-some rowBits (unequal G v) w kw ∙ and-one _ (lt-ltb w (G .n) hw)
-
     equal : (v w : ℕ) → v < G .n → w < G .n → cell related v w ≡ equalPriority G G v w
     equal v w hv hw =
-        let kv : v < rowBits = omega (arith, hv, s .small) in
-        let kw : w < rowBits = omega (arith, hw, s .small) in
-        taken-left G edges next losing old c related lost falls s t v w kv kw
-        ∙ and-one _ (st .all v w hv kw) ∙ ap not (lose v w hv hw) ∙ Bool·not-not (equalPriority G G v w)
+        p .left v w hv (omega (arith, hw, s .small)) ∙ ap not (and-one _ (lt-ltb w (G .n) hw)) ∙ Bool·not-not (equalPriority G G v w)
 
 -- ---- a later round
 

@@ -79,6 +79,6 @@ pub fn rounds(
     ensures { λ r. ⌜ Settled (gameOf (now (game .entry))) r (now (related .exit)) ⌝ }
 {
     let mut changed = [0u64; WORDS];
-    begin(game, edges, related, lost, falls, next, &mut changed);
+    begin(game, edges, related, lost, falls, &mut changed);
     settle(game, edges, related, lost, falls, next, &mut changed)
 }

@@ -1,35 +1,97 @@
-// Pass 0 as a round: from all pairs, the unequal priorities are taken out.
-use crate::taking::take_all;
+// Pass 0 as a round: from all pairs, the unequal priorities are taken out. Vertices of one priority lose the same, so that what they lose and its
+// fall are worked out at the first of them.
 use bits::matrix::add;
 use bits::matrix::put;
+use bits::matrix::row;
 use bits::row::WORDS;
 use bits::row::is_some;
+use bits::row::without;
+use board::edges::fall_of;
 use board::values::differing;
 ghost use mathlib.Core.Path.{_≡_};
-ghost use mathlib.Core.Bool.{false};
-ghost use Prim.Native.Nat.{ℕ, _<_, _≤_};
+ghost use mathlib.Core.Bool.{false, So};
+ghost use Prim.Native.Nat.{ℕ, _+_, _<_, _≤_};
 ghost use lib.ListN.{length};
+ghost use Rattle.theory.specs.Range.{first};
+ghost use Rattle.theory.specs.Game.{Game};
+ghost use Rattle.theory.specs.Order.{equalPriority};
 ghost use Rattle.table.specs.Table.{vertexCount, gameOf};
 ghost use Rattle.table.specs.WellFormed.{WellFormed};
 ghost use Rattle.bits.specs.Bits.{rowBits, rowWords, cell};
 ghost use Rattle.board.specs.Board.{edgeWords, EdgeRows, relationWords};
-ghost use Rattle.rounds.specs.Rounds.{RowsFit, Started, Begun};
+ghost use Rattle.rounds.specs.Rounds.{Parted, Begun};
 
-// Writes all pairs into `related`, the pairs of unequal priorities into `next`, and the vertices that have one into `losing`, which is empty.
-fn start_rows(game: &[u16], related: &mut [u64], next: &mut [u64], losing: &mut [u64])
-    requires { ⌜ WellFormed (now game) ⌝ }
-    requires { ⌜ (relationWords ≤ length (now related)) × (relationWords ≤ length (now next)) × (rowWords ≤ length (now losing)) ⌝ }
-    requires { ⌜ ((x : ℕ) → x < rowBits → cell (now losing) 0 x ≡ false) ⌝ }
-    ensures { λ r. ⌜ Started (gameOf (now (game .entry))) (vertexCount (now (game .entry))) (now (related .exit)) (now (next .exit)) (now (losing .exit)) ⌝ }
+// The first vertex before v of v's priority; v where there is none.
+fn first_equal(game: &[u16], v: usize) -> usize
+    requires { ⌜ WellFormed (now game) × (v < vertexCount (now game)) ⌝ }
+    ensures { λ r. ⌜ r ≡ first (λ u. equalPriority (gameOf (now (game .entry))) (gameOf (now (game .entry))) u v) 0 v ⌝ }
+{
+    let priority = game[2 + v];
+    let mut u = 0;
+    while u < v {
+        let found = game[2 + u];
+        if found == priority {
+            return u;
+        }
+        u += 1;
+    }
+    u
+}
+
+// Copies row u into row v, which is the next.
+fn copy(related: &mut [u64], lost: &mut [u64], falls: &mut [u64], u: usize, v: usize)
+    requires { ⌜ (relationWords ≤ length (now related)) × (relationWords ≤ length (now lost)) × (relationWords ≤ length (now falls)) ⌝ }
+    requires { ⌜ (u < v) × (v < rowBits) ⌝ }
+    ensures { λ r. ⌜ ((G : Game) → So (equalPriority G G u v) → Parted G v (now (related .entry)) (now (lost .entry)) (now (falls .entry)) → Parted G (v + 1) (now (related .exit)) (now (lost .exit)) (now (falls .exit))) ⌝ }
+{
+    put(related, v, row(related, u));
+    put(lost, v, row(lost, u));
+    put(falls, v, row(falls, u));
+}
+
+// Works out row v, which is the next.
+fn part(
+    game: &[u16],
+    edges: &[u64],
+    related: &mut [u64],
+    lost: &mut [u64],
+    falls: &mut [u64],
+    v: usize,
+)
+    requires { ⌜ WellFormed (now game) × (v < vertexCount (now game)) ⌝ }
+    requires { ⌜ EdgeRows (gameOf (now game)) (now edges) × (edgeWords ≤ length (now edges)) ⌝ }
+    requires { ⌜ (relationWords ≤ length (now related)) × (relationWords ≤ length (now lost)) × (relationWords ≤ length (now falls)) ⌝ }
+    requires { ⌜ Parted (gameOf (now game)) v (now related) (now lost) (now falls) ⌝ }
+    ensures { λ r. ⌜ Parted (gameOf (now (game .entry))) (v + 1) (now (related .exit)) (now (lost .exit)) (now (falls .exit)) ⌝ }
 {
     let n = game[0] as usize;
-    let mut v = 0;
-    while v < n {
-        let out = differing(game, 2, n, game[2 + v]);
-        put(related, v, [0xffff_ffff_ffff_ffffu64; WORDS]);
-        put(next, v, out);
-        add(losing, 0, v, is_some(out));
-        v += 1;
+    let out = differing(game, 2, n, game[2 + v]);
+    let left = without([0xffff_ffff_ffff_ffffu64; WORDS], out);
+    put(related, v, left);
+    put(lost, v, out);
+    put(falls, v, fall_of(edges, out, left));
+}
+
+// Row v, which is the next: as that of an earlier vertex of its priority, if there is one.
+fn start_row(
+    game: &[u16],
+    edges: &[u64],
+    related: &mut [u64],
+    lost: &mut [u64],
+    falls: &mut [u64],
+    v: usize,
+)
+    requires { ⌜ WellFormed (now game) × (v < vertexCount (now game)) ⌝ }
+    requires { ⌜ EdgeRows (gameOf (now game)) (now edges) × (edgeWords ≤ length (now edges)) ⌝ }
+    requires { ⌜ (relationWords ≤ length (now related)) × (relationWords ≤ length (now lost)) × (relationWords ≤ length (now falls)) ⌝ }
+    requires { ⌜ Parted (gameOf (now game)) v (now related) (now lost) (now falls) ⌝ }
+    ensures { λ r. ⌜ Parted (gameOf (now (game .entry))) (v + 1) (now (related .exit)) (now (lost .exit)) (now (falls .exit)) ⌝ }
+{
+    let u = first_equal(game, v);
+    if u < v {
+        copy(related, lost, falls, u, v);
+    } else {
+        part(game, edges, related, lost, falls, v);
     }
 }
 
@@ -40,15 +102,20 @@ pub fn begin(
     related: &mut [u64],
     lost: &mut [u64],
     falls: &mut [u64],
-    next: &mut [u64],
     changed: &mut [u64],
 )
     requires { ⌜ WellFormed (now game) ⌝ }
     requires { ⌜ EdgeRows (gameOf (now game)) (now edges) × (edgeWords ≤ length (now edges)) ⌝ }
-    requires { ⌜ RowsFit (now related) (now lost) (now falls) (now next) × (rowWords ≤ length (now changed)) ⌝ }
+    requires { ⌜ (relationWords ≤ length (now related)) × (relationWords ≤ length (now lost)) × (relationWords ≤ length (now falls)) ⌝ }
+    requires { ⌜ rowWords ≤ length (now changed) ⌝ }
     requires { ⌜ ((x : ℕ) → x < rowBits → cell (now changed) 0 x ≡ false) ⌝ }
     ensures { λ r. ⌜ Begun (gameOf (now (game .entry))) (now (related .exit)) (now (lost .exit)) (now (falls .exit)) (now (changed .exit)) ⌝ }
 {
-    start_rows(game, related, next, changed);
-    take_all(edges, next, changed, related, lost, falls);
+    let n = game[0] as usize;
+    let mut v = 0;
+    while v < n {
+        start_row(game, edges, related, lost, falls, v);
+        add(changed, 0, v, is_some(row(lost, v)));
+        v += 1;
+    }
 }

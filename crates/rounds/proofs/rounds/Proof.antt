@@ -9,16 +9,16 @@ slice-aggregate-begin : tie.Need-slice-aggregate-begin
 slice-aggregate-begin c = search needs
 
 begin-requires : tie.Need-begin-requires
-begin-requires c κs = let s = c .before .before .before .before .before .before .before .before .before .before .before in
-    (s .pre .0, (s .pre .1 .0, ((s .pre .1 .1, search needs), λ x h. cell-zero rowWords 0 x)))
+begin-requires c κs = let s = c .before .before .before .before .before .before .before .before .before .before in
+    let fit = s .pre .1 .1 in (s .pre .0, (s .pre .1 .0, ((fit .0, fit .1, fit .2), (search needs, λ x h. cell-zero rowWords 0 x))))
 
 slice-aggregate-settle : tie.Need-slice-aggregate-settle
 slice-aggregate-settle c = search needs
 
 settle-requires : tie.Need-settle-requires
-settle-requires c κs = let s = c .before .before .before .before .before .before .before .before .before .before .before .before .before .before .before .before .before .before .before .before .before .before .before .before .before .before in
+settle-requires c κs = let s = c .before .before .before .before .before .before .before .before .before .before .before .before .before .before .before .before .before .before .before .before .before .before .before in
     let fit = s .pre .1 .1 in
-    let b = c .before .before .before .before .before .before .before .before .before .before .before .before .before .before .begin in
+    let b = c .before .before .before .before .before .before .before .before .before .before .before .before .begin in
     let k = b .kept in (
       s .pre .0,
       (

@@ -1,45 +1,119 @@
+use mathlib.Core.Path.{_≡_, refl, _∙_}
+use Prim.Native.Nat.{_-_, _≤_}
+use native.Mathlib.Omega.{arith}
+use lib.ListN.{length}
+use Rattle.table.specs.Table.{vertexCount, gameOf}
 use Rattle.table.specs.TableLaws.{game-total}
-use Rattle.table.specs.Table.{gameOf}
-use Rattle.rounds.specs.RoundsLaws.{begun}
+use Rattle.rounds.specs.Rounds.{Parted, Started}
+use Rattle.rounds.specs.RoundsLaws.{parted-none, started-none, started-next, begun}
 use borrow.Author.Needs.{needs}
 use Rattle.rounds.proofs.start.begin.Statement.{statement}
 use Rattle.rounds.proofs.start.begin.Tie as tie
 
-start-rows-requires : tie.Need-start-rows-requires
-start-rows-requires c κs = search needs
+abbrev Inv-loop : tie.InvT-loop
+Inv-loop game edges related₀ lost₀ falls₀ changed₀ n v₀ related lost falls changed v =
+    (v ≤ n)
+    × (length related ≡ length related₀)
+    × (length lost ≡ length lost₀)
+    × (length falls ≡ length falls₀)
+    × (length changed ≡ length changed₀)
+    × Parted (gameOf game) v related lost falls
+    × Started (gameOf game) v changed
 
-take-all-requires : tie.Need-take-all-requires
-take-all-requires c κs = search needs
+abbrev μ-loop : tie.MeasureT-loop
+μ-loop game edges related₀ lost₀ falls₀ changed₀ n v₀ related lost falls changed v = n - v
 
-same-length : tie.Need-same-length
+abbrev start : tie.At-loop Inv-loop μ-loop → tie.Start Inv-loop μ-loop
+start c = c .before .before .before .before .before .before .before .before
+
+shared-slice-read-n : tie.Need-shared-slice-read-n Inv-loop μ-loop
+shared-slice-read-n c = search needs
+
+cast-n : tie.Need-cast-n Inv-loop μ-loop
+cast-n c = search needs
+
+loop-holds : tie.Need-loop-holds Inv-loop μ-loop
+loop-holds c = (search needs, refl, refl, refl, refl, parted-none _ _ _ _, started-none _ _ (c .before .before .before .before .before .before .before .pre .1 .1 .1 .1))
+
+start-row-requires : tie.Need-start-row-requires Inv-loop μ-loop
+start-row-requires c κs = let l = c .before .before .before .before in
+    let s = start l in
+    let i = l .loop .inv in
+    let q = s .pre .1 .1 .0 in (
+      (s .pre .0, c .before .before .before .loop-test .taken),
+      (s .pre .1 .0, ((omega (arith, i .1, q .0), omega (arith, i .2, q .1), omega (arith, i .3, q .2)), i .5)),
+    )
+
+row-requires : tie.Need-row-requires Inv-loop μ-loop
+row-requires c κs = let l = c .before .before .before .before .before .before .before .before .before .before .before .before .before in
+    let s = start l in
+    omega (arith, c .before .before .before .before .before .before .before .before .before .before .before .before .loop-test .taken, s .pre .0 .vertices, c .before .before .before .before .before .before .before .before .start-row .kept .1 .1 .1 .0, l .loop .inv .2, s .pre .1 .1 .0 .1)
+
+is-some-requires : tie.Need-is-some-requires Inv-loop μ-loop
+is-some-requires c κs = search needs
+
+add-requires : tie.Need-add-requires Inv-loop μ-loop
+add-requires c κs = let l = c .before .before .before .before .before .before .before .before .before .before .before .before .before .before .before in
+    let s = start l in (omega (arith, l .loop .inv .4, s .pre .1 .1 .1 .0), omega (arith, c .before .before .before .before .before .before .before .before .before .before .before .before .before .before .loop-test .taken, s .pre .0 .vertices))
+
+add-v : tie.Need-add-v Inv-loop μ-loop
+add-v c = search needs
+
+loop-less : tie.Need-loop-less Inv-loop μ-loop
+loop-less c = search needs
+
+loop-again : tie.Need-loop-again Inv-loop μ-loop
+loop-again c = let l = c .before .before .before .before .before .before .before .before .before .before .before .before .before .before .before .before .before .before in
+    let i = l .loop .inv in
+    let r = c .before .before .before .before .before .before .before .before .before .before .before .before .before .start-row in (
+      omega (arith, c .before .before .before .before .before .before .before .before .before .before .before .before .before .before .before .before .before .loop-test .taken),
+      r .kept .1 .1 .0 ∙ i .1,
+      r .kept .1 .1 .1 .0 ∙ i .2,
+      r .kept .1 .1 .1 .1 .0 ∙ i .3,
+      c .before .before .add .kept .0 ∙ i .4,
+      r .ensures,
+      started-next _ (l .loop .v) _ _ _ _ _ _ _ (r .ensures) (i .6) (c .before .before .before .before .row .ensures) (c .before .before .before .is-some .ensures) (c .before .before .add .ensures),
+    )
+
+same-length : tie.Need-same-length Inv-loop μ-loop
 same-length c = search needs
 
-same-length-2 : tie.Need-same-length-2
+same-length-2 : tie.Need-same-length-2 Inv-loop μ-loop
 same-length-2 c = search needs
 
-same-length-3 : tie.Need-same-length-3
+same-length-3 : tie.Need-same-length-3 Inv-loop μ-loop
 same-length-3 c = search needs
 
-same-length-4 : tie.Need-same-length-4
+same-length-4 : tie.Need-same-length-4 Inv-loop μ-loop
 same-length-4 c = search needs
 
-same-length-5 : tie.Need-same-length-5
-same-length-5 c = search needs
-
-returns : tie.Need-returns
+returns : tie.Need-returns Inv-loop μ-loop
 unfolding gameOf
-returns c = let s = c .before .before .before .before .before .before .before .before .before .before .before .before .before .before .before .before .before .before .before .before .before .before .before .before .before .before .before .before .before in
-    begun (gameOf (s .args .game .now)) _ _ _ _ _ _ _ _ (s .pre .1 .0 .0) (game-total (s .args .game .now) (s .pre .0)) (c .before .before .before .before .before .before .before .before .before .before .before .before .before .before .before .before .before .before .start-rows .ensures) (c .before .before .before .before .before .before .take-all .ensures)
+returns c = let l = c .before in
+    let s = start l in
+    let g = s .args .game .now in
+    let i = l .loop .inv in
+    let e : l .loop .v ≡ vertexCount g = omega (arith, c .loop-test .left, i .0) in
+    begun (gameOf g) _ _ _ _ _ (s .pre .1 .0 .0) (game-total g (s .pre .0)) (rw e at (i .5)) (rw e at (i .6))
 
 pub begin-spec : {M : Type 1} → statement M
 begin-spec =
     tie.close
     (tie.spec
-    start-rows-requires
-    take-all-requires
+    Inv-loop
+    μ-loop
+    shared-slice-read-n
+    cast-n
+    loop-holds
+    start-row-requires
+    row-requires
+    is-some-requires
+    add-requires
+    add-v
+    loop-less
+    loop-again
     same-length
     same-length-2
     same-length-3
     same-length-4
-    same-length-5
     returns)

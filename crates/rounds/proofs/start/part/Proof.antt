@@ -1,0 +1,76 @@
+use mathlib.Core.Path.{_∙_}
+use Rattle.table.specs.Table.{gameOf}
+use Rattle.bits.specs.RowLaws.{row-full}
+use Rattle.rounds.specs.RoundsLaws.{unequal-row, parted-row}
+use borrow.Author.Needs.{needs}
+use Rattle.rounds.proofs.start.part.Statement.{statement}
+use Rattle.rounds.proofs.start.part.Tie as tie
+
+shared-slice-read-n : tie.Need-shared-slice-read-n
+shared-slice-read-n c = search needs
+
+cast-n : tie.Need-cast-n
+cast-n c = search needs
+
+add-differing : tie.Need-add-differing
+add-differing c = search needs
+
+mul-differing : tie.Need-mul-differing
+mul-differing c = search needs
+
+shared-slice-read-differing : tie.Need-shared-slice-read-differing
+shared-slice-read-differing c = search needs
+
+differing-requires : tie.Need-differing-requires
+differing-requires c κs = search needs
+
+without-requires : tie.Need-without-requires
+without-requires c κs = search needs
+
+put-requires : tie.Need-put-requires
+put-requires c κs = search needs
+
+put-requires-2 : tie.Need-put-requires-2
+put-requires-2 c κs = search needs
+
+fall-of-requires : tie.Need-fall-of-requires
+fall-of-requires c κs = search needs
+
+put-requires-3 : tie.Need-put-requires-3
+put-requires-3 c κs = search needs
+
+same-length : tie.Need-same-length
+same-length c = search needs
+
+same-length-2 : tie.Need-same-length-2
+same-length-2 c = search needs
+
+same-length-3 : tie.Need-same-length-3
+same-length-3 c = search needs
+
+returns : tie.Need-returns
+returns c = let s = c .before .before .before .before .before .before .before .before .before .before .before .before .before .before .before .before .before .before .before .before .before .before in
+    let g = s .args .game .now in
+    let e = s .pre .1 .0 .0 in
+    parted-row (gameOf g) (s .args .v) _ _ _ _ _ _ _ _ _ (s .pre .1 .1 .1) (c .before .before .before .before .before .before .before .before .before .before .before .put .ensures) (c .before .before .before .before .before .before .before .put2 .ensures) (c .before .before .put3 .ensures) _ _ e row-full
+    (λ x h. c .before .before .before .before .before .before .before .before .before .before .before .before .before .before .differing .ensures x h ∙ unequal-row g (s .args .v) x) (c .before .before .before .before .before .before .before .before .before .before .before .before .before .without .ensures) (c .before .before .before .fall-of .ensures (gameOf g) e)
+
+pub part-spec : {M : Type 1} → statement M
+part-spec =
+    tie.close
+    (tie.spec
+    shared-slice-read-n
+    cast-n
+    add-differing
+    mul-differing
+    shared-slice-read-differing
+    differing-requires
+    without-requires
+    put-requires
+    put-requires-2
+    fall-of-requires
+    put-requires-3
+    same-length
+    same-length-2
+    same-length-3
+    returns)
