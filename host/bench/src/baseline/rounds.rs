@@ -37,7 +37,7 @@ struct Rounds {
 }
 
 impl Rounds {
-    /// Pass 0: of all pairs, those of unequal priorities are lost.
+    /// The rows of a game, and pass 0.
     fn start(game: &Game) -> Rounds {
         let none = [Row::EMPTY; 256];
         let mut rounds = Rounds {
@@ -50,17 +50,31 @@ impl Rounds {
             falls: none,
             losses: none,
         };
-        for (v, &priority) in game.priorities.iter().enumerate() {
+        rounds.odd = Row::of(game.owners, |&owner| owner == 1);
+        for v in 0..game.priorities.len() {
             for &x in game.next.of(v) {
                 rounds.successors[v].insert(x as usize);
                 rounds.predecessors[x as usize].insert(v);
             }
-            rounds.losses[v] = Row::of(game.priorities, |&other| other != priority);
         }
-        rounds.odd = Row::of(game.owners, |&owner| owner == 1);
-        let losing = Row::of(&rounds.losses, |row| !row.is_empty());
-        rounds.take_out(losing);
+        for v in 0..game.priorities.len() {
+            rounds.part(game.priorities, v);
+        }
+        rounds.changed = Row::of(&rounds.lost, |row| !row.is_empty());
         rounds
+    }
+
+    /// Pass 0 of v: of all pairs, those of unequal priorities are lost. Vertices of one priority lose the same.
+    fn part(&mut self, priorities: &[u16], v: usize) {
+        let equal = priorities[..v].iter().position(|&other| other == priorities[v]);
+        (self.marked[v], self.lost[v], self.falls[v]) = match equal {
+            Some(u) => (self.marked[u], self.lost[u], self.falls[u]),
+            None => {
+                let lost = Row::of(priorities, |&other| other != priorities[v]);
+                let left = Row::FULL - lost;
+                (left, lost, self.fall(lost, left))
+            }
+        };
     }
 
     /// A pass, and how many marks it clears.
