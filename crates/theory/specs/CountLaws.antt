@@ -34,6 +34,12 @@ unfolding count
 count-append n zero p = ap (λ (k : ℕ). count k p) (add-zero n) ∙ sym (add-zero (count n p))
 count-append n (suc m) p = ap (λ (k : ℕ). count k p) (add-suc n m) ∙ omega (arith, count-append n m p)
 
+-- what two tests count apart, a third counts together
+pub count-both : (n : ℕ) (p q r : ℕ → Bool) → ((i : ℕ) → i < n → bit (p i) + bit (q i) ≡ bit (r i)) → count n p + count n q ≡ count n r
+unfolding count
+count-both zero p q r e = refl
+count-both (suc n) p q r e = omega (arith, count-both n p q r (λ i h. e i (omega arith)), e n (omega arith))
+
 pub count-none : (n : ℕ) (p : ℕ → Bool) → ((i : ℕ) → i < n → p i ≡ false) → count n p ≡ 0
 unfolding count bit
 count-none zero p f = refl

@@ -6,14 +6,16 @@ use mathlib.Core.Path.{_≡_, refl, sym, ap, _∙_}
 use mathlib.Core.Logic.{inl, inr}
 use mathlib.Core.Bool.{Bool, true, false, not, cond, So}
 use Prim.Native.Nat.{ℕ, _+_, _*_, _<_}
+use Rattle.theory.specs.Range.{sum}
 use Rattle.theory.specs.Bools.{_&_, _or_, imp}
 use Rattle.theory.specs.BoolsLaws.{decide, clash, So-ext, So-not, not-in, not-out, and-in, and-out, imp-in, imp-out, or-left, or-right, or-out}
-use Rattle.theory.specs.Passes.{Rel, marked}
+use Rattle.theory.specs.Passes.{Rel, marked, largest}
 use Rattle.theory.specs.Game.{even, Game, own, Succ, Total}
 use Rattle.theory.specs.SimulationLaws.{moves-mono}
-use Rattle.theory.specs.Order.{allNext, anyNext, moves, equalPriority, test, marksBetween, orderMarks, orderPasses, Holds}
+use Rattle.theory.specs.Order.{allNext, anyNext, moves, equalPriority, test, marksBetween, orderMarks, order, orderPasses, Holds}
 use Rattle.theory.specs.OrderLaws.{allNext-in, allNext-out, anyNext-in, anyNext-out, moves-in, moves-out}
-use Rattle.theory.specs.RoundsLaws.{after-start, after-next, last-passes, last-marks}
+use Rattle.theory.specs.Rounds.{cleared, relationSize, clearedBy}
+use Rattle.theory.specs.RoundsLaws.{after-start, after-next, round-clears, last-passes, last-marks, counts-add}
 use Rattle.theory.specs.Rows.{cpre, united, rowTest, fall, unitedLost, fails, loses, Fallen, Round, AfterRound}
 
 -- the pairs of either
@@ -285,6 +287,11 @@ module _ (g : Game) where
           fallen = fallen-next H lost H′ lost′ (p .fallen) r;
         }
 
+    -- it clears as many marks as the pass
+    pub round-count : (H′ lost′ : Rel) → Round g H lost H′ lost′ → cleared (g .n) H H′ ≡ clearedBy (g .n) (test even g g) (equalPriority g g) k
+    round-count H′ lost′ r =
+        round-clears (g .n) (test even g g) (equalPriority g g) test-same k H (p .pass) H′ (round-passes H lost H′ lost′ (p .fallen) r)
+
     -- a round that takes nothing out is
     module _ (none : (v w : ℕ) → v < g .n → w < g .n → loses g H lost v w ≡ false) where
       all-passes : (v w : ℕ) → v < g .n → w < g .n → So (H v w) → So (test even g g H v w)
@@ -298,3 +305,9 @@ module _ (g : Game) where
       pub last-order : (v w : ℕ) → v < g .n → w < g .n → H v w ≡ marked (orderMarks g) (v * g .n + w)
       unfolding orderMarks marksBetween
       last-order = last-marks (g .n) (test even g g) (equalPriority g g) test-same k H (p .pass) all-passes
+
+  -- the marks of pass 0 are what the passes of the order clear, and the order
+  pub order-counts : sum (orderPasses g) (clearedBy (g .n) (test even g g) (equalPriority g g)) + relationSize (g .n) (order g)
+      ≡ relationSize (g .n) (equalPriority g g)
+  unfolding orderPasses order orderMarks marksBetween largest
+  order-counts = counts-add (g .n) (test even g g) (equalPriority g g) test-same

@@ -59,6 +59,21 @@ pub fn forced_ring(n: usize, degree: usize) -> Table {
     plain(n, (0..n * degree).map(|i| (i / degree, (i / degree + 1 + i % degree) % n)))
 }
 
+/// For each size a loop of a priority of its own, from 1 on, and so many vertices of priority 0 with an
+/// edge to it. Pass 1 clears the marks between vertices of different loops, and pass 2 none.
+pub fn fans(sizes: &[usize]) -> Table {
+    let mut game = plain(0, []);
+    for (priority, &size) in (1..).zip(sizes) {
+        let hub = add_vertex(&mut game, priority);
+        add_edges(&mut game, [(hub, hub)]);
+        for _ in 0..size {
+            let v = add_vertex(&mut game, 0);
+            add_edges(&mut game, [(v, hub)]);
+        }
+    }
+    game
+}
+
 /// Rings that the order compares two by two: a and b, a before b, one pair after the other, by b and then
 /// by a. Each pair has an exit s of a priority of its own: a₀ has an edge to s, each vertex of b but b₀ has
 /// one, and each vertex of the rings after b. The first pair's exit has a loop. Each later pair has a second

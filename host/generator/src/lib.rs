@@ -16,7 +16,7 @@ mod table;
 
 pub use carries::{branching, crowded, opponents, round_complete, round_of_loops, round_plan};
 pub use damage::{damaged, damaged_often, REFUSALS};
-pub use families::{chain, complete, copies, forced_ring, random, rings, watched_rings};
+pub use families::{chain, complete, copies, fans, forced_ring, random, rings, watched_rings};
 pub use lcg::Lcg;
 pub use plans::{largest_plan, strategy_plan, unfolded, Plan};
 pub use relations::relation;

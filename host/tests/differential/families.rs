@@ -4,7 +4,7 @@
 use crate::calls::{Call, Case};
 use crate::limits::{agree, exact_memory};
 use crate::repeats::all_calls_agree;
-use generator::{chain, random, rings, watched_rings, Lcg, Table};
+use generator::{chain, fans, random, rings, watched_rings, Lcg, Table};
 
 /// Pairwise coprime lengths.
 const TWO: [[usize; 2]; 6] = [[1, 2], [2, 3], [3, 2], [5, 8], [13, 9], [17, 19]];
@@ -66,6 +66,18 @@ fn several_rings_take_the_passes_of_each_pair() {
     }
     for lengths in [[19, 21, 22, 23], [2, 3, 7, 233]] {
         takes_many(&rings(&lengths), passes(&lengths));
+    }
+}
+
+/// A counter of 15 bits would take the second game's pass 1 for the last.
+#[test]
+fn one_pass_clears_more_marks_than_15_bits_count() {
+    for (sizes, cleared) in [(&[15; 16][..], 54_000), (&[64, 64, 96], 32_768)] {
+        let table = fans(sizes);
+        takes(&table, 2);
+        let alike = sizes.iter().sum::<usize>().pow(2) + sizes.len();
+        let marked = order(&table).actual().memory.marks.iter().filter(|&&mark| mark == 1).count();
+        assert_eq!(alike - marked, cleared);
     }
 }
 
