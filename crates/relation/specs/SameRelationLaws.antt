@@ -27,7 +27,7 @@ module _ {g h : List ℕ} (same : SameGame g h) (marks : List ℕ) where
       let kv : v < gameOf g .n = rw (game-n g) hv in
       let kw : w < gameOf g .n = rw (game-n g) hw in
       ap₂ (λ a b. relation (vertexCount g) marks v w & not (a & b))
-      (equalPriority-agree e e v w kv kw) (test-agree e e even (relation (vertexCount g) marks) v w kv kw)
+      (equalPriority-agree e v w kv kw) (test-agree e even (relation (vertexCount g) marks) v w kv kw)
       ∙ rw (same .vertices)
 
   same-firstFailing : firstFailing g marks ≡ firstFailing h marks

@@ -24,6 +24,7 @@ module _ {g h : List ℕ} (same : SameGame g h) where
   same-agree = record {
     size = same .vertices;
     priority = same .priorities;
+    apart = λ v w l k e. e;
     owner = λ v l. ap playerOf (same .owners v l);
     edge = λ v w l k. So-ext
         (λ t. let r = same .edges v w .0 (edge-out g v w t) in edge-in h v w (r .0) (r .1))

@@ -124,6 +124,7 @@ module _ (K : Game) (es : List (ℕ × ℕ)) where
     tableWords-agree = record {
       size = vertices-is;
       priority = λ v h. priority-is v (rw vertices-is at h);
+      apart = λ v w h k e. e;
       owner = λ v h. ap playerOf (owner-is v (rw vertices-is at h)) ∙ player-owner (K .owner v);
       edge = λ v w h k. So-ext
           (λ t. tableWords-edge v w .0 t .1 .along)

@@ -41,6 +41,8 @@ pub mod Carry
 pub mod CarryLaws
 pub mod CarryClassLaws
 pub mod KeptWinners
+pub mod ParityMap
+pub mod ParityMapLaws
 pub mod Agreement
 pub mod AgreementLaws
 pub mod PlanTest
