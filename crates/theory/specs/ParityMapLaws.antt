@@ -2,7 +2,7 @@
 use mathlib.Core.Path.{_≡_, refl, ap, ap₂, _∙_}
 use mathlib.Core.Bool.{Bool, not, So}
 use mathlib.Core.List.{List, [], _∷_}
-use Prim.Native.Nat.{ℕ, _+_, _-_, _%_, _≤_, min, max}
+use Prim.Native.Nat.{ℕ, _-_, _%_, _≤_, min, max}
 use native.Mathlib.Omega.{arith}
 use lib.Dec.{eqb}
 use Rattle.theory.specs.Game.{Player, even, odd, parity}
@@ -48,7 +48,3 @@ module _ (M : ℕ) (two : M % 2 ≡ 0) where
 
   pub lowest-highest : ParityMap (λ q. q ≤ M) min max (λ q. M - q)
   lowest-highest = record { within = λ x y h k. omega arith; joins = λ x y h k. omega arith; parity = λ x h. omega arith }
-
--- up by an even number
-pub parity-shift : (c : ℕ) → c % 2 ≡ 0 → ParityMap (λ q. Unit) min min (λ q. q + c)
-parity-shift c two = record { within = λ x y h k. tt; joins = λ x y h k. omega arith; parity = λ x h. omega arith }
