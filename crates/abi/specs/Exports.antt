@@ -9,7 +9,7 @@ use Rattle.classes.specs.ClassesCall.{ClassesCall}
 use Rattle.reduction.specs.TableCall.{TableCall}
 use Rattle.seed.specs.SeedCall.{SeedCall}
 use Rattle.carry.specs.CarryCall.{CarryCall, CarryClassCall}
-use Rattle.answer.specs.Fields.{orderFields, classesFields, tableFields, seedFields, carryFields, classCarryFields}
+use Rattle.answer.specs.Fields.{orderFields, classesFields, tableFields, fillFields, carryFields, classCarryFields}
 use Rattle.answer.specs.declared.RaskjomiAnswer.{RaskjomiAnswer}
 
 pub record OrderExport (game marks spare : List ℕ) (r : RaskjomiAnswer) (marks′ spare′ : List ℕ) : Type 0 where
@@ -29,7 +29,7 @@ pub record TableExport (K : Game → Game) (game marks spare classes output : Li
 
 pub record SeedExport (seed n d c : ℕ) (output : List ℕ) (r : RaskjomiAnswer) (output′ : List ℕ) : Type 0 where
   pub answer : Answer
-  pub fields : r ≡ seedFields answer
+  pub fields : r ≡ fillFields answer
   pub call : SeedCall seed n d c output answer output′
 
 pub record CarryExport (game : List ℕ) (player : ℕ) (plan : List ℕ) (vertex : ℕ) (marks spare output : List ℕ) (r : RaskjomiAnswer)

@@ -4,9 +4,9 @@ use answer::of_acceptance;
 use answer::of_carrying;
 use answer::of_class_carrying;
 use answer::of_classification;
+use answer::of_filling;
 use answer::of_ordering;
 use answer::of_reading;
-use answer::of_seeding;
 use answer::of_tabulation;
 ghost use mathlib.Core.Path.{_≡_};
 ghost use Rattle.theory.specs.Reduction.{quotient, reduced};
@@ -109,7 +109,7 @@ pub extern "C" fn raskjomi_seed(
 ) -> RaskjomiAnswer
     ensures { λ r. ⌜ SeedExport seed vertices degree priorities (now (output .entry)) r (now (output .exit)) ⌝ }
 {
-    of_seeding(seed::write_seeded(seed, vertices, degree, priorities, output))
+    of_filling(seed::write_seeded(seed, vertices, degree, priorities, output))
 }
 
 // A plan on the game, carried to the vertex, into output; and the order.

@@ -4,8 +4,8 @@ use Prim.Native.Nat.{ℕ, _<_}
 use lib.ListN.{getD}
 use Rattle.table.specs.Verdict.{Answer, accepted, refused}
 use Rattle.table.specs.declared.Reading.{Reading}
+use Rattle.table.specs.declared.Filling.{Filling}
 use Rattle.table.specs.declared.Reading.the-variants.{Accepted, Refused}
-use Rattle.seed.specs.declared.Seeding.{Seeding}
 use Rattle.classes.specs.declared.Classification.{Classification}
 use Rattle.reduction.specs.declared.Tabulation.{Tabulation}
 use Rattle.arrival.specs.declared.Carrying.{Carrying}
@@ -68,9 +68,9 @@ tableFields (accepted counts) = counted 0 (getD counts 0 0) (getD counts 1 0) (g
 tableFields (refused number place) = turnedDown number place
 
 -- games by the seed: n and m
-abbrev pub seedFields : Answer → RaskjomiAnswer
-seedFields (accepted counts) = counted 0 0 (getD counts 0 0) (getD counts 1 0) 0 0 0
-seedFields (refused number place) = turnedDown number place
+abbrev pub fillFields : Answer → RaskjomiAnswer
+fillFields (accepted counts) = counted 0 0 (getD counts 0 0) (getD counts 1 0) 0 0 0
+fillFields (refused number place) = turnedDown number place
 
 -- a plan that is carried: its positions and links
 abbrev pub carryFields : Answer → RaskjomiAnswer
@@ -87,10 +87,10 @@ abbrev pub SmallSizes : Reading → Type 0
 SmallSizes (Accepted sizes) = (sizes .vertices < 4294967296) × (sizes .edges < 4294967296) × (sizes .different < 4294967296)
 SmallSizes (Refused refusal) = Unit
 
--- the same of a seeded table's counts
-abbrev pub SmallSeeding : Seeding → Type 0
-SmallSeeding (Seeding.Accepted counts) = (counts .vertices < 4294967296) × (counts .edges < 4294967296)
-SmallSeeding (Seeding.Refused refusal) = Unit
+-- the same of the counts of a table that is filled
+abbrev pub SmallFilling : Filling → Type 0
+SmallFilling (Filling.Accepted counts) = (counts .vertices < 4294967296) × (counts .edges < 4294967296)
+SmallFilling (Filling.Refused refusal) = Unit
 
 -- the same of a class count, and of a table's counts
 abbrev pub SmallCount : Classification → Type 0

@@ -24,20 +24,21 @@ use Rattle.table.specs.Reading.{gameRows, readAnswer, readingAnswer}
 use Rattle.table.specs.ReadingLaws.{reading-accepted, clean-well}
 use Rattle.table.specs.TableLaws.{edges-listed}
 use Rattle.table.specs.declared.Reading.{Reading}
+use Rattle.table.specs.Filling.{fillingAnswer}
+use Rattle.table.specs.declared.Filling.{Filling}
 use Rattle.table.specs.declared.Reading.the-variants.{Accepted, Refused}
 use Rattle.classes.specs.ClassesCall.{classRows, classTotal, classesAnswer, classificationAnswer, ClassesCall}
 use Rattle.classes.specs.declared.Classification.{Classification}
 use Rattle.reduction.specs.TableCall.{tableRows, classTable, tabulationAnswer, TableCall}
 use Rattle.reduction.specs.declared.Tabulation.{Tabulation}
-use Rattle.seed.specs.SeedCall.{seedingAnswer, SeedCall}
+use Rattle.seed.specs.SeedCall.{SeedCall}
 use Rattle.seed.specs.SeedRulesLaws.{seed-accepted}
-use Rattle.seed.specs.declared.Seeding.{Seeding}
 use Rattle.plan.specs.Acceptance.{planRows}
 use Rattle.arrival.specs.PlanWords.{sizeRows, carriedRows, carryingAnswer}
 use Rattle.arrival.specs.declared.Carrying.{Carrying}
 use Rattle.carry.specs.CarryCall.{judgedRows, carryRows, carryClassRows, classCarryingAnswer, CarryCall, CarryClassCall}
 use Rattle.carry.specs.declared.ClassCarrying.{ClassCarrying}
-use Rattle.answer.specs.Fields.{SmallSizes, SmallSeeding, SmallCount, SmallCounts, SmallCarrying, SmallClassCarrying}
+use Rattle.answer.specs.Fields.{SmallSizes, SmallFilling, SmallCount, SmallCounts, SmallCarrying, SmallClassCarrying}
 
 first-count : {x y : ℕ} {xs ys : List ℕ} → x ∷ xs ≡ y ∷ ys → x ≡ y
 first-count {x} e = ap (λ (l : List ℕ). getD l 0 x) e
@@ -64,11 +65,11 @@ reading-small g (Accepted sizes) e =
 reading-small g (Refused refusal) e = tt
 
 -- a seeded table is within the limits
-pub seeding-small : (s n d c : ℕ) (output : List ℕ) (t : Seeding) (output′ : List ℕ) → SeedCall s n d c output (seedingAnswer t) output′ → SmallSeeding t
-seeding-small s n d c output (Seeding.Accepted counts) output′ call =
+pub seeding-small : (s n d c : ℕ) (output : List ℕ) (t : Filling) (output′ : List ℕ) → SeedCall s n d c output (fillingAnswer t) output′ → SmallFilling t
+seeding-small s n d c output (Filling.Accepted counts) output′ call =
     let a = seed-accepted n d c output _ (sym (call .verdict)) in
     (omega (arith, first-count (a .1), a .0 .numbers .vertices .few), omega (arith, second-count (a .1), a .0 .numbers .edges))
-seeding-small s n d c output (Seeding.Refused refusal) output′ call = tt
+seeding-small s n d c output (Filling.Refused refusal) output′ call = tt
 
 -- ---- class counts
 

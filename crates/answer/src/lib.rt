@@ -4,20 +4,20 @@ use carry::ClassCarrying;
 use classes::Classification;
 use order::Ordering;
 use reduction::Tabulation;
-use seed::Seeding;
 use table::Acceptance;
+use table::Filling;
 use table::Reading;
 use table::Refusal;
 ghost use mathlib.Core.Path.{_≡_};
 ghost use Rattle.table.specs.Reading.{readingAnswer};
 ghost use Rattle.table.specs.Acceptance.{acceptanceAnswer};
+ghost use Rattle.table.specs.Filling.{fillingAnswer};
 ghost use Rattle.order.specs.OrderCall.{orderingAnswer};
 ghost use Rattle.classes.specs.ClassesCall.{classificationAnswer};
 ghost use Rattle.reduction.specs.TableCall.{tabulationAnswer};
-ghost use Rattle.seed.specs.SeedCall.{seedingAnswer};
 ghost use Rattle.arrival.specs.PlanWords.{carryingAnswer};
 ghost use Rattle.carry.specs.CarryCall.{classCarryingAnswer};
-ghost use Rattle.answer.specs.Fields.{counted, turnedDown, readFields, orderFields, acceptFields, classesFields, tableFields, seedFields, carryFields, classCarryFields, SmallSizes, SmallSeeding, SmallCount, SmallCounts, SmallCarrying, SmallClassCarrying};
+ghost use Rattle.answer.specs.Fields.{counted, turnedDown, readFields, orderFields, acceptFields, classesFields, tableFields, fillFields, carryFields, classCarryFields, SmallSizes, SmallFilling, SmallCount, SmallCounts, SmallCarrying, SmallClassCarrying};
 
 // Number 0 for accepted, with the counts of the call; otherwise the refusal. All other fields are 0.
 #[repr(C)]
@@ -137,15 +137,15 @@ pub fn of_tabulation(tabulation: Tabulation) -> RaskjomiAnswer
     }
 }
 
-pub fn of_seeding(seeding: Seeding) -> RaskjomiAnswer
-    requires { ⌜ SmallSeeding seeding ⌝ }
-    ensures { λ r. ⌜ r ≡ seedFields (seedingAnswer seeding) ⌝ }
+pub fn of_filling(filling: Filling) -> RaskjomiAnswer
+    requires { ⌜ SmallFilling filling ⌝ }
+    ensures { λ r. ⌜ r ≡ fillFields (fillingAnswer filling) ⌝ }
 {
-    match seeding {
-        Seeding::Accepted(counts) => {
+    match filling {
+        Filling::Accepted(counts) => {
             accepted(0, 0, counts.vertices as u32, counts.edges as u32, 0, 0, 0)
         }
-        Seeding::Refused(refusal) => refused(refusal),
+        Filling::Refused(refusal) => refused(refusal),
     }
 }
 

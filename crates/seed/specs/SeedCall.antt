@@ -7,10 +7,8 @@ use lib.Dec.{eqb, ltb}
 use Rattle.theory.specs.Bools.{_or_}
 use Rattle.table.specs.Limits.{vertexLimit, edgeLimit}
 use Rattle.table.specs.Table.{tableLength}
-use Rattle.table.specs.Verdict.{Row, row, memoryRow, Answer, accepted, refused, judge, after}
+use Rattle.table.specs.Verdict.{Row, row, memoryRow, Answer, judge, after}
 use Rattle.seed.specs.SeedTable.{seedTable}
-use Rattle.seed.specs.declared.Seeding.{Seeding}
-use Rattle.seed.specs.declared.Seeding.the-variants.{Accepted, Refused}
 
 -- "a degree d from 1 to 16 and a priority count c from 1 to 65,535"
 abbrev pub degreeLimit : ℕ
@@ -34,11 +32,6 @@ seedRows n d c output = row 31 (unfit n d c) 0 ∷ memoryRow 32 (tableLength n (
 -- accepted with n and m
 unfoldable pub seedAnswer : ℕ → ℕ → ℕ → List ℕ → Answer
 seedAnswer n d c output = judge (seedRows n d c output) (n ∷ n * d ∷ [])
-
--- what the cases of the verdict say
-abbrev pub seedingAnswer : Seeding → Answer
-seedingAnswer (Accepted t) = accepted (t .vertices ∷ t .edges ∷ [])
-seedingAnswer (Refused f) = refused (f .number) (f .place)
 
 -- The promise: the verdict, and every lent word.
 pub record SeedCall (s n d c : ℕ) (output : List ℕ) (answer : Answer) (output′ : List ℕ) : Type 0 where

@@ -2,26 +2,19 @@
 mod generator;
 mod writing;
 
+use table::FilledSizes;
+use table::Filling;
 use table::Refusal;
 use table::limits::EDGES;
 use table::limits::VERTICES;
 ghost use mathlib.Core.Path.{_≡_};
-ghost use Rattle.seed.specs.SeedCall.{outside, unfit, seedingAnswer, SeedCall};
+ghost use Rattle.table.specs.Filling.{fillingAnswer};
+ghost use Rattle.seed.specs.SeedCall.{outside, unfit, SeedCall};
 
 // The largest degree and the largest count of priorities.
 pub const DEGREES: usize = 16;
 
 pub const PRIORITIES: usize = 65535;
-
-pub struct SeedCounts {
-    pub vertices: usize,
-    pub edges: usize,
-}
-
-pub enum Seeding {
-    Accepted(SeedCounts),
-    Refused(Refusal),
-}
 
 // Whether x isn't 1 to `limit`.
 fn is_outside(x: u32, limit: usize) -> bool
@@ -53,11 +46,11 @@ pub fn write_seeded(
     degree: u32,
     priorities: u32,
     output: &mut [u16],
-) -> Seeding
-    ensures { λ r. ⌜ SeedCall seed vertices degree priorities (now (output .entry)) (seedingAnswer r) (now (output .exit)) ⌝ }
+) -> Filling
+    ensures { λ r. ⌜ SeedCall seed vertices degree priorities (now (output .entry)) (fillingAnswer r) (now (output .exit)) ⌝ }
 {
     if is_unfit(vertices, degree, priorities) {
-        return Seeding::Refused(Refusal {
+        return Filling::Refused(Refusal {
             number: 31,
             place: 0,
         });
@@ -67,13 +60,13 @@ pub fn write_seeded(
     let m = n * d;
     let needed = 2 + 2 * n + 2 * m;
     if output.len() < needed {
-        return Seeding::Refused(Refusal {
+        return Filling::Refused(Refusal {
             number: 32,
             place: needed,
         });
     }
     writing::write_table(seed, n, d, priorities, output);
-    Seeding::Accepted(SeedCounts {
+    Filling::Accepted(FilledSizes {
         vertices: n,
         edges: m,
     })

@@ -18,6 +18,7 @@ pub mod KindLaws
 pub mod Flags
 pub mod FlagsLaws
 pub mod Acceptance
+pub mod Filling
 pub mod ColumnsLaws
 pub mod TableWords
 pub mod TableWordsLaws

@@ -37,6 +37,17 @@ pub enum Acceptance {
     Refused(Refusal),
 }
 
+// Vertices and edges of a table that a call writes, where these are all its counts.
+pub struct FilledSizes {
+    pub vertices: usize,
+    pub edges: usize,
+}
+
+pub enum Filling {
+    Accepted(FilledSizes),
+    Refused(Refusal),
+}
+
 // Judges a game table: refusals 1 to 6 and 8 in order, each over the whole table before the next.
 pub fn read(game: &[u16]) -> Reading
     ensures { λ r. ⌜ readingAnswer r ≡ readAnswer (now (game .entry)) ⌝ }

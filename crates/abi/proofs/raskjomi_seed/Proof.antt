@@ -7,8 +7,8 @@ use Rattle.abi.proofs.raskjomi_seed.Tie as tie
 write-seeded-requires : tie.Need-write-seeded-requires
 write-seeded-requires c κs = search needs
 
-of-seeding-requires : tie.Need-of-seeding-requires
-of-seeding-requires c κs = seeding-small _ _ _ _ _ (c .before .before .write-seeded .result) _ (c .before .before .write-seeded .ensures)
+of-filling-requires : tie.Need-of-filling-requires
+of-filling-requires c κs = seeding-small _ _ _ _ _ (c .before .before .write-seeded .result) _ (c .before .before .write-seeded .ensures)
 
 same-length : tie.Need-same-length
 same-length c = search needs
@@ -18,4 +18,4 @@ returns c = search needs
 
 pub raskjomi-seed-spec : {M : Type 1} → statement M
 raskjomi-seed-spec =
-    tie.close (tie.spec write-seeded-requires of-seeding-requires same-length returns)
+    tie.close (tie.spec write-seeded-requires of-filling-requires same-length returns)
