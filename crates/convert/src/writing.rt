@@ -1,0 +1,75 @@
+// The highest priority, and the words of the table that is written. Parts of the call; no host calls these.
+use table::words;
+ghost use mathlib.Core.Path.{_≡_};
+ghost use Prim.Native.Nat.{_+_, _-_, _≤_};
+ghost use lib.ListN.{length};
+ghost use Rattle.theory.specs.Range.{tabulate};
+ghost use Rattle.table.specs.Table.{vertexCount, tableEdges, priorityAt, tableLength};
+ghost use Rattle.table.specs.Verdict.{written};
+ghost use Rattle.table.specs.WellFormed.{WellFormed};
+ghost use Rattle.table.specs.Placing.{placed};
+ghost use Rattle.convert.specs.LowestTable.{highestOf, highest, evenFrom, evenAbove, lowestTable};
+ghost use Rattle.convert.specs.ConvertCall.{firstOversize};
+ghost use Rattle.convert.specs.Room.{Room};
+
+// The highest priority.
+pub fn highest_priority(game: &[u16], n: usize) -> u16
+    requires { ⌜ 2 + n ≤ length (now game) ⌝ }
+    ensures { λ r. ⌜ r ≡ highestOf n (priorityAt (now (game .entry))) ⌝ }
+{
+    let mut highest = 0;
+    let mut v = 0;
+    while v < n {
+        if highest < game[2 + v] {
+            highest = game[2 + v];
+        }
+        v += 1;
+    }
+    highest
+}
+
+// The smallest even number not below q.
+pub fn even_from(q: u16) -> usize
+    ensures { λ r. ⌜ r ≡ evenFrom q ⌝ }
+{
+    q as usize + q as usize % 2
+}
+
+// 36: the first word of a priority 0, where the highest is 65,535.
+pub fn first_oversize(game: &[u16], n: usize, most: u16) -> usize
+    requires { ⌜ (n ≡ vertexCount (now game)) × (most ≡ highest (now game)) × (2 + n ≤ length (now game)) ⌝ }
+    ensures { λ r. ⌜ r ≡ firstOversize (now (game .entry)) ⌝ }
+{
+    let mut k = 2;
+    while k < 2 + n {
+        if most == 65535 && game[k] == 0 {
+            return k;
+        }
+        k += 1;
+    }
+    k
+}
+
+// Writes even − q for each priority q.
+fn write_priorities(game: &[u16], n: usize, even: usize, output: &mut [u16])
+    requires { ⌜ (2 + n ≤ length (now game)) × (2 + n ≤ length (now output)) × Room n even (now game) ⌝ }
+    ensures { λ r. ⌜ now (output .exit) ≡ placed 2 (tabulate n (λ v. even - priorityAt (now (game .entry)) v)) (now (output .entry)) ⌝ }
+{
+    let mut v = 0;
+    while v < n {
+        output[2 + v] = (even - game[2 + v] as usize) as u16;
+        v += 1;
+    }
+}
+
+// Writes the table: its sizes, the new priorities, and all other words as they stand.
+pub fn write_table(game: &[u16], n: usize, m: usize, even: usize, output: &mut [u16])
+    requires { ⌜ WellFormed (now game) × (n ≡ vertexCount (now game)) × (m ≡ tableEdges (now game)) × (even ≡ evenAbove (now game)) ⌝ }
+    requires { ⌜ (tableLength n m ≤ length (now output)) × Room n even (now game) ⌝ }
+    ensures { λ r. ⌜ now (output .exit) ≡ written (lowestTable (now (game .entry))) (now (output .entry)) ⌝ }
+{
+    output[0] = n as u16;
+    output[1] = m as u16;
+    write_priorities(game, n, even, output);
+    words::copy(output, 2 + n, &game[2 + n..], n + 2 * m);
+}
