@@ -8,6 +8,7 @@ use Rattle.order.specs.OrderCall.{OrderCall}
 use Rattle.classes.specs.ClassesCall.{ClassesCall}
 use Rattle.reduction.specs.TableCall.{TableCall}
 use Rattle.seed.specs.SeedCall.{SeedCall}
+use Rattle.convert.specs.ConvertCall.{ConvertCall}
 use Rattle.carry.specs.CarryCall.{CarryCall, CarryClassCall}
 use Rattle.answer.specs.Fields.{orderFields, classesFields, tableFields, fillFields, carryFields, classCarryFields}
 use Rattle.answer.specs.declared.RaskjomiAnswer.{RaskjomiAnswer}
@@ -31,6 +32,11 @@ pub record SeedExport (seed n d c : ℕ) (output : List ℕ) (r : RaskjomiAnswer
   pub answer : Answer
   pub fields : r ≡ fillFields answer
   pub call : SeedCall seed n d c output answer output′
+
+pub record ConvertExport (game output : List ℕ) (r : RaskjomiAnswer) (output′ : List ℕ) : Type 0 where
+  pub answer : Answer
+  pub fields : r ≡ fillFields answer
+  pub call : ConvertCall game output answer output′
 
 pub record CarryExport (game : List ℕ) (player : ℕ) (plan : List ℕ) (vertex : ℕ) (marks spare output : List ℕ) (r : RaskjomiAnswer)
     (marks′ spare′ output′ : List ℕ) : Type 0 where

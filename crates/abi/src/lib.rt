@@ -15,7 +15,7 @@ ghost use Rattle.table.specs.Kind.{kindOf};
 ghost use Rattle.relation.specs.RelationCall.{relationAnswer};
 ghost use Rattle.plan.specs.Acceptance.{planAnswer};
 ghost use Rattle.answer.specs.Fields.{readFields, acceptFields};
-ghost use Rattle.abi.specs.Exports.{OrderExport, ClassesExport, TableExport, SeedExport, CarryExport, CarryClassExport};
+ghost use Rattle.abi.specs.Exports.{OrderExport, ClassesExport, TableExport, SeedExport, ConvertExport, CarryExport, CarryClassExport};
 
 // The kind of a refusal number.
 #[no_mangle]
@@ -110,6 +110,14 @@ pub extern "C" fn raskjomi_seed(
     ensures { λ r. ⌜ SeedExport seed vertices degree priorities (now (output .entry)) r (now (output .exit)) ⌝ }
 {
     of_filling(seed::write_seeded(seed, vertices, degree, priorities, output))
+}
+
+// A game where the highest priority decides, as a table where the lowest does.
+#[no_mangle]
+pub extern "C" fn raskjomi_convert(game: &[u16], output: &mut [u16]) -> RaskjomiAnswer
+    ensures { λ r. ⌜ ConvertExport (now (game .entry)) (now (output .entry)) r (now (output .exit)) ⌝ }
+{
+    of_filling(convert::write_lowest(game, output))
 }
 
 // A plan on the game, carried to the vertex, into output; and the order.

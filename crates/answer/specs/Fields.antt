@@ -67,7 +67,7 @@ abbrev pub tableFields : Answer → RaskjomiAnswer
 tableFields (accepted counts) = counted 0 (getD counts 0 0) (getD counts 1 0) (getD counts 2 0) 0 0 0
 tableFields (refused number place) = turnedDown number place
 
--- games by the seed: n and m
+-- games by the seed, and converted games: n and m
 abbrev pub fillFields : Answer → RaskjomiAnswer
 fillFields (accepted counts) = counted 0 0 (getD counts 0 0) (getD counts 1 0) 0 0 0
 fillFields (refused number place) = turnedDown number place

@@ -33,6 +33,8 @@ use Rattle.reduction.specs.TableCall.{tableRows, classTable, tabulationAnswer, 
 use Rattle.reduction.specs.declared.Tabulation.{Tabulation}
 use Rattle.seed.specs.SeedCall.{SeedCall}
 use Rattle.seed.specs.SeedRulesLaws.{seed-accepted}
+use Rattle.convert.specs.ConvertCall.{ConvertCall}
+use Rattle.convert.specs.ConvertRulesLaws.{convert-accepted}
 use Rattle.plan.specs.Acceptance.{planRows}
 use Rattle.arrival.specs.PlanWords.{sizeRows, carriedRows, carryingAnswer}
 use Rattle.arrival.specs.declared.Carrying.{Carrying}
@@ -70,6 +72,13 @@ seeding-small s n d c output (Filling.Accepted counts) output′ call =
     let a = seed-accepted n d c output _ (sym (call .verdict)) in
     (omega (arith, first-count (a .1), a .0 .numbers .vertices .few), omega (arith, second-count (a .1), a .0 .numbers .edges))
 seeding-small s n d c output (Filling.Refused refusal) output′ call = tt
+
+-- a converted table is as large as the game
+pub converting-small : (game output : List ℕ) (t : Filling) (output′ : List ℕ) → ConvertCall game output (fillingAnswer t) output′ → SmallFilling t
+converting-small game output (Filling.Accepted counts) output′ call =
+    let a = convert-accepted call _ refl in
+    (omega (arith, first-count (a .1), a .0 .well .vertices), omega (arith, second-count (a .1), a .0 .well .edges))
+converting-small game output (Filling.Refused refusal) output′ call = tt
 
 -- ---- class counts
 
