@@ -82,6 +82,10 @@ extern "C" {
         seed: u32, vertices: u32, degree: u32, priorities: u32,
         output: *mut u16, output_len: usize,
     ) -> RaskjomiAnswer;
+    fn raskjomi_convert(
+        game: *const u16, game_len: usize,
+        output: *mut u16, output_len: usize,
+    ) -> RaskjomiAnswer;
     fn raskjomi_kind(number: u32) -> u32;
 }
 
@@ -196,6 +200,11 @@ pub fn seed(
     let (pointer, length) = (output.as_mut_ptr(), output.len());
     // SAFETY: as in `call!`; the numbers go before the slice.
     unsafe { raskjomi_seed(seed, vertices, degree, priorities, pointer, length) }
+}
+
+/// A game where the highest priority decides, as one where the lowest does.
+pub fn convert(game: &[u16], output: &mut [u16]) -> RaskjomiAnswer {
+    call!(raskjomi_convert; shared game; lent output)
 }
 
 /// The kind of a refusal number.

@@ -1,13 +1,14 @@
 //! Safe calls of a proved reducer of parity games.
 //!
 //! A game has at most 256 vertices and 4,096 edges. The lowest priority seen for ever decides a play,
-//! and even favours Even; where a tool lets the highest decide, its winners differ.
+//! and even favours Even; a game of a tool that lets the highest decide goes through [`convert`] first.
 //!
 //! A parity game is lent as a table of 16-bit words: the numbers n of vertices and m of edges, then
 //! n priorities, n owners (0 [`EVEN`], 1 [`ODD`]), m sources and m targets. An edge may stand there
 //! several times; it counts as one, though m and all lengths count it each time. The library judges
 //! such tables, writes their direct simulation order, classes, quotient and reduced game, judges
-//! foreign relations and winning plans, carries a plan to another vertex, and draws games by a seed.
+//! foreign relations and winning plans, carries a plan to another vertex, draws games by a seed, and
+//! converts games where the highest priority decides.
 //! Every call works in memory that the caller lends, of any length and content. docs/CONTRACT.md in
 //! the repository has the definitions, each call's checks in order, every refusal, and what each buffer
 //! holds afterwards.
@@ -100,6 +101,11 @@ fn size(answer: RaskjomiAnswer, different: u32) -> Size {
 /// The size of a table that a call has written: each edge stands there once.
 fn written(answer: RaskjomiAnswer) -> Size {
     size(answer, answer.edges)
+}
+
+/// The numbers of vertices and of edges in a table that a call has filled.
+fn filled(answer: RaskjomiAnswer) -> (usize, usize) {
+    (answer.vertices as usize, answer.edges as usize)
 }
 
 /// The size of a plan that a call has written.
@@ -330,6 +336,28 @@ pub fn seed(
     priorities: u32,
     output: &mut [u16],
 ) -> Result<(usize, usize), Refusal> {
-    verdict(exports::seed(seed, vertices, degree, priorities, output))
-        .map(|answer| (answer.vertices as usize, answer.edges as usize))
+    verdict(exports::seed(seed, vertices, degree, priorities, output)).map(filled)
+}
+
+/// Converts a game where the highest priority seen for ever decides into a table where the lowest does,
+/// for all other calls. With M the smallest even number not below the highest priority, each priority q
+/// becomes M − q; owners and edges are copied as they stand, repeats too, so the output needs as many
+/// words as the table has. A plan wins by "highest" on the table read exactly if it wins by "lowest" on
+/// the table written, for the same player; order, classes and the edges between classes are the same.
+/// Gives the numbers of vertices and of edges in the table.
+///
+/// ```
+/// // Priorities 3 and 0, so M is 4.
+/// let game = [2, 2, 3, 0, 0, 1, 0, 1, 1, 0];
+/// let mut output = [0; 10];
+/// assert_eq!(raskjomi::convert(&game, &mut output)?, (2, 2));
+/// assert_eq!(output, [2, 2, 1, 4, 0, 1, 0, 1, 1, 0]);
+/// // 65,536 − 0 fits no word.
+/// let large = [2, 2, 65_535, 0, 0, 0, 0, 1, 1, 0];
+/// let refused = raskjomi::convert(&large, &mut output).unwrap_err();
+/// assert_eq!((refused.number, refused.place), (36, 3));
+/// # Ok::<(), raskjomi::Refusal>(())
+/// ```
+pub fn convert(game: &[u16], output: &mut [u16]) -> Result<(usize, usize), Refusal> {
+    verdict(exports::convert(game, output)).map(filled)
 }

@@ -127,6 +127,7 @@ pub fn explain(number: u32) -> Option<Explanation> {
         21..=24 => &MEMORY[number as usize - 21],
         31..=32 => &SEED[number as usize - 31],
         33..=35 => &CARRY[number as usize - 33],
+        36 => &OVERSIZE,
         _ => return None,
     };
     Some(*row)
@@ -258,3 +259,9 @@ const CARRY: [Explanation; 3] = [
         "lend at least so many words; 36,866 always suffice",
     ),
 ];
+
+const OVERSIZE: Explanation = row(
+    "the highest priority is 65,535 and this one is 0: converted, it would be 65,536, which fits no word",
+    "the word of the first priority 0",
+    "number the priorities in use anew, in the same sequence and each with its parity, below 65,535",
+);

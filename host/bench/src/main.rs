@@ -68,6 +68,8 @@ impl Memory {
 
 /// A call that draws a game.
 type Seed = fn(u32, u32, u32, u32, &mut [u16]) -> RaskjomiAnswer;
+/// A call that converts a game.
+type Convert = fn(&[u16], &mut [u16]) -> RaskjomiAnswer;
 
 /// The first side of a comparison. The second is the baseline, and the reduction has a third, whose order
 /// goes by plain passes.
@@ -85,6 +87,7 @@ const ACCEPT_PLAN: [AcceptPlan; 2] = [exports::accept_plan, baseline::accept_pla
 const CARRY: [Carry; 2] = [exports::carry, baseline::carry];
 const CARRY_CLASS: [CarryClass; 2] = [exports::carry_class, baseline::carry_class];
 const SEED: [Seed; 2] = [exports::seed, baseline::seed];
+const CONVERT: [Convert; 2] = [exports::convert, baseline::convert];
 
 /// What all sides answer, their best times, and the library's stack.
 struct Sides<const N: usize> {
@@ -158,6 +161,10 @@ fn seed_figures([seed, n, degree, priorities]: [u32; 4], words: usize) -> Figure
     figures(vec![7; words], |side, output| SEED[side](seed, n, degree, priorities, output)).0
 }
 
+fn convert_figures(game: &[u16]) -> Figures {
+    figures(vec![7; game.len()], |side, output| CONVERT[side](game, output)).0
+}
+
 /// A line of the table.
 fn line(cells: [&str; 10]) -> String {
     let [name, n, m, passes, library, plain, to_plain, baseline, ratio, stack] = cells;
@@ -175,6 +182,7 @@ fn show(Row { name, game, work }: &Row) -> (f64, Option<f64>) {
         Work::Carry(plan) => carry_figures(game, plan, false),
         Work::CarryClass(plan) => carry_figures(game, plan, true),
         Work::Seed(numbers) => seed_figures(*numbers, game.len()),
+        Work::Convert => convert_figures(game),
     };
     let micros = |time: Duration| format!("{:.1}", time.as_secs_f64() * 1e6);
     let ratio_to = |time: Duration| library.as_secs_f64() / time.as_secs_f64();

@@ -17,6 +17,8 @@ pub enum Work {
     Carry(Vec<u16>),
     /// The same from the reduced game.
     CarryClass(Vec<u16>),
+    /// The game, converted.
+    Convert,
     /// The game by a seed, of so many vertices, edges out of each, and priorities.
     Seed([u32; 4]),
 }
@@ -55,7 +57,7 @@ fn carried(n: usize, round: usize) -> [Row; 2] {
 }
 
 /// All rows: random games, a chain, the largest plan, plans carried to the limits, the largest game by a
-/// seed, and rings of coprime lengths.
+/// seed, the largest game converted, and rings of coprime lengths.
 pub fn rows() -> Vec<Row> {
     let mut lcg = Lcg::new(2024);
     let mut rows = Vec::new();
@@ -71,6 +73,8 @@ pub fn rows() -> Vec<Row> {
     rows.push(Row { name: "largest plan".into(), game: game.words(), work });
     rows.extend([carried(4, 1024), carried(64, 4)].into_iter().flatten());
     rows.push(Row::seed([1, 256, 16, 8]));
+    let game = random(&mut lcg, 256, 4096, 8).words();
+    rows.push(Row { name: "convert".into(), game, work: Work::Convert });
     rows.push(Row::reduce("two rings", rings(&[127, 128])));
     rows.push(Row::reduce("four rings", rings(&[59, 61, 62, 63])));
     for (player, owner) in [(0, "Even"), (1, "Odd")] {

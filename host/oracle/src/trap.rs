@@ -131,6 +131,21 @@ pub enum Trap {
     /// A draw is the low half of the state.
     LowHalfDrawn,
 
+    /// A converted priority is counted down from the highest, even or odd.
+    HighestItself,
+    /// A converted priority is counted down from the next even number but one.
+    EvenTooLarge,
+    /// A highest priority of 65,535 is refused whatever the others are.
+    AnyOversize,
+    /// A priority 0 that doesn't fit is named by its vertex.
+    OversizeAsVertex,
+    /// The priorities are checked before the output's length.
+    OversizeBeforeLength,
+    /// The players are exchanged where the priorities are turned over.
+    OwnersTurned,
+    /// A converted table has each edge once.
+    RepeatsDropped,
+
     /// Numbers between two ranges have the kind of the range below.
     KindsWithoutGaps,
     /// The report drops a last half word.
@@ -143,7 +158,7 @@ pub enum Trap {
 
 impl Trap {
     /// Every trap, those of document 01 first.
-    pub const ALL: [Trap; 64] = [
+    pub const ALL: [Trap; 71] = [
         Trap::SomeMemberHasEdge,
         Trap::LittleBrothersByProse,
         Trap::MixedRowsExchanged,
@@ -204,6 +219,13 @@ impl Trap {
         Trap::LastVertexNoTarget,
         Trap::OldStateDrawn,
         Trap::LowHalfDrawn,
+        Trap::HighestItself,
+        Trap::EvenTooLarge,
+        Trap::AnyOversize,
+        Trap::OversizeAsVertex,
+        Trap::OversizeBeforeLength,
+        Trap::OwnersTurned,
+        Trap::RepeatsDropped,
         Trap::KindsWithoutGaps,
         Trap::HalfWordDropped,
         Trap::ReportUnlimited,

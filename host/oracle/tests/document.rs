@@ -190,6 +190,19 @@ fn games_by_the_seed() {
     assert_eq!(memory.output, table);
 }
 
+#[test]
+fn converted_games() {
+    let mut memory = Memory { output: vec![7; 11], ..Memory::default() };
+    let answer = Oracle::exact().convert(&[2, 2, 3, 0, 0, 1, 0, 1, 1, 0], &mut memory);
+    assert_eq!(answer, Answer { vertices: 2, edges: 2, ..Answer::default() });
+    assert_eq!(memory.output, [2, 2, 1, 4, 0, 1, 0, 1, 1, 0, 7]);
+    let large = [2, 2, 65_535, 0, 0, 1, 0, 1, 1, 0];
+    assert_eq!(Oracle::exact().convert(&large, &mut memory), refused(36, 3));
+    memory.output.truncate(9);
+    assert_eq!(Oracle::exact().convert(&large, &mut memory), refused(24, 10));
+    assert_eq!(Oracle::exact().convert(&[1, 0, 0, 0], &mut memory), refused(8, 0));
+}
+
 /// A carried plan's answer, and the words of its output; those beyond are old.
 fn carried(oracle: Oracle, row: &Carried) -> (Answer, Vec<u16>) {
     let Carried { class, game, player, plan, vertex, .. } = *row;

@@ -194,6 +194,25 @@ fn games_by_the_seed() {
 }
 
 #[test]
+fn converted_games() {
+    let c = shipped("c.txt");
+    let lowest = [&[5, 7, 2, 4, 4, 3, 0], &c[7..]].concat();
+    let text = run(&["convert", "games/c.txt"]).text();
+    let title =
+        "# games/c.txt, converted: the lowest priority decides; a priority p was 4 - p before\n";
+    assert!(text.starts_with(title), "{text}");
+    assert_eq!(numbers(&text), lowest);
+    let binary = run_on(&["convert", "--as", "words"], &bytes(&c)).bytes();
+    assert_eq!(words(&binary), lowest);
+    let back = run_on(&["convert", "-", "--as=words"], text.as_bytes()).bytes();
+    assert_eq!(words(&back), c, "converted twice; the lowest priority was 0");
+    let large = b"2 2 / 65535 1 / 0 0 / 0 1 / 1 0";
+    let text = run_on(&["convert"], large).text();
+    assert!(text.contains("a priority p was 65536 - p before"), "{text}");
+    assert_eq!(numbers(&text), [2, 2, 1, 65_535, 0, 0, 0, 1, 1, 0]);
+}
+
+#[test]
 fn shipped_plans_win() {
     for (game, plan) in [("c.txt", "c.plan.txt"), ("lift-doors.txt", "lift-doors.plan.txt")] {
         let words = ["check-plan", &path(game), &path(plan), "--player", "even"];
@@ -249,7 +268,7 @@ fn carried_plans_from_standard_input() {
 
 #[test]
 fn explain_each_number() {
-    for number in (1..=16).chain(21..=24).chain(31..=35) {
+    for number in (1..=16).chain(21..=24).chain(31..=36) {
         let text = run(&["explain", &number.to_string()]).text();
         let about = if number < 31 { "the " } else { "a later addition\n" };
         assert!(text.starts_with(&format!("refusal {number}, about {about}")), "{text}");
@@ -277,7 +296,7 @@ fn help_of_each_command_has_an_example_that_runs() {
     assert_eq!(run(&["help"]).text(), overview);
     let listed: Vec<&str> =
         overview.lines().filter_map(|line| line.strip_prefix("  ")?.split(' ').next()).collect();
-    assert_eq!(listed.len(), 11, "{listed:?}");
+    assert_eq!(listed.len(), 12, "{listed:?}");
     for command in listed {
         let help = run(&[command, "--help"]).text();
         assert_eq!(run(&["help", command]).text(), help);

@@ -25,6 +25,7 @@ fn commands_and_options() {
     }
     bad(&["dot", "--reduced", "--reduced"], &["--reduced is given twice"]);
     bad(&["order", "games/c.txt", "--as", "svg"], &["no form `svg`", "--as text"]);
+    bad(&["convert", "games/c.txt", "--as", "dot"], &["no form `dot`", "raskjomi dot"]);
     bad(&["check-plan", "a", "b"], &["no player", "--player even"]);
     bad(&["check-plan", "a", "b", "--player", "2"], &["no player `2`", "--player odd"]);
     bad(&["check-relation", "-", "-"], &["both inputs", "name a file"]);
@@ -35,10 +36,10 @@ fn commands_and_options() {
 fn numbers() {
     bad(&["explain"], &["arguments: 0 instead of 1"]);
     bad(&["explain", "-1"], &["no option -1"]);
-    for word in ["17", "0", "36", "x", "+8", "65544"] {
+    for word in ["17", "0", "37", "x", "+8", "65544"] {
         bad(
             &["explain", word],
-            &[&format!("`{word}` is no refusal number"), "1 to 16, 21 to 24 and 31 to 35"],
+            &[&format!("`{word}` is no refusal number"), "1 to 16, 21 to 24 and 31 to 36"],
         );
     }
     for vertex in ["3", "x", "-1", "+1", ""] {

@@ -151,3 +151,15 @@ fn games_by_the_seed() {
         assert_eq!(run(&["seed", "7", n, degree, priorities]).fails(1, &parts), "");
     }
 }
+
+#[test]
+fn games_that_are_not_converted() {
+    let large = file("not-converted.txt", b"2 2\n65535 0 / 0 0 / 0 1 / 1 0");
+    let parts = [
+        "not-converted.txt: line 2, word 2 (vertex 1): refused 36 at 3: ",
+        "; number the priorities in use anew, ",
+    ];
+    assert_eq!(run(&["convert", &large]).fails(1, &parts), "", "no table is written");
+    let parts = ["standard input: line 1, word 4 (owner 2): refused 5 at 3: "];
+    assert_eq!(run_on(&["convert"], b"1 1 / 0 2 / 0 0").fails(1, &parts), "");
+}

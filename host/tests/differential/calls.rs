@@ -14,6 +14,7 @@ pub enum Call {
     Classes,
     Quotient,
     Reduce,
+    Convert,
     AcceptPlan,
     Carry,
     CarryClass,
@@ -22,13 +23,14 @@ pub enum Call {
 
 impl Call {
     /// The calls on a game and lent memory.
-    pub const ON_MEMORY: [Call; 6] = [
+    pub const ON_MEMORY: [Call; 7] = [
         Call::Read,
         Call::Order,
         Call::AcceptRelation,
         Call::Classes,
         Call::Quotient,
         Call::Reduce,
+        Call::Convert,
     ];
 
     /// The calls that carry a plan.
@@ -49,6 +51,7 @@ impl Call {
             Call::AcceptRelation => &[9..=10, 21..=21],
             Call::Classes => &[21..=23],
             Call::Quotient | Call::Reduce => &[21..=24],
+            Call::Convert => &[24..=24, 36..=36],
             Call::AcceptPlan => &[11..=16],
             Call::Carry => &[11..=16, 21..=22, 33..=35],
             Call::CarryClass => &[11..=16, 21..=24, 33..=35],
@@ -120,6 +123,7 @@ impl Case {
             Call::Classes => oracle.classes(game, &mut memory),
             Call::Quotient => oracle.quotient(game, &mut memory),
             Call::Reduce => oracle.reduce(game, &mut memory),
+            Call::Convert => oracle.convert(game, &mut memory),
             Call::AcceptPlan => oracle.accept_plan(game, self.player, &self.plan),
             Call::Carry => oracle.carry(game, self.player, &self.plan, self.vertex, &mut memory),
             Call::CarryClass => {
@@ -148,6 +152,7 @@ impl Case {
             Call::Classes => exports::classes(game, m, s, c),
             Call::Quotient => exports::quotient(game, m, s, c, o),
             Call::Reduce => exports::reduce(game, m, s, c, o),
+            Call::Convert => exports::convert(game, o),
             Call::AcceptPlan => exports::accept_plan(game, player, plan),
             Call::Carry => exports::carry(game, player, plan, vertex, m, s, o),
             Call::CarryClass => exports::carry_class(game, player, plan, vertex, m, s, c, r, o),
@@ -178,7 +183,7 @@ impl Case {
             assert_eq!(size.different, size.edges, "each edge stands once");
             Answer { classes: size.vertices as u32, different: 0, ..of_size(size) }
         };
-        let of_seed = |(vertices, edges)| of_size(Size { vertices, edges, different: 0 });
+        let of_filled = |(vertices, edges)| of_size(Size { vertices, edges, different: 0 });
         let of_plan = |PlanSize { positions, links }| Answer {
             positions: positions as u32,
             links: links as u32,
@@ -199,6 +204,7 @@ impl Case {
             Call::Classes => raskjomi::classes(game, marks, spare, classes).map(of_classes),
             Call::Quotient => raskjomi::quotient(game, marks, spare, classes, output).map(of_table),
             Call::Reduce => raskjomi::reduce(game, marks, spare, classes, output).map(of_table),
+            Call::Convert => raskjomi::convert(game, output).map(of_filled),
             Call::AcceptPlan => {
                 raskjomi::accept_plan(game, player, plan).map(|()| Answer::default())
             }
@@ -211,7 +217,7 @@ impl Case {
             .map(of_both),
             Call::Seed => {
                 let [seed, n, degree, priorities] = self.seed;
-                raskjomi::seed(seed, n, degree, priorities, output).map(of_seed)
+                raskjomi::seed(seed, n, degree, priorities, output).map(of_filled)
             }
         };
         let refused = |Refusal { number, place }| Answer { number, place, ..Answer::default() };

@@ -7,6 +7,7 @@ mod common;
 mod agreement;
 mod calls;
 mod carries;
+mod conversions;
 mod families;
 mod limits;
 mod repeats;

@@ -142,6 +142,21 @@ pub fn case_of_seed(lcg: &mut Lcg, most: usize) -> Case {
     Case::of_seed(numbers, old_words(lcg, 2 + 2 * n + 2 * n * degree.min(16)))
 }
 
+/// The conversion of a game whose priorities are the lowest and the highest that there are.
+fn case_of_conversion(lcg: &mut Lcg, most: usize) -> Case {
+    let table = extreme(lcg, most);
+    Case::on_memory(Call::Convert, &table.words(), memory(lcg, &table))
+}
+
+/// A game with priorities near 0 and near 65,535; in many the highest is 65,535, and in many of these no
+/// priority is 0.
+pub fn extreme(lcg: &mut Lcg, most: usize) -> Table {
+    let mut table = any_game(lcg, most);
+    let (low, high) = (lcg.pick(&[0, 1, 2]), lcg.pick(&[65_533, 65_534, 65_535, 65_535]));
+    table.priorities.iter_mut().for_each(|q| *q = lcg.pick(&[low, low + 1, high - 1, high]));
+    table
+}
+
 /// All cases of one game of at most `most` vertices.
 pub fn cases(lcg: &mut Lcg, most: usize) -> Vec<Case> {
     let table = any_game(lcg, most);
@@ -153,5 +168,6 @@ pub fn cases(lcg: &mut Lcg, most: usize) -> Vec<Case> {
         cases.push(case_of_crowd(lcg));
     }
     cases.push(case_of_seed(lcg, most));
+    cases.push(case_of_conversion(lcg, most));
     cases
 }

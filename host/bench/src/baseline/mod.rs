@@ -3,6 +3,7 @@
 
 mod bits;
 mod carry;
+mod convert;
 mod game;
 mod index;
 mod passes;
@@ -13,6 +14,7 @@ mod rounds;
 mod seed;
 
 pub use carry::{carry, carry_class};
+pub use convert::convert;
 pub use passes::write_order as by_passes;
 pub use plan::accept_plan;
 pub use reduction::reduce;

@@ -8,7 +8,7 @@ use std::os::unix::process::ExitStatusExt;
 use std::process::{Command, ExitStatus, Stdio};
 use std::thread;
 
-const CALLS: [&str; 12] = [
+const CALLS: [&str; 13] = [
     "no call",
     "kind",
     "read",
@@ -21,6 +21,7 @@ const CALLS: [&str; 12] = [
     "carry",
     "carry_class",
     "seed",
+    "convert",
 ];
 /// The sizes tried, in KiB: a page, the least that Rust gives a thread, and what it gives by default.
 const PAGE: usize = 4;
@@ -60,6 +61,7 @@ fn call(name: &str) -> impl FnOnce() -> u32 + Send + 'static {
                 &mut written,
             ),
             "seed" => exports::seed(1, 256, 16, 8, o),
+            "convert" => exports::convert(&game, o),
             _ => exports::reduce(&game, m, s, c, o),
         };
         answer.number

@@ -78,6 +78,13 @@ impl Game {
         Ok(Merged { classes, words })
     }
 
+    /// The table where the lowest priority decides, of a game where the highest does.
+    pub fn converted(&self) -> Result<Vec<u16>, Failure> {
+        let mut words = vec![0; self.size.words()];
+        self.told(raskjomi::convert(&self.input.numbers, &mut words))?;
+        Ok(words)
+    }
+
     /// The words of the player's plan carried to a vertex.
     pub fn carry(&self, player: u32, plan: &[u16], vertex: u32) -> Result<Vec<u16>, Refusal> {
         let (mut marks, mut spare) = self.marks();

@@ -242,6 +242,23 @@ fn seed_numbers(arguments: &Arguments) -> Result<[u32; 4], Failure> {
     Ok(numbers)
 }
 
+/// `convert`.
+pub fn convert(arguments: &Arguments) -> Written {
+    let as_words = as_words(arguments, "convert", ", or hand the game on to raskjomi dot")?;
+    let game = Game::load(arguments.file(0))?;
+    let words = game.converted()?;
+    let table = Table::new(&words);
+    if as_words {
+        return Ok(text::bytes(table.words()));
+    }
+    let even = u32::from(game.table().priorities()[0]) + u32::from(table.priorities()[0]);
+    let title = format!(
+        "{}, converted: the lowest priority decides; a priority p was {even} - p before",
+        game.input.name
+    );
+    Ok(text::table(&title, &table).into())
+}
+
 /// `explain`.
 pub fn explain(arguments: &Arguments) -> Written {
     let word = arguments.file(0);

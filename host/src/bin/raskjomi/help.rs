@@ -24,7 +24,7 @@ pub struct Command {
 }
 
 /// The refusal numbers that `explain` knows.
-pub const NUMBERS: &str = "1 to 16, 21 to 24 and 31 to 35";
+pub const NUMBERS: &str = "1 to 16, 21 to 24 and 31 to 36";
 
 /// What `seed` takes, in the sequence of its usage.
 pub const SEED_NUMBERS: [&str; 4] = ["SEED", "VERTICES", "DEGREE", "PRIORITIES"];
@@ -34,7 +34,7 @@ const AS: &[Opt] = &[Opt { name: "--as", value: Some("text, words or dot") }];
 /// What a newcomer has to know of every game.
 const LIMITS: &str =
     "A game has at most 256 vertices and 4,096 edges. The lowest priority seen for ever decides, and \
-     even favours Even; where a tool says the highest, its winners differ.";
+     even favours Even; a game of a tool that says the highest goes through `convert` first.";
 
 /// How games are given, for every command that takes one.
 const GAMES: &str = "A game comes from a file, or from standard input, whose name is -; where the \
@@ -56,7 +56,7 @@ const TABLES: &str = "Text and words are game tables, which every command reads.
                       the game, with the members of each class.";
 
 /// The commands, in the sequence of the help.
-pub const COMMANDS: [Command; 11] = [
+pub const COMMANDS: [Command; 12] = [
     Command {
         name: "report",
         usage: "report [GAME] [--vertex V]",
@@ -167,7 +167,7 @@ pub const COMMANDS: [Command; 11] = [
         usage: "explain NUMBER",
         summary: "what a refusal number means, what its place counts, and what to do",
         details:
-            "A refused input gets one of the numbers 1 to 16, 21 to 24 and 31 to 35; 7 no longer occurs.",
+            "A refused input gets one of the numbers 1 to 16, 21 to 24 and 31 to 36; 7 no longer occurs.",
         example: "./raskjomi explain 8",
         files: 1..=1,
         options: &[],
@@ -186,6 +186,22 @@ pub const COMMANDS: [Command; 11] = [
         files: 4..=4,
         options: &[Opt { name: "--as", value: Some("text or words") }],
         run: commands::seed,
+    },
+    Command {
+        name: "convert",
+        usage: "convert [GAME] [--as text|words]",
+        summary: "a game where the highest priority decides, as one where the lowest does",
+        details:
+            "With M the smallest even number not below the highest priority, each priority q becomes \
+                  M - q; owners and edges stay as they stand. Plans and winners are then those of the \
+                  tool, and so are order, classes and edges between classes; a priority p of the \
+                  reduced game means M - p to the tool. Converted again, the reduced game is one for \
+                  the tool, where the highest decides. Text and words are game tables, which every \
+                  command reads; as text, the table begins with a comment that gives M.",
+        example: "./raskjomi convert games/c.txt | ./raskjomi reduce | ./raskjomi convert",
+        files: 0..=1,
+        options: &[Opt { name: "--as", value: Some("text or words") }],
+        run: commands::convert,
     },
     Command {
         name: "dot",

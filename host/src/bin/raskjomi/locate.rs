@@ -19,6 +19,7 @@ pub fn game_refused(refusal: Refusal, game: &Input) -> Failure {
         5 => (place, format!("owner {}", number(place))),
         6 => (place, format!("vertex {}", number(place))),
         8 => (2 + place, format!("vertex {place}")),
+        36 => (place, format!("vertex {}", place - 2)),
         _ => (place, String::new()),
     };
     tell(refusal, game.at(index, &detail))
