@@ -1,12 +1,11 @@
 -- What the library accepts is small, so its counts fit the answer's fields.
-use mathlib.Core.Path.{_≡_, refl, sym, ap}
-use mathlib.Core.Bool.{Bool, true, false, true≢false}
+use mathlib.Core.Path.{_≡_, sym, ap}
 use mathlib.Core.List.{List, _∷_}
 use Prim.Native.Nat.{ℕ, _≤_}
 use native.Mathlib.Omega.{arith}
 use lib.ListN.{getD, length}
 use borrow.Author.Tests.{ltb-false}
-use Rattle.theory.specs.Bools.{_or_}
+use Rattle.theory.specs.BoolsLaws.{or-fails}
 use Rattle.theory.specs.Game.{Game, edgeCount}
 use Rattle.theory.specs.Order.{order}
 use Rattle.theory.specs.Passes.{Rel}
@@ -130,16 +129,11 @@ tabulation-small K size edges game marks spare classes output (Tabulation.Refuse
 
 -- ---- a carried plan's counts: 34 didn't hold
 
-or-fails : (a b : Bool) → (a or b) ≡ false → (a ≡ false) × (b ≡ false)
-unfolding _or_
-or-fails true b e = absurd (true≢false e)
-or-fails false b e = (refl, e)
-
 carried-within : (n : ℕ) (K : Rel) (x y : ℕ) (C : Plan) (output : List ℕ) → Clean (carriedRows n K x y C output)
     → (length (C .vertices) ≤ positionLimit) × (length (C .links) ≤ linkLimit)
 unfolding carriedRows sizeRows
 carried-within n K x y C output c =
-    let f = or-fails _ _ (c .1 .0) in
+    let f = or-fails _ _ .0 (c .1 .0) in
     (ltb-false positionLimit (length (C .vertices)) (f .0), ltb-false linkLimit (length (C .links)) (f .1))
 
 pub carrying-small : (game : List ℕ) (player : ℕ) (plan : List ℕ) (vertex : ℕ) (marks spare output : List ℕ) (c : Carrying) (marks′ spare′ output′ : List ℕ)

@@ -11,7 +11,7 @@ use lib.Dec.{eqb}
 use lib.ListN.{length, getD, length-map}
 use Rattle.theory.specs.Bools.{bit}
 use Rattle.theory.specs.Range.{anyBelow}
-use Rattle.theory.specs.ListLaws.{length-tabulate}
+use Rattle.theory.specs.ListLaws.{length-tabulate, map-tabulate}
 use Rattle.theory.specs.Plan.{Plan}
 use Rattle.theory.specs.BreadthFirst.{Found}
 use Rattle.theory.specs.Carry.{foundFrom, carried}
@@ -31,7 +31,7 @@ use Rattle.pair_search.specs.Memory.{Memory, foundIn, Within}
 use Rattle.pair_search.specs.Search.{Over, Ran}
 use Rattle.arrival.specs.PlanWords.{planWords, planCounts, sizeRows}
 use Rattle.arrival.specs.Arrival.{planBy, carriedSeated, Arrived}
-use Rattle.arrival.specs.OutputLaws.{map-tabulate, arrived-many, many-refused, many-old}
+use Rattle.arrival.specs.OutputLaws.{arrived-many, many-refused, many-old}
 
 -- ---- the flags of the edges
 

@@ -1,9 +1,9 @@
 -- Laws of the plan that is written: its words, part by part, and rows 34 and 35 of it at each way out.
-use mathlib.Core.Path.{_≡_, refl, sym, ap, _∙_, subst₂}
+use mathlib.Core.Path.{_≡_, refl, sym, _∙_, subst₂}
 use mathlib.Core.Logic.{_⊎_, inl, inr}
 use mathlib.Core.Bool.{false, So}
-use mathlib.Core.List.{List, [], _∷_, _++_, map, append-assoc}
-use Prim.Native.Nat.{ℕ, zero, suc, _+_, _≤_, _<_}
+use mathlib.Core.List.{List, [], _∷_, _++_, append-assoc}
+use Prim.Native.Nat.{ℕ, _+_, _≤_, _<_}
 use native.Mathlib.Omega.{arith}
 use lib.Dec.{ltb}
 use lib.ListN.{length, getD, set, length-append}
@@ -11,7 +11,7 @@ use borrow.Author.Tests.{lt-ltb, le-ltb}
 use Rattle.theory.specs.Bools.{_or_}
 use Rattle.theory.specs.BoolsLaws.{or-left, or-right}
 use Rattle.theory.specs.Range.{tabulate}
-use Rattle.theory.specs.ListLaws.{length-tabulate}
+use Rattle.theory.specs.ListLaws.{length-tabulate, map-tabulate}
 use Rattle.theory.specs.Plan.{Plan}
 use Rattle.table.specs.Limits.{positionLimit, linkLimit}
 use Rattle.table.specs.Placing.{placed}
@@ -25,11 +25,6 @@ use Rattle.arrival.specs.PlanWords.{planWords, planCounts, sizeRows}
 use Rattle.arrival.specs.Arrival.{planBy, Arrived}
 
 -- ---- the words, part by part
-
-pub map-tabulate : (f : ℕ × ℕ → ℕ) (l : ℕ) (g : ℕ → ℕ × ℕ) → map f (tabulate l g) ≡ tabulate l (λ k. f (g k))
-unfolding tabulate
-map-tabulate f zero g = refl
-map-tabulate f (suc l) g = ap (λ (xs : List ℕ). f (g zero) ∷ xs) (map-tabulate f l (λ k. g (suc k)))
 
 module _ (vertices sources targets : List ℕ) (p l : ℕ) where
   length-vertices : length (planBy vertices sources targets p l .vertices) ≡ p

@@ -3,5 +3,4 @@ pub mod Rows
 pub mod RowsLaws
 pub mod PickedLaws
 pub mod LittleBrothersLaws
-pub mod Listing
 pub mod ListingLaws

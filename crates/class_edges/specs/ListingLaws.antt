@@ -1,7 +1,7 @@
 -- Laws of listed edges: class by class they become the ascending list, which has no more edges than the game.
 use mathlib.Core.Path.{_≡_, refl, sym, ap, _∙_}
 use mathlib.Core.Bool.{Bool, true, false}
-use mathlib.Core.List.{List, [], _∷_, _++_, map, map-append}
+use mathlib.Core.List.{List, [], _∷_, map}
 use Prim.Native.Nat.{ℕ, _+_, _*_, _/_, _%_, _≤_, _<_}
 use native.Mathlib.Nat.{zero-mul, mul-le-mul-right}
 use native.Mathlib.Omega.{arith}
@@ -19,33 +19,17 @@ use Rattle.table.specs.Verdict.{written}
 use Rattle.table.specs.VerdictLaws.{getD-written}
 use Rattle.table.specs.TableWordsLaws.{length-edgesOf}
 use Rattle.table.specs.Placing.{placed}
-use Rattle.table.specs.PlacingLaws.{placed-join, placed-start}
+use Rattle.table.specs.Listing.{sourcesOf, targetsOf, Appended}
+use Rattle.table.specs.ListingLaws.{appended-none}
 use Rattle.classes.specs.Numbering.{classesIn}
 use Rattle.class_edges.specs.Rows.{picked, edgeTo, gameBy}
 use Rattle.class_edges.specs.PickedLaws.{pairs-row}
-use Rattle.class_edges.specs.Listing.{sourcesOf, targetsOf, Appended}
 
 -- ---- row after row
 
-pub appended-none : (r : ℕ → ℕ → Bool) (k : ℕ) (sources targets : List ℕ) → Appended (pairsBelow k r (0 * k)) 0 sources sources targets targets 0
-unfolding pairsBelow tabulate
-appended-none r k sources targets =
-    rw (zero-mul k) (record { count = refl; sources-after = placed-start 0 (λ i. i) sources; targets-after = placed-start 0 (λ i. i) targets })
-
-pub appended-join : (xs ys : List (ℕ × ℕ)) (e r : ℕ) (s₀ s₁ s₂ t₀ t₁ t₂ : List ℕ) → length xs ≤ length s₀ → length xs ≤ length t₀
-    → Appended xs 0 s₀ s₁ t₀ t₁ e → Appended ys e s₁ s₂ t₁ t₂ r → Appended (xs ++ ys) 0 s₀ s₂ t₀ t₂ r
-appended-join xs ys e r s₀ s₁ s₂ t₀ t₁ t₂ hs ht a b = record {
-  count = omega (arith, a .count, b .count, length-append xs ys);
-  sources-after = part (λ p. p .0) s₀ s₁ s₂ hs (a .sources-after) (b .sources-after);
-  targets-after = part (λ p. p .1) t₀ t₁ t₂ ht (a .targets-after) (b .targets-after);
-}
-  where
-    part : (f : ℕ × ℕ → ℕ) (o m n : List ℕ) → length xs ≤ length o → m ≡ placed 0 (map f xs) o → n ≡ placed e (map f ys) m
-        → n ≡ placed 0 (map f (xs ++ ys)) o
-    part f o m n h p q =
-        let l = length-map xs f in
-        let at : e ≡ 0 + length (map f xs) = omega (arith, a .count) in
-        q ∙ rw (p, at, map-append f xs ys) (placed-join 0 (map f xs) (map f ys) o (omega arith))
+pub rows-none : (r : ℕ → ℕ → Bool) (k : ℕ) (sources targets : List ℕ) → Appended (pairsBelow k r (0 * k)) 0 sources sources targets targets 0
+unfolding pairsBelow
+rows-none r k sources targets = rw (zero-mul k) (appended-none 0 sources targets)
 
 -- the row of class c, as its class and its ends are put
 module _ (c : ℕ) where

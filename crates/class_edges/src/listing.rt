@@ -8,9 +8,9 @@ ghost use Prim.Native.Nat.{_+_, _<_, _≤_};
 ghost use lib.ListN.{length};
 ghost use Rattle.theory.specs.Range.{pairsOf};
 ghost use Rattle.table.specs.Table.{tableEdges, gameOf};
+ghost use Rattle.table.specs.Listing.{Appended};
 ghost use Rattle.classes.specs.Numbering.{classesIn};
 ghost use Rattle.class_edges.specs.Rows.{picked, edgeTo, gameBy, Prepared};
-ghost use Rattle.class_edges.specs.Listing.{Appended};
 
 // Puts the edges of class c behind the first e edges. Returns how many edges there are then.
 fn append_class(

@@ -17,7 +17,7 @@ use Rattle.table.specs.declared.Reading.the-variants.{Refused}
 use Rattle.pairs.specs.Marks.{relation}
 use Rattle.order.specs.OrderWritten.{OrderDone}
 use Rattle.order.specs.OrderCall.{orderBytes}
-use Rattle.classes.specs.ClassesCall.{memoryRows, memoryAnswer, classRows, classWords, classesAnswer, ClassesCall}
+use Rattle.classes.specs.ClassesCall.{memoryRows, memoryAnswer, classRows, classWords, classesAnswer, ClassesDone, ClassesCall}
 use Rattle.classes.specs.HoldingLaws.{ordered-done, ordered-total, ordered-words}
 use Rattle.classes.specs.ClassesRules.{ClassesFit}
 use Rattle.classes.specs.ClassesRulesLaws.{classes-clean, clean-classes}
@@ -70,16 +70,26 @@ module _ (game marks spare classes : List ℕ) where
   classes-short well f e = classes-old (f .number) (f .place) (rows-short _ well f e)
 
   -- the order is written, and then the classes of its marks
-  pub classes-done : ClassesFit game marks spare classes → (n passes k : ℕ) (marks′ spare′ classes′ : List ℕ) → n ≡ vertexCount game
+  pub order-classes : ClassesFit game marks spare classes → (n passes k : ℕ) (marks′ spare′ classes′ : List ℕ) → n ≡ vertexCount game
       → OrderDone game marks spare passes marks′ spare′ → k ≡ classCount n (relation n marks′)
       → classes′ ≡ written (tabulate n (classNumber n (relation n marks′))) classes
+      → ClassesDone game marks spare classes k marks′ spare′ classes′
+  order-classes f n passes k marks′ spare′ classes′ e o t w =
+      let ordered = ordered-done (f .orderFits .marksFit) o in record {
+        count = t ∙ ordered-total game ordered e;
+        marks-after = o .marks-after;
+        spare-after = o .spare-after;
+        classes-after = w ∙ rw (ordered-words game ordered e);
+      }
+
+  pub classes-done : ClassesFit game marks spare classes → (k : ℕ) (marks′ spare′ classes′ : List ℕ)
+      → ClassesDone game marks spare classes k marks′ spare′ classes′
       → ClassesCall game marks spare classes (accepted (k ∷ [])) marks′ spare′ classes′
   unfolding classesAnswer
-  classes-done f n passes k marks′ spare′ classes′ e o t w =
-      let clean = classes-clean game marks spare classes f in
-      let ordered = ordered-done (f .orderFits .marksFit) o in record {
-        verdict = rw (t ∙ ordered-total game ordered e) (sym (judge-clean rows _ clean));
-        marks-after = o .marks-after ∙ sym (after-clean rows (orderBytes game) marks clean);
-        spare-after = o .spare-after ∙ sym (after-clean rows (orderBytes game) spare clean);
-        classes-after = w ∙ rw (ordered-words game ordered e) (sym (after-clean rows (classWords game) classes clean));
+  classes-done f k marks′ spare′ classes′ d =
+      let clean = classes-clean game marks spare classes f in record {
+        verdict = rw (d .count) (sym (judge-clean rows _ clean));
+        marks-after = d .marks-after ∙ sym (after-clean rows (orderBytes game) marks clean);
+        spare-after = d .spare-after ∙ sym (after-clean rows (orderBytes game) spare clean);
+        classes-after = d .classes-after ∙ sym (after-clean rows (classWords game) classes clean);
       }

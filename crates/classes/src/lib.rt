@@ -9,8 +9,10 @@ ghost use mathlib.Core.Path.{_≡_};
 ghost use mathlib.Core.List.{[]};
 ghost use Prim.Native.Nat.{_≤_};
 ghost use Rattle.table.specs.Limits.{vertexLimit};
+ghost use Rattle.table.specs.Table.{vertexCount};
 ghost use Rattle.table.specs.Verdict.{judge};
-ghost use Rattle.classes.specs.ClassesCall.{memoryRows, memoryAnswer, classificationAnswer, ClassesCall};
+ghost use Rattle.classes.specs.ClassesCall.{memoryRows, memoryAnswer, classificationAnswer, ClassesDone, ClassesCall};
+ghost use Rattle.classes.specs.ClassesRules.{ClassesFit};
 
 pub struct ClassCount {
     pub classes: usize,
@@ -51,6 +53,22 @@ pub fn judge_memory(n: usize, marks: usize, spare: usize, classes: usize) -> Mem
     Memory::Enough
 }
 
+// Writes the order of a game of n vertices into marks and spare, and the class of each vertex, in memory that is long enough. Returns the
+// number of classes. A part of the calls that leave classes and no table of them; no host calls it.
+pub fn fill_memory(
+    game: &[u16],
+    n: usize,
+    marks: &mut [u8],
+    spare: &mut [u8],
+    classes: &mut [u16],
+) -> usize
+    requires { ⌜ ClassesFit (now game) (now marks) (now spare) (now classes) × (n ≡ vertexCount (now game)) ⌝ }
+    ensures { λ r. ⌜ ClassesDone (now (game .entry)) (now (marks .entry)) (now (spare .entry)) (now (classes .entry)) r (now (marks .exit)) (now (spare .exit)) (now (classes .exit)) ⌝ }
+{
+    order::fill_order(game, marks, spare);
+    numbering::fill_classes(marks, n, classes)
+}
+
 // Judges the game and the memory, and writes the order into marks and spare, and the class of each vertex.
 pub fn write_classes(
     game: &[u16],
@@ -69,7 +87,6 @@ pub fn write_classes(
     if let Memory::Short(refusal) = memory {
         return Classification::Refused(refusal);
     }
-    order::fill_order(game, marks, spare);
-    let k = numbering::fill_classes(marks, n, classes);
+    let k = fill_memory(game, n, marks, spare, classes);
     Classification::Accepted(ClassCount { classes: k })
 }

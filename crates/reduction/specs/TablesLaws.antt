@@ -4,25 +4,25 @@ use mathlib.Core.Bool.{Bool, true, false}
 use mathlib.Core.List.{List, [], _∷_, _++_, map, append-assoc}
 use Prim.Native.Nat.{ℕ, zero, suc, _+_, _*_, _≤_, _<_}
 use native.Mathlib.Omega.{arith}
-use lib.ListN.{length, getD, set, length-append, length-map}
+use lib.ListN.{length, getD, set, length-append}
 use Rattle.theory.specs.Range.{tabulate, pairsOf}
-use Rattle.theory.specs.ListLaws.{tabulate-by, tabulate-ext}
+use Rattle.theory.specs.ListLaws.{tabulate-ext}
 use Rattle.theory.specs.Game.{Game}
 use Rattle.theory.specs.Order.{order}
 use Rattle.theory.specs.Reduction.{representative, classGame, quotient, reduced}
 use Rattle.theory.specs.QuotientLaws.{rep-lt}
 use Rattle.table.specs.Table.{vertexCount, ownerAt, playerOf, gameOf}
 use Rattle.table.specs.Verdict.{written}
-use Rattle.table.specs.VerdictLaws.{getD-written}
 use Rattle.table.specs.WellFormed.{WellFormed}
 use Rattle.table.specs.TableWords.{ownerWord, edgesOf, tableWords}
 use Rattle.table.specs.TableWordsLaws.{length-edgesOf}
 use Rattle.classes.specs.ClassesCall.{classTotal, classWords}
 use Rattle.table.specs.Placing.{placed}
-use Rattle.table.specs.PlacingLaws.{placed-written, written-join, written-two}
+use Rattle.table.specs.Listing.{sourcesOf, targetsOf, Appended}
+use Rattle.table.specs.ListingLaws.{listed-sources, listed-targets}
+use Rattle.table.specs.PlacingLaws.{written-join, written-two}
 use Rattle.classes.specs.Numbering.{classesIn, Represented}
 use Rattle.class_edges.specs.Rows.{gameBy}
-use Rattle.class_edges.specs.Listing.{sourcesOf, targetsOf, Appended}
 use Rattle.class_edges.specs.ListingLaws.{gameBy-n}
 use Rattle.reduction.specs.Tables.{tableBy, TableFilled}
 
@@ -65,11 +65,6 @@ unfolding gameBy quotient reduced classGame
 gameBy-owner true G c = refl
 gameBy-owner false G c = refl
 
--- the first words of a buffer, read back
-read-back : (e : ℕ) (words old new : List ℕ) → e ≡ length words → new ≡ placed 0 words old → tabulate e (λ i. getD new i 0) ≡ words
-read-back e words old new n w =
-    sym (tabulate-by e _ 0 words (sym n) (λ i h. sym (rw (w, placed-written words old) (getD-written words old i 0 (omega arith)))))
-
 -- the words by the representatives and the listed edges are those of the game of classes
 module _ (game reps : List ℕ) (drop : Bool) (k e : ℕ) (s s′ t t′ : List ℕ) (well : WellFormed game) (represented : Represented (gameOf game .n) (order (gameOf game)) reps)
     (total : k ≡ classesIn (gameOf game)) (appended : Appended (pairsOf k (gameBy drop (gameOf game) .edge)) 0 s s′ t t′ e) where
@@ -106,9 +101,9 @@ module _ (game reps : List ℕ) (drop : Bool) (k e : ℕ) (s s′ t t′ : List 
       let n : e ≡ length es = omega (arith, appended .count) in
       let m : e ≡ length (edgesOf K) = n ∙ ap length edges-size in
       let a : tabulate e (λ i. getD s′ i 0) ≡ map (λ x. x .0) (edgesOf K) =
-      read-back e (sourcesOf es) s s′ (n ∙ sym (length-map es (λ x. x .0))) (appended .sources-after) ∙ ap sourcesOf edges-size in
+      listed-sources appended ∙ ap sourcesOf edges-size in
       let b : tabulate e (λ i. getD t′ i 0) ≡ map (λ x. x .1) (edgesOf K) =
-      read-back e (targetsOf es) t t′ (n ∙ sym (length-map es (λ x. x .1))) (appended .targets-after) ∙ ap targetsOf edges-size in
+      listed-targets appended ∙ ap targetsOf edges-size in
       cc (size, m, priorities, owners, a, b)
 
   -- all is written

@@ -1,8 +1,8 @@
 -- Laws of the seed call: it refuses k at p exactly as change request 3's table says, accepts exactly otherwise, and what an accepted call
 -- wrote is the table of its four numbers.
 use mathlib.Core.Path.{_≡_, refl, sym, ap, _∙_}
-use mathlib.Core.Logic.{_⊎_, inl, inr, _↔_, ⊎-elim}
-use mathlib.Core.Bool.{Bool, true, false, So, false≢true}
+use mathlib.Core.Logic.{_⊎_, _↔_, ⊎-elim}
+use mathlib.Core.Bool.{false, So}
 use mathlib.Core.List.{List, [], _∷_}
 use Prim.Native.Nat.{ℕ, _*_, _≤_, _<_}
 use native.Mathlib.Decide.{decLt}
@@ -11,9 +11,8 @@ use lib.Dec.{eqb, ltb}
 use lib.ListN.{length, getD, drop}
 use lib.Seq.{take-at}
 use borrow.Author.Tests.{eqb-true, eqb-false, eq-eqb, ne-eqb, ltb-true, ltb-false, lt-ltb, le-ltb}
-use Rattle.theory.specs.Bools.{_or_}
 use Rattle.theory.specs.Game.{edgeCount}
-use Rattle.theory.specs.BoolsLaws.{or-left, or-right, or-out}
+use Rattle.theory.specs.BoolsLaws.{or-left, or-right, or-out, or-says, or-fails}
 use Rattle.table.specs.Limits.{vertexLimit, edgeLimit}
 use Rattle.table.specs.Table.{tableLength, tableIn, gameOf}
 use Rattle.table.specs.Verdict.{accepted, refused, written}
@@ -29,9 +28,6 @@ use Rattle.seed.specs.SeedCall.{degreeLimit, priorityLimit, outside, unf
 use Rattle.seed.specs.SeedRules.{Within, seedRules, Fit, SeedFits}
 
 -- ---- what the tests say
-
-or-says : {a b : Bool} {A B : Type 0} → So a ↔ A → So b ↔ B → So (a or b) ↔ (A ⊎ B)
-or-says {a} {b} s t = (λ h. ⊎-elim (λ x. inl (s .0 x)) (λ y. inr (t .0 y)) (or-out h), λ h. ⊎-elim (λ x. or-left b (s .1 x)) (λ y. or-right a (t .1 y)) h)
 
 outside-says : (x limit : ℕ) → So (outside x limit) ↔ (¬ Within x limit)
 unfolding outside
@@ -50,11 +46,6 @@ unfit-says n d c =
     (or-says (outside-says d degreeLimit) (or-says (outside-says c priorityLimit) (ltb-true edgeLimit (n * d), lt-ltb edgeLimit (n * d))))
 
 -- ---- and where they fail
-
-or-fails : (a b : Bool) → ((a or b) ≡ false) ↔ ((a ≡ false) × (b ≡ false))
-unfolding _or_
-or-fails true b = (λ e. absurd (false≢true (sym e)), λ p. absurd (false≢true (sym (p .0))))
-or-fails false b = (λ e. (refl, e), λ p. p .1)
 
 outside-fails : (x limit : ℕ) → (outside x limit ≡ false) ↔ Within x limit
 unfolding outside

@@ -24,3 +24,5 @@ pub mod TableWords
 pub mod TableWordsLaws
 pub mod Placing
 pub mod PlacingLaws
+pub mod Listing
+pub mod ListingLaws

@@ -47,7 +47,7 @@ lacks g v = (
   λ d. not-in {b = anyBelow (tableEdges g) (λ j. eqb (sourceAt g j) v)} (So-not (λ h. let r = any-out h in d (r .0) (r .1) (eqb-true (sourceAt g (r .0)) v (r .2)))),
 )
 
-rows-render-by : (unfit : ℕ → ℕ → Bool) (Unfit : ℕ → ℕ → Type 0) → ((a b : ℕ) → So (unfit a b) ↔ Unfit a b)
+pub rows-render-by : (unfit : ℕ → ℕ → Bool) (Unfit : ℕ → ℕ → Type 0) → ((a b : ℕ) → So (unfit a b) ↔ Unfit a b)
     → (g : List ℕ) → Rendered (gameRowsBy unfit g) (gameRulesBy Unfit g)
 unfolding gameRowsBy firstOwner firstEnd firstLacking
 rows-render-by unfit Unfit says g =

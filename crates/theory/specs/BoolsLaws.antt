@@ -1,6 +1,6 @@
 -- Laws of the connectives and of bits: how a test is shown (`-in`) and used (`-out`).
 use mathlib.Core.Path.{_≡_, refl, sym, _∙_}
-use mathlib.Core.Logic.{_⊎_, inl, inr}
+use mathlib.Core.Logic.{_⊎_, inl, inr, _↔_, ⊎-elim}
 use mathlib.Core.Bool.{Bool, true, false, not, So, cond, true≢false, false≢true}
 use Prim.Native.Nat.{_+_, _≤_, _<_, zero-le}
 use native.Mathlib.Nat.{le-refl}
@@ -124,6 +124,15 @@ or-flip true true = refl
 or-flip true false = refl
 or-flip false true = refl
 or-flip false false = refl
+
+-- what it says, and that it fails
+pub or-says : {a b : Bool} {A B : Type 0} → So a ↔ A → So b ↔ B → So (a or b) ↔ (A ⊎ B)
+or-says {a} {b} s t = (λ h. ⊎-elim (λ x. inl (s .0 x)) (λ y. inr (t .0 y)) (or-out h), λ h. ⊎-elim (λ x. or-left b (s .1 x)) (λ y. or-right a (t .1 y)) h)
+
+pub or-fails : (a b : Bool) → ((a or b) ≡ false) ↔ ((a ≡ false) × (b ≡ false))
+unfolding _or_
+or-fails true b = (λ e. absurd (false≢true (sym e)), λ p. absurd (false≢true (sym (p .0))))
+or-fails false b = (λ e. (refl, e), λ p. p .1)
 
 pub or-false : (b : Bool) → (b or false) ≡ b
 unfolding _or_

@@ -1,12 +1,12 @@
 -- Laws of lists by index.
 use mathlib.Core.Path.{_≡_, refl, sym, ap, ap₂, _∙_, subst}
-use mathlib.Core.List.{List, [], _∷_, _++_}
-use Prim.Native.Nat.{ℕ, zero, suc, _<_}
+use mathlib.Core.List.{List, [], _∷_, _++_, map}
+use Prim.Native.Nat.{ℕ, zero, suc, _+_, _≤_, _<_}
 use native.Mathlib.Nat.{not-suc-le-zero, le-of-suc-le-suc}
 use native.Mathlib.Decide.{ℕ-discrete}
 use native.Mathlib.Omega.{arith}
-use lib.ListN.{length, getD, set, replicate}
-use lib.Seq.{ext-getD, getD-set-same, getD-set-other}
+use lib.ListN.{length, getD, take, drop, set, replicate, take-append-drop, length-drop}
+use lib.Seq.{ext-getD, getD-set-same, getD-set-other, length-take-le, getD-take, getD-drop, drop-drop}
 use Rattle.theory.specs.Range.{tabulate}
 
 module _ {A : Type 0} where
@@ -37,6 +37,20 @@ module _ {A : Type 0} where
   unfolding tabulate
   tabulate-snoc zero f = refl
   tabulate-snoc (suc n) f = ap {B = List A} (λ l. f zero ∷ l) (tabulate-snoc n (λ i. f (suc i)))
+
+-- a function of the values
+pub map-tabulate : {A B : Type 0} (f : A → B) (n : ℕ) (g : ℕ → A) → map f (tabulate n g) ≡ tabulate n (λ i. f (g i))
+unfolding tabulate
+map-tabulate f zero g = refl
+map-tabulate {B = B} f (suc n) g = ap (λ (l : List B). f (g zero) ∷ l) (map-tabulate f n (λ i. g (suc i)))
+
+-- what is left of a list, k values of it first
+pub drop-tabulate : (l : List ℕ) (a k : ℕ) → a + k ≤ length l → drop a l ≡ tabulate k (λ i. getD l (a + i) 0) ++ drop (a + k) l
+drop-tabulate l a k h =
+    let t : take k (drop a l) ≡ tabulate k (λ i. getD l (a + i) 0) =
+    tabulate-by k _ 0 (take k (drop a l)) (length-take-le k (drop a l) (simp length-drop (omega arith)))
+    (λ i m. getD-take k (drop a l) i 0 m ∙ getD-drop a l i 0) in
+    sym (take-append-drop k (drop a l)) ∙ ap₂ _++_ t (drop-drop k a l)
 
 -- a zeroed list
 pub zeros : (n i : ℕ) → getD {A = ℕ} (replicate n 0) i 0 ≡ 0

@@ -8,7 +8,6 @@ use Rattle.table.specs.ReadingLaws.{reading-accepted}
 use Rattle.table.specs.Verdict.{judge}
 use Rattle.table.specs.Table.{vertexCount}
 use Rattle.classes.specs.ClassesCall.{memoryRows, memoryAnswer}
-use Rattle.classes.specs.HoldingLaws.{ordered-done, ordered-preorder}
 use Rattle.classes.specs.ClassesRules.{ClassesFit}
 use Rattle.classes.specs.ClassesCallLaws.{memory-fits, classes-handed, classes-short, classes-done}
 use borrow.Author.Needs.{needs}
@@ -38,9 +37,6 @@ fits c =
 vertices : (c : tie.After-enum-told2)
     → let r = c .before .before .before .before in r .reading .given .0 .0 .vertices ≡ vertexCount (start (r .before .before) .args .game .now)
 vertices c = sized (c .before .before .before .before) .vertices
-
-abbrev told-at : tie.After-fill-order → tie.After-enum-told2
-told-at c = c .before .before .before
 
 read-requires : tie.Need-read-requires
 read-requires c κs = search needs
@@ -73,17 +69,8 @@ returns-2 c =
 enum-told-2 : tie.Need-enum-told-2
 enum-told-2 c = search needs
 
-fill-order-requires : tie.Need-fill-order-requires
-fill-order-requires c κs =
-    let f = fits (c .before .before) .orderFits in
-    (f .game, (f .marksFit, f .spareFit))
-
-fill-classes-requires : tie.Need-fill-classes-requires
-fill-classes-requires c κs =
-    let o = c .before .before .before .before .before .before in
-    let f = fits (told-at o) in
-    let e = vertices (told-at o) in
-    (ordered-preorder _ (ordered-done (f .orderFits .marksFit) (o .fill-order .ensures)) e (f .orderFits .game), omega (arith, e, f .wordsFit))
+fill-memory-requires : tie.Need-fill-memory-requires
+fill-memory-requires c κs = let t = c .before .before .before in (fits t, vertices t)
 
 same-length : tie.Need-same-length
 same-length c = search needs
@@ -96,9 +83,8 @@ same-length-3 c = search needs
 
 returns-3 : tie.Need-returns-3
 returns-3 c =
-    let x = c .before .before in
-    let o = x .before .before .before .before .before .before .before in
-    classes-done _ _ _ _ (fits (told-at o)) _ _ _ _ _ _ (vertices (told-at o)) (o .fill-order .ensures) (x .fill-classes .ensures .0) (x .fill-classes .ensures .1)
+    let x = c .before .before .before .before .before .before in
+    classes-done _ _ _ _ (fits (x .before .before .before .before)) _ _ _ _ (x .fill-memory .ensures)
 
 pub write-classes-spec : {M : Type 1} → statement M
 write-classes-spec =
@@ -113,8 +99,7 @@ write-classes-spec =
     enum-known-memory
     returns-2
     enum-told-2
-    fill-order-requires
-    fill-classes-requires
+    fill-memory-requires
     same-length
     same-length-2
     same-length-3

@@ -6,9 +6,10 @@ use native.Mathlib.Omega.{arith}
 use lib.ListN.{length}
 use Rattle.theory.specs.Range.{pairsBelow, pairsOf}
 use Rattle.table.specs.Table.{gameOf, tableEdges}
-use Rattle.class_edges.specs.Listing.{Appended}
+use Rattle.table.specs.Listing.{Appended}
+use Rattle.table.specs.ListingLaws.{appended-join}
 use Rattle.class_edges.specs.PickedLaws.{pairs-row}
-use Rattle.class_edges.specs.ListingLaws.{appended-none, appended-join, rows-few}
+use Rattle.class_edges.specs.ListingLaws.{rows-none, rows-few}
 use borrow.Author.Needs.{needs}
 use Rattle.class_edges.proofs.listing.list_edges.Statement.{statement}
 use Rattle.class_edges.proofs.listing.list_edges.Tie as tie
@@ -29,7 +30,7 @@ room : (c : tie.In-loop Inv-loop μ-loop)
 room c = let s = start c in omega (arith, c .before .loop .inv .3 .count, rows-few (s .args .game .now) (s .args .drop) (s .args .k) (s .pre .1 .0) (c .before .loop .c) (c .loop-test .taken))
 
 loop-holds : tie.Need-loop-holds Inv-loop μ-loop
-loop-holds c = (search needs, search needs, search needs, appended-none _ _ _ _)
+loop-holds c = (search needs, search needs, search needs, rows-none _ _ _ _)
 
 append-class-requires : tie.Need-append-class-requires Inv-loop μ-loop
 append-class-requires c κs =

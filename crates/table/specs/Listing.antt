@@ -1,9 +1,9 @@
--- Edges listed in two parallel arrays. No public promise cites these.
+-- Edges listed in two parallel arrays. No public promise cites `Appended`.
 use mathlib.Core.Path.{_≡_}
 use mathlib.Core.List.{List, map}
 use Prim.Native.Nat.{ℕ, _+_}
 use lib.ListN.{length}
 use Rattle.table.specs.Placing.{placed}
 
 abbrev pub sourcesOf : List (ℕ × ℕ) → List ℕ
 sourcesOf es = map (λ e. e .0) es
