@@ -1,0 +1,9 @@
+pub mod Edges
+pub mod Buffer
+pub mod BufferLaws
+pub mod EdgesLaws
+pub mod PartsLaws
+pub mod EditedLaws
+pub mod SearchLaws
+pub mod MadeLaws
+pub mod JudgedLaws

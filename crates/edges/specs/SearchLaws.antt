@@ -1,0 +1,118 @@
+-- Laws of the searches among a table's edges: for the edge from s to t, and for another edge of s, which is one that stays.
+use mathlib.Core.Path.{_≡_, refl, sym, ap, _∙_}
+use mathlib.Core.Bool.{Bool, true, false, not, cond, So}
+use mathlib.Core.List.{List, [], _∷_, _++_}
+use Prim.Native.Nat.{ℕ, _+_, _*_, _≤_, _<_}
+use native.Mathlib.Numerals.{add-one}
+use native.Mathlib.Omega.{arith}
+use lib.Dec.{eqb}
+use lib.ListN.{length, getD, set}
+use borrow.Author.Tests.{eqb-true, eqb-false, eq-eqb, ne-eqb, not-false}
+use Rattle.theory.specs.Bools.{_&_}
+use Rattle.theory.specs.BoolsLaws.{So-ext, not-in, not-out, and-in, and-out}
+use Rattle.theory.specs.Range.{anyBelow, tabulate}
+use Rattle.theory.specs.RangeLaws.{any-in, any-out}
+use Rattle.theory.specs.ListLaws.{length-tabulate, tabulate-snoc}
+use Rattle.table.specs.Table.{tableEdges, sourceAt, targetAt, isEdge, gameOf}
+use Rattle.table.specs.TableLaws.{edge-in, edge-out}
+use Rattle.table.specs.Reading.{lacksEdge}
+use Rattle.table.specs.PlacingLaws.{placed-one}
+use Rattle.table.specs.Listing.{Appended}
+use Rattle.table.specs.ListingLaws.{appended-none}
+use Rattle.edges.specs.Edges.{others, edited, Formed, leads}
+use Rattle.edges.specs.EdgesLaws.{others-append, length-others}
+use Rattle.edges.specs.EditedLaws.{left-edge}
+use Rattle.edges.specs.declared.Edit.the-variants.{Leaving}
+
+-- ---- one edge
+
+module _ {g : List ℕ} {n m : ℕ} (f : Formed g n m) (j : ℕ) where
+  pub formed-source : getD g (2 + 2 * n + j) 0 ≡ sourceAt g j
+  formed-source = rw (f .vertices)
+
+  pub formed-target : getD g (2 + 2 * n + m + j) 0 ≡ targetAt g j
+  formed-target = rw (f .vertices, f .edges)
+
+  module _ (s t : ℕ) (there : Bool) where
+    pub leads-no : (getD g (2 + 2 * n + j) 0 ≡ s → ⊥) → leads g s t there j ≡ false
+    unfolding leads _&_
+    leads-no d = rw (ne-eqb (sourceAt g j) s (λ e. d (formed-source ∙ e)))
+
+    pub leads-by : getD g (2 + 2 * n + j) 0 ≡ s → let hit = eqb (getD g (2 + 2 * n + m + j) 0) t in leads g s t there j ≡ cond there hit (not hit)
+    unfolding leads _&_
+    leads-by e = rw (eq-eqb (sourceAt g j) s (sym formed-source ∙ e), formed-target)
+
+-- ---- some edge
+
+-- from s to t
+pub there-edge : (g : List ℕ) (s t : ℕ) → anyBelow (tableEdges g) (leads g s t true) ≡ gameOf g .edge s t
+unfolding gameOf isEdge leads
+there-edge g s t = refl
+
+-- from s elsewhere: s has an edge once those to t have left
+pub elsewhere-stays : (g : List ℕ) (s t : ℕ) → anyBelow (tableEdges g) (leads g s t false) ≡ not (lacksEdge (edited Leaving g s t) s)
+unfolding lacksEdge leads
+elsewhere-stays g s t = So-ext to from
+  where
+    new : List ℕ
+    new = edited Leaving g s t
+
+    has : ℕ → Bool
+    has j = eqb (sourceAt new j) s
+
+    to : So (anyBelow (tableEdges g) (leads g s t false)) → So (not (not (anyBelow (tableEdges new) has)))
+    to x =
+        let (j, l, y) = any-out x in
+        let p = and-out y in
+        let w = targetAt g j in
+        let d : w ≡ t → ⊥ = eqb-false w t (not-out (p .1)) in
+        let e = edge-in g s w j (record { inside = l; source = eqb-true (sourceAt g j) s (p .0); target = refl }) in
+        let (i, k) = edge-out new s w (left-edge g s t s w .1 (e, λ q. d (q .1))) in
+        not-in (ap not (any-in (tableEdges new) has i (k .inside) (eq-eqb (sourceAt new i) s (k .source))))
+
+    from : So (not (not (anyBelow (tableEdges new) has))) → So (anyBelow (tableEdges g) (leads g s t false))
+    from x =
+        let (i, l, y) = any-out {n = tableEdges new} {p = has} (not-false _ (not-out x)) in
+        let w = targetAt new i in
+        let r = left-edge g s t s w .0 (edge-in new s w i (record { inside = l; source = eqb-true (sourceAt new i) s y; target = refl })) in
+        let (j, k) = edge-out g s w (r .0) in
+        let d : eqb (targetAt g j) t ≡ false = ne-eqb (targetAt g j) t (λ e. r .1 (refl, sym (k .target) ∙ e)) in
+        any-in (tableEdges g) _ j (k .inside) (and-in (eq-eqb (sourceAt g j) s (k .source)) (not-in d))
+
+-- none of no edges
+pub leads-none : (g : List ℕ) (s t : ℕ) (there : Bool) → anyBelow 0 (leads g s t there) ≡ false
+unfolding anyBelow
+leads-none g s t there = refl
+
+-- ---- the edges that stay, one by one
+
+-- the edges below j
+abbrev pub edgesBelow : List ℕ → ℕ → List (ℕ × ℕ)
+edgesBelow g j = tabulate j (λ i. (sourceAt g i, targetAt g i))
+
+pub others-few : (g : List ℕ) (s t j : ℕ) → length (others s t (edgesBelow g j)) ≤ j
+others-few g s t j = omega (arith, length-others s t (edgesBelow g j), length-tabulate {A = ℕ × ℕ} j (λ i. (sourceAt g i, targetAt g i)))
+
+pub others-more : (g : List ℕ) (s t j : ℕ)
+    → others s t (edgesBelow g (j + 1)) ≡ others s t (edgesBelow g j) ++ others s t ((sourceAt g j, targetAt g j) ∷ [])
+others-more g s t j =
+    rw (add-one j, tabulate-snoc {A = ℕ × ℕ} j (λ i. (sourceAt g i, targetAt g i))) (others-append s t (edgesBelow g j) ((sourceAt g j, targetAt g j) ∷ []))
+
+pub others-start : (g : List ℕ) (s t : ℕ) (sources ends : List ℕ) → Appended (others s t (edgesBelow g 0)) 0 sources sources ends ends 0
+unfolding tabulate others
+others-start g s t sources ends = appended-none 0 sources ends
+
+-- an edge from s to t is left out, and any other is put behind those before it
+module _ {g : List ℕ} {n m : ℕ} (f : Formed g n m) (j s t : ℕ) (e : ℕ) (sources ends : List ℕ) where
+  pub others-taken : So (leads g s t true j) → Appended (others s t ((sourceAt g j, targetAt g j) ∷ [])) e sources sources ends ends e
+  unfolding leads others
+  others-taken x = rw x (appended-none e sources ends)
+
+  pub others-kept : leads g s t true j ≡ false → e < length sources → e < length ends
+      → Appended (others s t ((sourceAt g j, targetAt g j) ∷ [])) e sources (set sources e (getD g (2 + 2 * n + j) 0)) ends (set ends e (getD g (2 + 2 * n + m + j) 0)) (e + 1)
+  unfolding leads others
+  others-kept x hs ht = rw (x, formed-source f j, formed-target f j) (record {
+    count = refl;
+    sources-after = placed-one e (sourceAt g j) sources hs;
+    targets-after = placed-one e (targetAt g j) ends ht;
+  })

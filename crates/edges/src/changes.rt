@@ -1,0 +1,44 @@
+// The two edits, in a buffer that has room for them.
+use crate::listing::list_others;
+use table::limits::EDGES;
+use table::words;
+ghost use Prim.Native.Nat.{_+_, _<_, _≤_};
+ghost use lib.ListN.{length};
+ghost use Rattle.table.specs.Limits.{edgeLimit};
+ghost use Rattle.table.specs.Table.{tableLength, tableIn};
+ghost use Rattle.edges.specs.Edges.{Formed, Made};
+ghost use Rattle.edges.specs.declared.Edit.the-variants.{Arrival, Leaving};
+
+// Adds the edge at the end of both arrays, so that every target moves up by a word. The targets are meanwhile in a local array of 8,192
+// bytes. Returns how many edges there are then.
+pub fn arrive(buffer: &mut [u16], n: usize, m: usize, s: u16, t: u16) -> usize
+    requires { ⌜ Formed (tableIn (now buffer)) n m × (m < edgeLimit) ⌝ }
+    requires { ⌜ tableLength n m + 2 ≤ length (now buffer) ⌝ }
+    ensures { λ r. ⌜ Made Arrival (now (buffer .entry)) s t r (now (buffer .exit)) ⌝ }
+{
+    let at = 2 + 2 * n + m;
+    let mut targets = [0u16; EDGES];
+    words::copy(&mut targets, 0, &buffer[at..], m);
+    buffer[1] = (m + 1) as u16;
+    buffer[at] = s;
+    words::copy(buffer, at + 1, &targets, m);
+    buffer[at + 1 + m] = t;
+    m + 1
+}
+
+// Removes every copy of the edge and keeps the others in sequence; the words that are given up become 0. The edges that stay are meanwhile
+// in local arrays of 16,384 bytes. Returns how many there are.
+pub fn leave(buffer: &mut [u16], n: usize, m: usize, s: usize, t: usize) -> usize
+    requires { ⌜ Formed (tableIn (now buffer)) n m ⌝ }
+    ensures { λ r. ⌜ Made Leaving (now (buffer .entry)) s t r (now (buffer .exit)) ⌝ }
+{
+    let size = 2 + 2 * n + 2 * m;
+    let mut sources = [0u16; EDGES];
+    let mut ends = [0u16; EDGES];
+    let e = list_others(&buffer[..size], n, m, s, t, &mut sources, &mut ends);
+    buffer[1] = e as u16;
+    words::copy(buffer, 2 + 2 * n, &sources, e);
+    words::copy(buffer, 2 + 2 * n + e, &ends, e);
+    words::fill(buffer, 2 + 2 * n + 2 * e, 2 * (m - e), 0);
+    e
+}

@@ -1,0 +1,2 @@
+pub mod EditCall
+pub mod EditCallLaws

@@ -1,0 +1,132 @@
+// Edges that come and go: edits of a table that begins a buffer, with the order and the classes of the new table.
+use classes::Memory;
+use classes::fill_memory;
+use classes::judge_memory;
+use edges::Edit;
+use edges::buffer::read_in;
+use edges::judge_edit;
+use edges::make_edit;
+use reduction::TableCounts;
+use reduction::Tabulation;
+use table::Acceptance;
+use table::Reading;
+use table::refusal_of;
+ghost use lib.ListN.{length};
+ghost use Rattle.table.specs.Table.{tableIn};
+ghost use Rattle.table.specs.Verdict.{Clean};
+ghost use Rattle.classes.specs.ClassesRules.{ClassesFit};
+ghost use Rattle.edges.specs.Edges.{editRows, Formed};
+ghost use Rattle.edges.specs.declared.Edit.the-variants.{Arrival, Leaving};
+ghost use Rattle.reduction.specs.TableCall.{tabulationAnswer};
+ghost use Rattle.edit.specs.EditCall.{EditDone, EditCall};
+
+// Makes an edit that was judged, and writes the order and the classes of the new table.
+fn apply_edit(
+    buffer: &mut [u16],
+    n: usize,
+    m: usize,
+    edit: Edit,
+    source: u32,
+    target: u32,
+    marks: &mut [u8],
+    spare: &mut [u8],
+    classes: &mut [u16],
+) -> TableCounts
+    requires { ⌜ Formed (tableIn (now buffer)) n m × ClassesFit (tableIn (now buffer)) (now marks) (now spare) (now classes) ⌝ }
+    requires { ⌜ Clean (editRows edit (tableIn (now buffer)) (length (now buffer)) source target) ⌝ }
+    ensures { λ r. ⌜ EditDone edit (now (buffer .entry)) source target (now (marks .entry)) (now (spare .entry)) (now (classes .entry)) r (now (buffer .exit)) (now (marks .exit)) (now (spare .exit)) (now (classes .exit)) ⌝ }
+{
+    let edges = make_edit(buffer, n, m, edit, source, target);
+    let end = 2 + 2 * n + 2 * edges;
+    let k = fill_memory(&buffer[..end], n, marks, spare, classes);
+    TableCounts {
+        classes: k,
+        vertices: n,
+        edges,
+    }
+}
+
+// Judges the memory and the edit for a table of n vertices and m edges that was read, and makes the edit.
+fn edit_table(
+    buffer: &mut [u16],
+    n: usize,
+    m: usize,
+    edit: Edit,
+    source: u32,
+    target: u32,
+    marks: &mut [u8],
+    spare: &mut [u8],
+    classes: &mut [u16],
+) -> Tabulation
+    requires { ⌜ Formed (tableIn (now buffer)) n m ⌝ }
+    ensures { λ r. ⌜ EditCall edit (now (buffer .entry)) source target (now (marks .entry)) (now (spare .entry)) (now (classes .entry)) (tabulationAnswer r) (now (buffer .exit)) (now (marks .exit)) (now (spare .exit)) (now (classes .exit)) ⌝ }
+{
+    let memory = judge_memory(n, marks.len(), spare.len(), classes.len());
+    if let Memory::Short(refusal) = memory {
+        return Tabulation::Refused(refusal);
+    }
+    let len = buffer.len();
+    let size = 2 + 2 * n + 2 * m;
+    let judged = judge_edit(&buffer[..size], n, m, len, edit, source, target);
+    if let Acceptance::Refused(refusal) = judged {
+        return Tabulation::Refused(refusal);
+    }
+    let counts = apply_edit(buffer, n, m, edit, source, target, marks, spare, classes);
+    Tabulation::Accepted(counts)
+}
+
+// Adds the edge at the end of the table that begins the buffer, and writes the order and the classes of the new table.
+pub fn add_edge(
+    buffer: &mut [u16],
+    source: u32,
+    target: u32,
+    marks: &mut [u8],
+    spare: &mut [u8],
+    classes: &mut [u16],
+) -> Tabulation
+    ensures { λ r. ⌜ EditCall Arrival (now (buffer .entry)) source target (now (marks .entry)) (now (spare .entry)) (now (classes .entry)) (tabulationAnswer r) (now (buffer .exit)) (now (marks .exit)) (now (spare .exit)) (now (classes .exit)) ⌝ }
+{
+    let reading = read_in(buffer);
+    let Reading::Accepted(sizes) = reading else {
+        return Tabulation::Refused(refusal_of(reading));
+    };
+    edit_table(
+        buffer,
+        sizes.vertices,
+        sizes.edges,
+        Edit::Arrival,
+        source,
+        target,
+        marks,
+        spare,
+        classes,
+    )
+}
+
+// Removes every copy of the edge from the table that begins the buffer, and writes the order and the classes of the new table.
+pub fn remove_edge(
+    buffer: &mut [u16],
+    source: u32,
+    target: u32,
+    marks: &mut [u8],
+    spare: &mut [u8],
+    classes: &mut [u16],
+) -> Tabulation
+    ensures { λ r. ⌜ EditCall Leaving (now (buffer .entry)) source target (now (marks .entry)) (now (spare .entry)) (now (classes .entry)) (tabulationAnswer r) (now (buffer .exit)) (now (marks .exit)) (now (spare .exit)) (now (classes .exit)) ⌝ }
+{
+    let reading = read_in(buffer);
+    let Reading::Accepted(sizes) = reading else {
+        return Tabulation::Refused(refusal_of(reading));
+    };
+    edit_table(
+        buffer,
+        sizes.vertices,
+        sizes.edges,
+        Edit::Leaving,
+        source,
+        target,
+        marks,
+        spare,
+        classes,
+    )
+}
