@@ -82,7 +82,7 @@ module _ (game : List ℕ) (player : ℕ) (plan seats : List ℕ) (y : ℕ) wher
     -- the words of the plan are those of the pairs and links in memory
     plan-found : P ≡ planOfFound (foundIn m)
     unfolding planBy pairsIn
-    plan-found = rw (map-tabulate (λ x. x .1) (m .pairs) (λ k. (getD (m .olds) k 0, getD (m .vertices) k 0))) refl
+    plan-found = rw (map-tabulate (λ (x : ℕ × ℕ). x .1) (m .pairs) (λ k. (getD (m .olds) k 0, getD (m .vertices) k 0))) refl
 
     within : Within (m .pairs) (m .links) → P ≡ C
     within w = plan-found ∙ ap (λ (s : Found). planOfFound s) (ran .right w) ∙ carried-found

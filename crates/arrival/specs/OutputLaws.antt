@@ -41,8 +41,8 @@ module _ (vertices sources targets : List ℕ) (p l : ℕ) where
   words-are = rw (
     length-tabulate p (λ i. getD vertices i 0),
     length-tabulate {A = ℕ × ℕ} l (λ k. (getD sources k 0, getD targets k 0)),
-    map-tabulate (λ x. x .0) l (λ k. (getD sources k 0, getD targets k 0)),
-    map-tabulate (λ x. x .1) l (λ k. (getD sources k 0, getD targets k 0)),
+    map-tabulate (λ (x : ℕ × ℕ). x .0) l (λ k. (getD sources k 0, getD targets k 0)),
+    map-tabulate (λ (x : ℕ × ℕ). x .1) l (λ k. (getD sources k 0, getD targets k 0)),
   ) refl
 
   pub plan-parts : (old o₁ o₂ o₃ o₄ : List ℕ) → planLength p l ≤ length old → o₁ ≡ set (set old 0 p) 1 l

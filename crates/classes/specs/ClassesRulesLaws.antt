@@ -6,6 +6,7 @@ use mathlib.Core.List.{List, [], _∷_}
 use Prim.Native.Nat.{ℕ}
 use lib.ListN.{length}
 use borrow.Author.Tests.{ltb-false, le-ltb}
+use Rattle.table.specs.Table.{vertexCount}
 use Rattle.table.specs.Verdict.{Answer, accepted, refused, Clean}
 use Rattle.table.specs.VerdictLaws.{judge-clean, judge-accepted, after-refused, clean-append, clean-split}
 use Rattle.table.specs.Reading.{gameRows}
@@ -13,17 +14,20 @@ use Rattle.table.specs.ReadingLaws.{rows-render, well-clean, clean-well}
 use Rattle.table.specs.Rules.{FirstRule, Rendered, none, next}
 use Rattle.table.specs.RulesLaws.{memory-renders, refused-by, rendered-append}
 use Rattle.order.specs.OrderCall.{orderBytes}
-use Rattle.classes.specs.ClassesCall.{classRows, classTotal, classWords, classesAnswer, ClassesCall}
-use Rattle.classes.specs.ClassesRules.{classRules, ClassesFit}
+use Rattle.classes.specs.ClassesCall.{memoryRows, classRows, classTotal, classWords, classesAnswer, ClassesCall}
+use Rattle.classes.specs.ClassesRules.{memoryRules, classRules, ClassesFit}
 
 -- ---- the rows render the rules, and are clean exactly if the game is well formed and the memory fits
+
+pub memory-rows-render : (n : ℕ) (marks spare classes : List ℕ)
+    → Rendered (memoryRows n (length marks) (length spare) (length classes)) (memoryRules n marks spare classes)
+memory-rows-render n marks spare classes =
+    next (memory-renders 21 _ marks) (next (memory-renders 22 _ spare) (next (memory-renders 23 _ classes) none))
 
 module _ (game marks spare classes : List ℕ) where
   pub class-rows-render : Rendered (classRows game marks spare classes) (classRules game marks spare classes)
   unfolding classRows
-  class-rows-render =
-      rendered-append (rows-render game)
-      (next (memory-renders 21 _ marks) (next (memory-renders 22 _ spare) (next (memory-renders 23 _ classes) none)))
+  class-rows-render = rendered-append (rows-render game) (memory-rows-render (vertexCount game) marks spare classes)
 
   pub classes-clean : ClassesFit game marks spare classes → Clean (classRows game marks spare classes)
   unfolding classRows

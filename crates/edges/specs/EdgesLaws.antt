@@ -2,16 +2,16 @@
 use mathlib.Core.Path.{_≡_, refl, sym, ap, _∙_}
 use mathlib.Core.Logic.{_⊎_, inl, inr}
 use mathlib.Core.Bool.{Bool, true, false, true≢false, false≢true, cond, So}
-use mathlib.Core.List.{List, [], _∷_, _++_, append-nil}
-use Prim.Native.Nat.{ℕ, _+_, _*_, _≤_, _<_}
+use mathlib.Core.List.{List, [], _∷_, _++_}
+use Prim.Native.Nat.{ℕ, _+_, _≤_, _<_}
 use native.Mathlib.Omega.{arith}
 use lib.Dec.{eqb}
-use lib.ListN.{length, getD, drop, length-append, length-map, List·getD-map, drop-of-length-le}
+use lib.ListN.{length, getD, length-map, List·getD-map}
 use borrow.Author.Tests.{eqb-true, eq-eqb}
 use Rattle.theory.specs.Bools.{_&_, _or_}
 use Rattle.theory.specs.BoolsLaws.{clash, So-ext, and-in, and-out, or-left, or-right, or-out}
 use Rattle.theory.specs.Range.{tabulate}
-use Rattle.theory.specs.ListLaws.{length-tabulate, getD-tabulate, tabulate-by, tabulate-ext, map-tabulate, drop-tabulate}
+use Rattle.theory.specs.ListLaws.{length-tabulate, getD-tabulate, tabulate-by, tabulate-ext}
 use Rattle.theory.specs.Plan.{linked}
 use Rattle.theory.specs.LinkLaws.{pair-is, linked-at, linked-find}
 use Rattle.table.specs.Limits.{edgeLimit}

@@ -2,21 +2,22 @@
 -- the edit's rows are passed; and a leaving of the edge that just arrived gives the old table back.
 use mathlib.Core.Path.{_≡_, refl, sym, ap, _∙_}
 use mathlib.Core.Logic.{_⊎_, inl, inr, _↔_, ⊎-elim}
-use mathlib.Core.Bool.{Bool, true, false, So}
+use mathlib.Core.Bool.{false, not, So}
 use mathlib.Core.List.{List, [], _∷_, _++_, append-nil, append-assoc}
-use Prim.Native.Nat.{ℕ, _+_, _≤_, _<_}
+use Prim.Native.Nat.{ℕ, _+_, _-_, _≤_, _<_}
 use native.Mathlib.Decide.{ℕ-discrete}
 use native.Mathlib.Omega.{arith}
 use lib.Dec.{eqb}
 use lib.ListN.{length, getD, take, length-append}
 use lib.Seq.{take-at, getD-take}
-use borrow.Author.Tests.{eqb-true, leb-false, ltb-false, not-false}
+use borrow.Author.Tests.{eqb-true, eq-eqb, leb-false, lt-leb, ltb-false, not-false}
 use Rattle.theory.specs.Bools.{_or_}
-use Rattle.theory.specs.BoolsLaws.{clash, or-fails}
-use Rattle.theory.specs.RangeLaws.{any-out}
-use Rattle.theory.specs.Plan.{linked}
+use Rattle.theory.specs.BoolsLaws.{or-fails}
+use Rattle.theory.specs.RangeLaws.{any-in, any-out}
+use Rattle.theory.specs.Range.{tabulate}
+use Rattle.theory.specs.ListLaws.{length-tabulate}
 use Rattle.theory.specs.Game.{edgeCount}
-use Rattle.theory.specs.LinkLaws.{linked-at, linked-find, linked-left, linked-right, linked-append, linked-one, linked-one-out}
+use Rattle.theory.specs.LinkLaws.{linked-left, linked-right, linked-append, linked-one, linked-one-out}
 use Rattle.table.specs.Limits.{edgeLimit}
 use Rattle.table.specs.Table.{vertexCount, tableEdges, priorityAt, ownerAt, sourceAt, targetAt, tableLength, tableIn, gameOf}
 use Rattle.table.specs.TableLaws.{edge-in, edge-out}
@@ -25,7 +26,7 @@ use Rattle.table.specs.Reading.{lacksEdge, readAnswer}
 use Rattle.table.specs.ReadingLaws.{read-accepts}
 use Rattle.table.specs.WellFormed.{WellFormed}
 use Rattle.edges.specs.Edges.{edgesIn, withEdges, others, editedEdges, edited, editedWords, misplaced, changeRows, editRows}
-use Rattle.edges.specs.EdgesLaws.{with-vertices, with-edges, length-with, with-priority, with-owner, with-source, edges-with, edge-linked, length-edgesIn, with-linked, with-with, others-append, length-others, with-well, others-out, others-in, others-all, others-one}
+use Rattle.edges.specs.EdgesLaws.{with-vertices, with-edges, length-with, with-priority, with-owner, edges-with, edge-linked, length-edgesIn, with-linked, with-with, others-append, length-others, with-well, others-out, others-in, others-all, others-one}
 use Rattle.edges.specs.PartsLaws.{with-own}
 use Rattle.edges.specs.declared.Edit.{Edit}
 use Rattle.edges.specs.declared.Edit.the-variants.{Arrival, Leaving}
@@ -54,14 +55,10 @@ module _ (e : Edit) (g : List ℕ) (s t : ℕ) where
   unfolding edited
   edited-owner = with-owner g (editedEdges e s t (edgesIn g))
 
--- an arrival has one edge more, a leaving at most as many
+-- an arrival has one edge more
 pub arrived-edges : (g : List ℕ) (s t : ℕ) → tableEdges (edited Arrival g s t) ≡ tableEdges g + 1
 unfolding editedEdges
 arrived-edges g s t = edited-edges Arrival g s t ∙ length-append (edgesIn g) ((s, t) ∷ []) ∙ rw (length-edgesIn g)
-
-pub left-edges : (g : List ℕ) (s t : ℕ) → tableEdges (edited Leaving g s t) ≤ tableEdges g
-unfolding editedEdges
-left-edges g s t = omega (arith, edited-edges Leaving g s t, length-others s t (edgesIn g), length-edgesIn g)
 
 -- ---- the game of the new table, edge by edge
 
@@ -171,6 +168,34 @@ module _ (g : List ℕ) (s t : ℕ) (well : WellFormed g) (new : gameOf g .edge 
       let all : others s t (es ++ ((s, t) ∷ [])) ≡ es =
       others-append s t es ((s, t) ∷ []) ∙ rw (others-one s t, others-all s t es (sym (edge-linked g s t) ∙ new)) (append-nil es) in
       rw (edges-with g (es ++ ((s, t) ∷ [])), all) (with-with g (es ++ ((s, t) ∷ [])) es ∙ with-own g (well .size))
+
+  two-more : length (edited Arrival g s t) ≡ length g + 2
+  two-more = omega (arith, length-edited Arrival g s t, arrived-edges g s t, well .size)
+
+  pub length-arrived : length (editedWords Arrival g s t) ≡ length g + 2
+  unfolding editedWords
+  length-arrived = simp (length-append, length-tabulate) (omega (arith, two-more))
+
+  -- the two words beyond it become 0
+  pub left-words : editedWords Leaving (edited Arrival g s t) s t ≡ g ++ (0 ∷ 0 ∷ [])
+  unfolding editedWords tabulate
+  left-words = let two : length (edited Arrival g s t) - length g ≡ 2 = omega (arith, two-more) in rw (left-arrived, two)
+
+  -- and it is accepted: the edge is there, and its source had an edge before
+  has-edge : s < vertexCount g → lacksEdge g s ≡ false
+  unfolding lacksEdge
+  has-edge h =
+      let (j, l, e) = well .total s h in
+      ap not (any-in (tableEdges g) (λ j. eqb (sourceAt g j) s) j l (eq-eqb (sourceAt g j) s e))
+
+  pub left-again : (size : ℕ) → Placed Arrival g s t → Clean (editRows Leaving (edited Arrival g s t) size s t)
+  unfolding editRows changeRows misplaced
+  left-again size p =
+      let v = edited-vertices Arrival g s t in
+      let there = arrived-edge g s t s t .1 (inr (refl, refl)) in (
+        or-fails _ _ .1 (or-fails _ _ .1 (lt-leb _ s (rw v (p .source)), lt-leb _ t (rw v (p .target))), ap not there),
+        (rw left-arrived (has-edge (p .source)), tt),
+      )
 
 -- ---- a buffer that the edit is made in
 

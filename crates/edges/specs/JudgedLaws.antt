@@ -9,7 +9,7 @@ use Rattle.theory.specs.Bools.{_or_}
 use Rattle.theory.specs.BoolsLaws.{not-out, or-left, or-right, or-fails}
 use Rattle.theory.specs.Range.{anyBelow}
 use Rattle.table.specs.Limits.{edgeLimit}
-use Rattle.table.specs.Table.{vertexCount, tableEdges, tableLength, gameOf}
+use Rattle.table.specs.Table.{vertexCount, tableLength, gameOf}
 use Rattle.table.specs.Verdict.{row, accepted, refused, judge}
 use Rattle.table.specs.VerdictLaws.{judge-hit, judge-next, judge-clean}
 use Rattle.table.specs.Reading.{lacksEdge}

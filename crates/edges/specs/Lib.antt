@@ -7,3 +7,5 @@ pub mod EditedLaws
 pub mod SearchLaws
 pub mod MadeLaws
 pub mod JudgedLaws
+pub mod EdgesRules
+pub mod EdgesRulesLaws

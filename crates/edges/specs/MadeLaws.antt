@@ -1,5 +1,5 @@
 -- The edits as they are made in a buffer: the table's words that stay, and those that are put behind them.
-use mathlib.Core.Path.{_≡_, refl, sym, ap, _∙_}
+use mathlib.Core.Path.{_≡_, sym, ap, _∙_}
 use mathlib.Core.List.{List, [], _∷_, _++_, append-nil, append-assoc, map-append}
 use Prim.Native.Nat.{ℕ, _+_, _-_, _*_, _≤_, _<_}
 use native.Mathlib.Omega.{arith}
@@ -15,7 +15,7 @@ use Rattle.table.specs.Placing.{placed}
 use Rattle.table.specs.PlacingLaws.{written-join}
 use Rattle.table.specs.Listing.{sourcesOf, targetsOf, Appended}
 use Rattle.table.specs.ListingLaws.{read-back, listed-sources, listed-targets}
-use Rattle.edges.specs.Edges.{edgesIn, withEdges, others, editedEdges, edited, editedWords, Formed, Made}
+use Rattle.edges.specs.Edges.{edgesIn, others, editedEdges, edited, editedWords, Formed, Made}
 use Rattle.edges.specs.BufferLaws.{in-vertices, in-edges, in-room}
 use Rattle.edges.specs.EdgesLaws.{length-edgesIn, length-others}
 use Rattle.edges.specs.PartsLaws.{head, length-head, with-parts, head-kept, sources-kept, edges-sources, edges-targets}

@@ -1,19 +1,21 @@
 -- Laws of the searches among a table's edges: for the edge from s to t, and for another edge of s, which is one that stays.
-use mathlib.Core.Path.{_≡_, refl, sym, ap, _∙_}
+use mathlib.Core.Path.{_≡_, refl, sym, _∙_}
+use mathlib.Core.Logic.{inl, inr, _↔_}
 use mathlib.Core.Bool.{Bool, true, false, not, cond, So}
 use mathlib.Core.List.{List, [], _∷_, _++_}
 use Prim.Native.Nat.{ℕ, _+_, _*_, _≤_, _<_}
+use native.Mathlib.Decide.{ℕ-discrete}
 use native.Mathlib.Numerals.{add-one}
 use native.Mathlib.Omega.{arith}
 use lib.Dec.{eqb}
 use lib.ListN.{length, getD, set}
-use borrow.Author.Tests.{eqb-true, eqb-false, eq-eqb, ne-eqb, not-false}
+use borrow.Author.Tests.{eqb-true, eqb-false, eq-eqb, ne-eqb}
 use Rattle.theory.specs.Bools.{_&_}
-use Rattle.theory.specs.BoolsLaws.{So-ext, not-in, not-out, and-in, and-out}
+use Rattle.theory.specs.BoolsLaws.{decide, clash, So-ext, So-not, not-in, not-out, and-in, and-out}
 use Rattle.theory.specs.Range.{anyBelow, tabulate}
-use Rattle.theory.specs.RangeLaws.{any-in, any-out}
+use Rattle.theory.specs.RangeLaws.{any-in, any-out, any-fails}
 use Rattle.theory.specs.ListLaws.{length-tabulate, tabulate-snoc}
-use Rattle.table.specs.Table.{tableEdges, sourceAt, targetAt, isEdge, gameOf}
+use Rattle.table.specs.Table.{tableEdges, sourceAt, targetAt, isEdge, Listed, gameOf}
 use Rattle.table.specs.TableLaws.{edge-in, edge-out}
 use Rattle.table.specs.Reading.{lacksEdge}
 use Rattle.table.specs.PlacingLaws.{placed-one}
@@ -49,10 +51,10 @@ pub there-edge : (g : List ℕ) (s t : ℕ) → anyBelow (tableEdges g) (leads g
 unfolding gameOf isEdge leads
 there-edge g s t = refl
 
--- from s elsewhere: s has an edge once those to t have left
-pub elsewhere-stays : (g : List ℕ) (s t : ℕ) → anyBelow (tableEdges g) (leads g s t false) ≡ not (lacksEdge (edited Leaving g s t) s)
-unfolding lacksEdge leads
-elsewhere-stays g s t = So-ext to from
+-- s has no edge once those to t have left: every edge of s leads to t
+pub lacks-says : (g : List ℕ) (s t : ℕ) → So (lacksEdge (edited Leaving g s t) s) ↔ ((w j : ℕ) → Listed g s w j → w ≡ t)
+unfolding lacksEdge
+lacks-says g s t = (to, from)
   where
     new : List ℕ
     new = edited Leaving g s t
@@ -60,24 +62,50 @@ elsewhere-stays g s t = So-ext to from
     has : ℕ → Bool
     has j = eqb (sourceAt new j) s
 
-    to : So (anyBelow (tableEdges g) (leads g s t false)) → So (not (not (anyBelow (tableEdges new) has)))
-    to x =
-        let (j, l, y) = any-out x in
-        let p = and-out y in
-        let w = targetAt g j in
-        let d : w ≡ t → ⊥ = eqb-false w t (not-out (p .1)) in
-        let e = edge-in g s w j (record { inside = l; source = eqb-true (sourceAt g j) s (p .0); target = refl }) in
-        let (i, k) = edge-out new s w (left-edge g s t s w .1 (e, λ q. d (q .1))) in
-        not-in (ap not (any-in (tableEdges new) has i (k .inside) (eq-eqb (sourceAt new i) s (k .source))))
+    to : So (not (anyBelow (tableEdges new) has)) → (w j : ℕ) → Listed g s w j → w ≡ t
+    to h w j l = elim (ℕ-discrete w t) [
+      | yes e ↦ e
+      | no d ↦ (
+          let (i, k) = edge-out new s w (left-edge g s t s w .1 (edge-in g s w j l, λ q. d (q .1))) in
+          clash (any-in (tableEdges new) has i (k .inside) (eq-eqb (sourceAt new i) s (k .source))) (not-out h))
+    ]
 
-    from : So (not (not (anyBelow (tableEdges new) has))) → So (anyBelow (tableEdges g) (leads g s t false))
-    from x =
-        let (i, l, y) = any-out {n = tableEdges new} {p = has} (not-false _ (not-out x)) in
+    from : ((w j : ℕ) → Listed g s w j → w ≡ t) → So (not (anyBelow (tableEdges new) has))
+    from only = not-in (So-not (λ x.
+        let (i, l, y) = any-out {n = tableEdges new} {p = has} x in
         let w = targetAt new i in
         let r = left-edge g s t s w .0 (edge-in new s w i (record { inside = l; source = eqb-true (sourceAt new i) s y; target = refl })) in
         let (j, k) = edge-out g s w (r .0) in
-        let d : eqb (targetAt g j) t ≡ false = ne-eqb (targetAt g j) t (λ e. r .1 (refl, sym (k .target) ∙ e)) in
-        any-in (tableEdges g) _ j (k .inside) (and-in (eq-eqb (sourceAt g j) s (k .source)) (not-in d))
+        r .1 (refl, only w j k)))
+
+-- from s elsewhere: that is one that stays
+pub elsewhere-stays : (g : List ℕ) (s t : ℕ) → anyBelow (tableEdges g) (leads g s t false) ≡ not (lacksEdge (edited Leaving g s t) s)
+unfolding leads
+elsewhere-stays g s t = So-ext to from
+  where
+    elsewhere : ℕ → Bool
+    elsewhere j = eqb (sourceAt g j) s & not (eqb (targetAt g j) t)
+
+    to : So (anyBelow (tableEdges g) elsewhere) → So (not (lacksEdge (edited Leaving g s t) s))
+    to x =
+        let (j, l, y) = any-out {n = tableEdges g} {p = elsewhere} x in
+        let p = and-out y in
+        let at : Listed g s (targetAt g j) j = record { inside = l; source = eqb-true (sourceAt g j) s (p .0); target = refl } in
+        not-in (So-not (λ h. eqb-false (targetAt g j) t (not-out (p .1)) (lacks-says g s t .0 h (targetAt g j) j at)))
+
+    from : So (not (lacksEdge (edited Leaving g s t) s)) → So (anyBelow (tableEdges g) elsewhere)
+    from x = elim (decide (anyBelow (tableEdges g) elsewhere)) [
+      | inl y ↦ y
+      | inr f ↦ clash (lacks-says g s t .1 (λ w j l. only w j l f)) (not-out x)
+    ]
+      where
+        only : (w j : ℕ) → Listed g s w j → anyBelow (tableEdges g) elsewhere ≡ false → w ≡ t
+        only w j l f = elim (ℕ-discrete w t) [
+          | yes e ↦ e
+          | no d ↦ clash
+              (and-in (eq-eqb (sourceAt g j) s (l .source)) (not-in (ne-eqb (targetAt g j) t (λ e. d (sym (l .target) ∙ e)))))
+              (any-fails (tableEdges g) elsewhere f j (l .inside))
+        ]
 
 -- none of no edges
 pub leads-none : (g : List ℕ) (s t : ℕ) (there : Bool) → anyBelow 0 (leads g s t there) ≡ false

@@ -4,7 +4,6 @@ ghost use mathlib.Core.List.{[], _∷_};
 ghost use Prim.Native.Nat.{_<_, _≤_};
 ghost use lib.ListN.{length};
 ghost use Rattle.theory.specs.Range.{anyBelow};
-ghost use Rattle.table.specs.Limits.{edgeLimit};
 ghost use Rattle.table.specs.Table.{sourceAt, targetAt};
 ghost use Rattle.table.specs.Listing.{Appended};
 ghost use Rattle.edges.specs.Edges.{Formed, edgesIn, leads, others};

@@ -1,5 +1,5 @@
 -- Laws of the calls that edit a table: their promise at each way out.
-use mathlib.Core.Path.{_≡_, refl, sym, ap, _∙_}
+use mathlib.Core.Path.{_≡_, sym, ap, _∙_}
 use mathlib.Core.List.{List, [], _∷_, _++_, append-nil}
 use Prim.Native.Nat.{ℕ, _≤_}
 use native.Mathlib.Omega.{arith}
@@ -7,7 +7,7 @@ use lib.ListN.{length, take, length-take}
 use Rattle.table.specs.Table.{vertexCount, tableLength, tableIn}
 use Rattle.table.specs.Verdict.{Row, accepted, refused, judge, Clean}
 use Rattle.table.specs.VerdictLaws.{judge-clean, judge-accepted, judge-past, judge-stays, after-clean, after-refused, clean-append}
-use Rattle.table.specs.Reading.{gameRows, readAnswer, readingAnswer, refusalOf}
+use Rattle.table.specs.Reading.{readAnswer, readingAnswer, refusalOf}
 use Rattle.table.specs.ReadingLaws.{reading-accepted}
 use Rattle.table.specs.Acceptance.{acceptanceAnswer}
 use Rattle.table.specs.WellFormed.{WellFormed}

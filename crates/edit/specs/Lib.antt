@@ -1,2 +1,5 @@
 pub mod EditCall
 pub mod EditCallLaws
+pub mod EditRules
+pub mod EditRulesLaws
+pub mod NewTableLaws

@@ -1,5 +1,5 @@
 -- A case for each edit; that its rows are passed gives what it needs.
-use mathlib.Core.Path.{_≡_, sym, subst}
+use mathlib.Core.Path.{subst}
 use native.Mathlib.Omega.{arith}
 use lib.ListN.{length}
 use Rattle.table.specs.Table.{tableIn}

@@ -1,0 +1,61 @@
+-- Laws of the calls that edit a table: they refuse k at p exactly as the table of refusals says, accept exactly otherwise, and, refused, leave
+-- all lent memory as it was.
+use mathlib.Core.Path.{_≡_, sym, _∙_}
+use mathlib.Core.Logic.{_↔_}
+use mathlib.Core.List.{List}
+use Prim.Native.Nat.{ℕ}
+use lib.ListN.{length}
+use Rattle.table.specs.Table.{vertexCount, tableIn}
+use Rattle.table.specs.Verdict.{Row, Answer, accepted, refused, Clean}
+use Rattle.table.specs.VerdictLaws.{judge-clean, judge-accepted, after-refused}
+use Rattle.table.specs.Rules.{FirstRule, NoRule, Rendered}
+use Rattle.table.specs.RulesLaws.{refused-by, rendered-append, clean-none, none-clean}
+use Rattle.order.specs.OrderCall.{orderBytes}
+use Rattle.classes.specs.ClassesCall.{classWords}
+use Rattle.classes.specs.ClassesRulesLaws.{memory-rows-render}
+use Rattle.edges.specs.BufferLaws.{buffer-render}
+use Rattle.edges.specs.Edges.{edited, editedWords}
+use Rattle.edges.specs.EdgesRulesLaws.{edit-render}
+use Rattle.edges.specs.declared.Edit.{Edit}
+use Rattle.edit.specs.EditCall.{callRows, callCounts, EditCall}
+use Rattle.edit.specs.EditRules.{callRules}
+
+call-render : (e : Edit) (buffer : List ℕ) (s t : ℕ) (marks spare classes : List ℕ)
+    → Rendered (callRows e buffer s t marks spare classes) (callRules e buffer s t marks spare classes)
+unfolding callRows
+call-render e buffer s t marks spare classes =
+    rendered-append (buffer-render buffer)
+    (rendered-append (memory-rows-render (vertexCount buffer) marks spare classes) (edit-render e (tableIn buffer) (length buffer) s t))
+
+module _ {e : Edit} {buffer : List ℕ} {s t : ℕ} {marks spare classes : List ℕ} {answer : Answer} {buffer′ marks′ spare′ classes′ : List ℕ}
+    (call : EditCall e buffer s t marks spare classes answer buffer′ marks′ spare′ classes′) where
+  abbrev rows : List Row
+  rows = callRows e buffer s t marks spare classes
+
+  abbrev new : List ℕ
+  new = edited e (tableIn buffer) s t
+
+  pub call-refused : (k p : ℕ) → (answer ≡ refused k p) ↔ FirstRule (callRules e buffer s t marks spare classes) k p
+  call-refused = refused-by _ (call-render e buffer s t marks spare classes) (call .verdict)
+
+  pub call-passed : (counts : List ℕ) → answer ≡ accepted counts → Clean rows × (counts ≡ callCounts new)
+  call-passed counts a =
+      let j = judge-accepted rows _ counts (sym (call .verdict) ∙ a) in
+      (j .0, sym (j .1))
+
+  pub call-accepted : (counts : List ℕ) → answer ≡ accepted counts → NoRule (callRules e buffer s t marks spare classes) × (counts ≡ callCounts new)
+  call-accepted counts a =
+      let p = call-passed counts a in
+      (clean-none (call-render e buffer s t marks spare classes) (p .0), p .1)
+
+  pub call-accepts : NoRule (callRules e buffer s t marks spare classes) → answer ≡ accepted (callCounts new)
+  call-accepts n = call .verdict ∙ judge-clean _ _ (none-clean (call-render e buffer s t marks spare classes) n)
+
+  pub call-refused-old : (k p : ℕ) → answer ≡ refused k p → (buffer′ ≡ buffer) × (marks′ ≡ marks) × (spare′ ≡ spare) × (classes′ ≡ classes)
+  call-refused-old k p a =
+      let v = sym (call .verdict) ∙ a in (
+        call .buffer-after ∙ after-refused rows _ (editedWords e (tableIn buffer) s t) buffer v,
+        call .marks-after ∙ after-refused rows _ (orderBytes new) marks v,
+        call .spare-after ∙ after-refused rows _ (orderBytes new) spare v,
+        call .classes-after ∙ after-refused rows _ (classWords new) classes v,
+      )
