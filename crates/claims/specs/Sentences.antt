@@ -7,7 +7,7 @@ use lib.ListN.{getD}
 use Rattle.theory.specs.Game.{Player, even, odd, Game, edgeCount}
 use Rattle.theory.specs.Plan.{Won}
 use Rattle.theory.specs.Reduction.{reduced, classOf}
-use Rattle.table.specs.Table.{vertexCount, gameOf}
+use Rattle.table.specs.Table.{vertexCount, tableIn, gameOf}
 use Rattle.table.specs.Verdict.{Answer, accepted, refused}
 use Rattle.table.specs.Reading.{readAnswer}
 use Rattle.table.specs.Acceptance.{acceptanceAnswer}
@@ -18,6 +18,8 @@ use Rattle.classes.specs.ClassesCall.{ClassesCall}
 use Rattle.reduction.specs.TableCall.{TableCall}
 use Rattle.carry.specs.CarryCall.{CarryCall, CarryClassCall}
 use Rattle.carry.specs.WrittenPlanLaws.{writtenPlan, PlanFrom}
+use Rattle.edges.specs.declared.Edit.{Edit}
+use Rattle.edit.specs.EditCall.{EditCall}
 use Rattle.claims.specs.Written.{writtenTable}
 use Rattle.claims.specs.declared.Containment.{Containment}
 
@@ -102,6 +104,16 @@ pub record CarriesClass (game : List ℕ) (player : ℕ) (plan : List ℕ) (vert
   pub classes-words : OnceWritten AfterReduction answer (ClassSentence game classes′)
   pub reduction-table : OnceWritten AfterReduction answer (TableSentences game classes′ reduction′ (reduced (gameOf game) .n) (edgeCount (reduced (gameOf game))))
   pub output-plan : (k n e p l : ℕ) → answer ≡ accepted (k ∷ n ∷ e ∷ p ∷ l ∷ []) → PlanFrom game player vertex (writtenPlan p l output′)
+
+-- a call that edits a table: the sentences are about the table that begins the buffer after it
+pub record Edits (e : Edit) (buffer : List ℕ) (s t : ℕ) (marks spare classes : List ℕ) (answer : Answer)
+    (buffer′ marks′ spare′ classes′ : List ℕ) : Type 0 where
+  pub call : EditCall e buffer s t marks spare classes answer buffer′ marks′ spare′ classes′
+  -- the reader accepts it, with the n and m of the verdict
+  pub read : (k n m : ℕ) → answer ≡ accepted (k ∷ n ∷ m ∷ []) → readAnswer (tableIn buffer′) ≡ accepted (n ∷ m ∷ edgeCount (gameOf (tableIn buffer′)) ∷ [])
+  pub marks-order : OnAcceptance answer (OrderSentences (tableIn buffer′) marks′)
+  pub spare-order : OnAcceptance answer (OrderSentences (tableIn buffer′) spare′)
+  pub classes-words : OnAcceptance answer (ClassSentence (tableIn buffer′) classes′)
 
 -- the relation acceptor and then the order call, with the verdicts of both
 pub record Contains (game relation marks spare : List ℕ) (r : Containment) (marks′ spare′ : List ℕ) : Type 0 where

@@ -14,9 +14,12 @@ use Rattle.reduction.specs.TableCall.{tableRows, tableCounts, TableCall}
 use Rattle.carry.specs.CarryCall.{judgedRows, carryRows, CarryCall, carryClassRows, CarryClassCall}
 use Rattle.carry.specs.CarryMemoryLaws.{carry-passed, carry-class-passed}
 use Rattle.carry.specs.WrittenPlanLaws.{carry-wins, carry-class-wins}
+use Rattle.edges.specs.declared.Edit.{Edit}
+use Rattle.edit.specs.EditCall.{callRows, EditCall}
+use Rattle.edit.specs.NewTableLaws.{call-table, call-read}
 use Rattle.claims.specs.Written.{LeavesOrder, Faithful}
 use Rattle.claims.specs.Demands as demands
-use Rattle.claims.specs.Sentences.{OnAcceptance, OrderSentences, Orders, Classifies, Tabulates, Contains, OnceWritten, AfterOrder, AfterReduction, Carries, CarriesClass}
+use Rattle.claims.specs.Sentences.{OnAcceptance, OrderSentences, Orders, Classifies, Tabulates, Contains, OnceWritten, AfterOrder, AfterReduction, Carries, CarriesClass, Edits}
 use Rattle.claims.specs.declared.Containment.{Containment}
 
 -- a call that accepts has passed its rows
@@ -123,6 +126,20 @@ module _ {game : List ℕ} {player : ℕ} {plan : List ℕ} {vertex : ℕ} {mark
     reduction-table = once-map table-passed (λ c. sentences c .output-table _ _ _ refl);
     output-plan = λ k n e p l q. carry-class-wins (rw q at call);
   }
+
+-- ---- the calls that edit a table
+
+pub edits : {e : Edit} {buffer : List ℕ} {s t : ℕ} {marks spare classes : List ℕ} {answer : Answer} {buffer′ marks′ spare′ classes′ : List ℕ}
+    → EditCall e buffer s t marks spare classes answer buffer′ marks′ spare′ classes′
+    → Edits e buffer s t marks spare classes answer buffer′ marks′ spare′ classes′
+edits {e} {buffer} {s} {t} {marks} {spare} {classes} call =
+    let clean = passed (callRows e buffer s t marks spare classes) _ (call .verdict) in record {
+      call = call;
+      read = λ k n m a. call-read (rw a at call) refl;
+      marks-order = λ counts a. rw (call-table (rw a at call)) (order-sentences (record { buffer = call .marks-after }) (clean counts a));
+      spare-order = λ counts a. rw (call-table (rw a at call)) (order-sentences (record { buffer = call .spare-after }) (clean counts a));
+      classes-words = λ counts a. rw (call-table (rw a at call)) (demands.class-word (record { words = call .classes-after }) (clean counts a));
+    }
 
 pub contains : {game relation marks spare : List ℕ} {r : Containment} {marks′ spare′ : List ℕ}
     → acceptanceAnswer (r .relation) ≡ relationAnswer game relation

@@ -12,7 +12,8 @@ ghost use Rattle.classes.specs.ClassesCall.{classificationAnswer};
 ghost use Rattle.reduction.specs.TableCall.{tabulationAnswer};
 ghost use Rattle.arrival.specs.PlanWords.{carryingAnswer};
 ghost use Rattle.carry.specs.CarryCall.{classCarryingAnswer};
-ghost use Rattle.claims.specs.Sentences.{Orders, Classifies, Tabulates, Contains, Carries, CarriesClass};
+ghost use Rattle.edges.specs.declared.Edit.the-variants.{Arrival, Leaving};
+ghost use Rattle.claims.specs.Sentences.{Orders, Classifies, Tabulates, Contains, Carries, CarriesClass, Edits};
 
 // The verdicts of the two calls.
 pub struct Containment {
@@ -117,4 +118,32 @@ pub fn carries_class(
         reduction,
         output,
     )
+}
+
+// Adds an edge.
+pub fn adds(
+    buffer: &mut [u16],
+    source: u32,
+    target: u32,
+    marks: &mut [u8],
+    spare: &mut [u8],
+    classes: &mut [u16],
+) -> Tabulation
+    ensures { λ r. ⌜ Edits Arrival (now (buffer .entry)) source target (now (marks .entry)) (now (spare .entry)) (now (classes .entry)) (tabulationAnswer r) (now (buffer .exit)) (now (marks .exit)) (now (spare .exit)) (now (classes .exit)) ⌝ }
+{
+    edit::add_edge(buffer, source, target, marks, spare, classes)
+}
+
+// Removes an edge.
+pub fn removes(
+    buffer: &mut [u16],
+    source: u32,
+    target: u32,
+    marks: &mut [u8],
+    spare: &mut [u8],
+    classes: &mut [u16],
+) -> Tabulation
+    ensures { λ r. ⌜ Edits Leaving (now (buffer .entry)) source target (now (marks .entry)) (now (spare .entry)) (now (classes .entry)) (tabulationAnswer r) (now (buffer .exit)) (now (marks .exit)) (now (spare .exit)) (now (classes .exit)) ⌝ }
+{
+    edit::remove_edge(buffer, source, target, marks, spare, classes)
 }

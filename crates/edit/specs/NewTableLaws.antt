@@ -22,8 +22,8 @@ use Rattle.edges.specs.declared.Edit.the-variants.{Arrival, Leaving}
 use Rattle.edit.specs.EditCall.{callRows, callCounts, EditCall}
 use Rattle.edit.specs.EditRulesLaws.{call-passed}
 
-module _ {e : Edit} {buffer : List ℕ} {s t : ℕ} {marks spare classes : List ℕ} {k n m : ℕ} {buffer′ marks′ spare′ classes′ : List ℕ}
-    (call : EditCall e buffer s t marks spare classes (accepted (k ∷ n ∷ m ∷ [])) buffer′ marks′ spare′ classes′) where
+module _ {e : Edit} {buffer : List ℕ} {s t : ℕ} {marks spare classes counts : List ℕ} {buffer′ marks′ spare′ classes′ : List ℕ}
+    (call : EditCall e buffer s t marks spare classes (accepted counts) buffer′ marks′ spare′ classes′) where
   abbrev g : List ℕ
   g = tableIn buffer
 
@@ -49,12 +49,12 @@ module _ {e : Edit} {buffer : List ℕ} {s t : ℕ} {marks spare classes : List 
   pub call-table : tableIn buffer′ ≡ new
   call-table = ap (λ (b : List ℕ). tableIn b) call-words ∙ edited-in e g s t buffer
 
-  pub call-read : readAnswer (tableIn buffer′) ≡ accepted (n ∷ m ∷ edgeCount (gameOf (tableIn buffer′)) ∷ [])
+  pub call-read : {k n m : ℕ} → counts ≡ k ∷ n ∷ m ∷ [] → readAnswer (tableIn buffer′) ≡ accepted (n ∷ m ∷ edgeCount (gameOf (tableIn buffer′)) ∷ [])
   unfolding callCounts
-  call-read =
-      let c = call-passed call _ refl .1 in
-      let v : n ≡ vertexCount g = cc (c, edited-vertices e g s t) in
-      let w : m ≡ tableEdges new = cc c in
+  call-read {k} {n} {m} c =
+      let d = sym c ∙ call-passed call _ refl .1 in
+      let v : n ≡ vertexCount g = cc (d, edited-vertices e g s t) in
+      let w : m ≡ tableEdges new = cc d in
       rw (call-table, v, w) (edited-read g (length buffer) s t call-well e call-edit)
 
   -- ---- no priority and no owner changes
@@ -67,20 +67,20 @@ module _ {e : Edit} {buffer : List ℕ} {s t : ℕ} {marks spare classes : List 
 
 -- ---- the game has exactly the edges asked for
 
-module _ {buffer : List ℕ} {s t : ℕ} {marks spare classes : List ℕ} {k n m : ℕ} {buffer′ marks′ spare′ classes′ : List ℕ} (v w : ℕ) where
-  pub added-edge : EditCall Arrival buffer s t marks spare classes (accepted (k ∷ n ∷ m ∷ [])) buffer′ marks′ spare′ classes′
+module _ {buffer : List ℕ} {s t : ℕ} {marks spare classes counts : List ℕ} {buffer′ marks′ spare′ classes′ : List ℕ} (v w : ℕ) where
+  pub added-edge : EditCall Arrival buffer s t marks spare classes (accepted counts) buffer′ marks′ spare′ classes′
       → So (gameOf (tableIn buffer′) .edge v w) ↔ (So (gameOf (tableIn buffer) .edge v w) ⊎ ((v ≡ s) × (w ≡ t)))
   added-edge call = rw (call-table call) (arrived-edge (tableIn buffer) s t v w)
 
-  pub removed-edge : EditCall Leaving buffer s t marks spare classes (accepted (k ∷ n ∷ m ∷ [])) buffer′ marks′ spare′ classes′
+  pub removed-edge : EditCall Leaving buffer s t marks spare classes (accepted counts) buffer′ marks′ spare′ classes′
       → So (gameOf (tableIn buffer′) .edge v w) ↔ (So (gameOf (tableIn buffer) .edge v w) × ¬ ((v ≡ s) × (w ≡ t)))
   removed-edge call = rw (call-table call) (left-edge (tableIn buffer) s t v w)
 
 -- ---- a leaving of the edge that just arrived, in memory that is long enough: it is accepted, with the old table's counts, and gives the old
 -- words back; the two words beyond them are 0, whatever they held
 
-module _ {buffer : List ℕ} {s t : ℕ} {marks spare classes : List ℕ} {k n m : ℕ} {buffer₁ marks₁ spare₁ classes₁ : List ℕ}
-    (added : EditCall Arrival buffer s t marks spare classes (accepted (k ∷ n ∷ m ∷ [])) buffer₁ marks₁ spare₁ classes₁)
+module _ {buffer : List ℕ} {s t : ℕ} {marks spare classes counts : List ℕ} {buffer₁ marks₁ spare₁ classes₁ : List ℕ}
+    (added : EditCall Arrival buffer s t marks spare classes (accepted counts) buffer₁ marks₁ spare₁ classes₁)
     {marks₂ spare₂ classes₂ : List ℕ} {answer : Answer} {buffer₃ marks₃ spare₃ classes₃ : List ℕ}
     (removed : EditCall Leaving buffer₁ s t marks₂ spare₂ classes₂ answer buffer₃ marks₃ spare₃ classes₃)
     (enough : Clean (memoryRows (vertexCount buffer) (length marks₂) (length spare₂) (length classes₂))) where
