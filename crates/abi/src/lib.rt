@@ -14,8 +14,9 @@ ghost use Rattle.table.specs.Reading.{readAnswer};
 ghost use Rattle.table.specs.Kind.{kindOf};
 ghost use Rattle.relation.specs.RelationCall.{relationAnswer};
 ghost use Rattle.plan.specs.Acceptance.{planAnswer};
+ghost use Rattle.edges.specs.declared.Edit.the-variants.{Arrival, Leaving};
 ghost use Rattle.answer.specs.Fields.{readFields, acceptFields};
-ghost use Rattle.abi.specs.Exports.{OrderExport, ClassesExport, TableExport, SeedExport, ConvertExport, CarryExport, CarryClassExport};
+ghost use Rattle.abi.specs.Exports.{OrderExport, ClassesExport, TableExport, SeedExport, ConvertExport, CarryExport, CarryClassExport, EditExport};
 
 // The kind of a refusal number.
 #[no_mangle]
@@ -162,4 +163,34 @@ pub extern "C" fn raskjomi_carry_class(
         reduction,
         output,
     ))
+}
+
+// An edge added to the table that begins `table`; the classes and the order of the new table.
+#[no_mangle]
+pub extern "C" fn raskjomi_add_edge(
+    table: &mut [u16],
+    source: u32,
+    target: u32,
+    marks: &mut [u8],
+    spare: &mut [u8],
+    classes: &mut [u16],
+) -> RaskjomiAnswer
+    ensures { λ r. ⌜ EditExport Arrival (now (table .entry)) source target (now (marks .entry)) (now (spare .entry)) (now (classes .entry)) r (now (table .exit)) (now (marks .exit)) (now (spare .exit)) (now (classes .exit)) ⌝ }
+{
+    of_tabulation(edit::add_edge(table, source, target, marks, spare, classes))
+}
+
+// Every copy of an edge removed from the table that begins `table`; the classes and the order of the new table.
+#[no_mangle]
+pub extern "C" fn raskjomi_remove_edge(
+    table: &mut [u16],
+    source: u32,
+    target: u32,
+    marks: &mut [u8],
+    spare: &mut [u8],
+    classes: &mut [u16],
+) -> RaskjomiAnswer
+    ensures { λ r. ⌜ EditExport Leaving (now (table .entry)) source target (now (marks .entry)) (now (spare .entry)) (now (classes .entry)) r (now (table .exit)) (now (marks .exit)) (now (spare .exit)) (now (classes .exit)) ⌝ }
+{
+    of_tabulation(edit::remove_edge(table, source, target, marks, spare, classes))
 }

@@ -1,5 +1,5 @@
 -- What the library accepts is small, so its counts fit the answer's fields.
-use mathlib.Core.Path.{_≡_, sym, ap}
+use mathlib.Core.Path.{_≡_, refl, sym, ap}
 use mathlib.Core.List.{List, _∷_}
 use Prim.Native.Nat.{ℕ, _≤_}
 use native.Mathlib.Omega.{arith}
@@ -14,7 +14,7 @@ use Rattle.theory.specs.Reduction.{reduced}
 use Rattle.theory.specs.SizeLaws.{reduced-size, reduced-edges}
 use Rattle.theory.specs.ClassLaws.{classCount-le}
 use Rattle.theory.specs.QuotientLaws.{order-preorder}
-use Rattle.table.specs.Table.{vertexCount, gameOf}
+use Rattle.table.specs.Table.{vertexCount, tableIn, gameOf}
 use Rattle.table.specs.Limits.{vertexLimit, edgeLimit, positionLimit, linkLimit}
 use Rattle.table.specs.Verdict.{Clean}
 use Rattle.table.specs.VerdictLaws.{judge-accepted, clean-split}
@@ -30,6 +30,11 @@ use Rattle.classes.specs.ClassesCall.{classRows, classTotal, classesAnswer, cla
 use Rattle.classes.specs.declared.Classification.{Classification}
 use Rattle.reduction.specs.TableCall.{tableRows, classTable, tabulationAnswer, TableCall}
 use Rattle.reduction.specs.declared.Tabulation.{Tabulation}
+use Rattle.edges.specs.Edges.{edited}
+use Rattle.edges.specs.declared.Edit.{Edit}
+use Rattle.edit.specs.EditCall.{callCounts, EditCall}
+use Rattle.edit.specs.EditRulesLaws.{call-passed}
+use Rattle.edit.specs.NewTableLaws.{new-well}
 use Rattle.seed.specs.SeedCall.{SeedCall}
 use Rattle.seed.specs.SeedRulesLaws.{seed-accepted}
 use Rattle.convert.specs.ConvertCall.{ConvertCall}
@@ -126,6 +131,20 @@ tabulation-small K size edges game marks spare classes output (Tabulation.Accept
       omega (arith, third-count (a .1), w .edges),
     )
 tabulation-small K size edges game marks spare classes output (Tabulation.Refused refusal) marks′ spare′ classes′ output′ call = tt
+
+-- ---- an edited table's counts: it is well formed
+
+pub editing-small : (e : Edit) (buffer : List ℕ) (s t : ℕ) (marks spare classes : List ℕ) (r : Tabulation) (buffer′ marks′ spare′ classes′ : List ℕ)
+    → EditCall e buffer s t marks spare classes (tabulationAnswer r) buffer′ marks′ spare′ classes′ → SmallCounts r
+unfolding callCounts
+editing-small e buffer s t marks spare classes (Tabulation.Accepted counts) buffer′ marks′ spare′ classes′ call =
+    let c = call-passed call _ refl .1 in
+    let w = new-well call in (
+      omega (arith, first-count c, total-le (edited e (tableIn buffer) s t), w .vertices),
+      omega (arith, second-count c, w .vertices),
+      omega (arith, third-count c, w .edges),
+    )
+editing-small e buffer s t marks spare classes (Tabulation.Refused refusal) buffer′ marks′ spare′ classes′ call = tt
 
 -- ---- a carried plan's counts: 34 didn't hold
 

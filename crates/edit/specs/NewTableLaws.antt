@@ -41,6 +41,9 @@ module _ {e : Edit} {buffer : List ℕ} {s t : ℕ} {marks spare classes counts 
       clean-split (memoryRows (vertexCount buffer) (length marks) (length spare) (length classes)) (editRows e g (length buffer) s t)
       (clean-split (bufferRows buffer) _ (call-passed call _ refl .0) .1) .1
 
+  pub new-well : WellFormed new
+  new-well = edited-well g (length buffer) s t call-well e call-edit
+
   call-words : buffer′ ≡ written (editedWords e g s t) buffer
   call-words = call .buffer-after ∙ after-clean (callRows e buffer s t marks spare classes) (editedWords e g s t) buffer (call-passed call _ refl .0)
 
@@ -102,7 +105,7 @@ module _ {buffer : List ℕ} {s t : ℕ} {marks spare classes counts : List ℕ}
   unfolding callRows
   removed-clean =
       clean-append (bufferRows buffer₁) _
-      (buffer-clean buffer₁ (rw (call-table added) (edited-well old (length buffer) s t (call-well added) Arrival (call-edit added))))
+      (buffer-clean buffer₁ (rw (call-table added) (new-well added)))
       (clean-append (memoryRows (vertexCount buffer₁) (length marks₂) (length spare₂) (length classes₂))
       (editRows Leaving (tableIn buffer₁) (length buffer₁) s t) (rw same-vertices enough)
       (rw (call-table added) (left-again old s t (call-well added) absent (length buffer₁) placed)))
