@@ -86,20 +86,35 @@ extern "C" {
         game: *const u16, game_len: usize,
         output: *mut u16, output_len: usize,
     ) -> RaskjomiAnswer;
+    fn raskjomi_add_edge(
+        table: *mut u16, table_len: usize,
+        source: u32, target: u32,
+        marks: *mut u8, marks_len: usize,
+        spare: *mut u8, spare_len: usize,
+        classes: *mut u16, classes_len: usize,
+    ) -> RaskjomiAnswer;
+    fn raskjomi_remove_edge(
+        table: *mut u16, table_len: usize,
+        source: u32, target: u32,
+        marks: *mut u8, marks_len: usize,
+        spare: *mut u8, spare_len: usize,
+        classes: *mut u16, classes_len: usize,
+    ) -> RaskjomiAnswer;
     fn raskjomi_kind(number: u32) -> u32;
 }
 
 /// Calls an export with the slices that it reads, then those lent to it: each goes as a pointer, then
-/// a length. A number goes between two slices.
+/// a length. Numbers go between two slices.
 macro_rules! call {
-    ($export:ident; shared $($shared:ident $(then $number:ident)?),*; lent $($lent:ident),*) => {
+    ($export:ident; shared $($shared:ident $(then $number:ident)?),*;
+        lent $($lent:ident $(then $($after:ident)and+)?),*) => {
         // SAFETY: each pointer and length are those of one live slice, the lent slices are borrowed
         // for this call alone, and the exports are proved for slices of any length and content, and
         // for any number.
         unsafe {
             $export(
                 $($shared.as_ptr(), $shared.len(), $($number,)?)*
-                $($lent.as_mut_ptr(), $lent.len(),)*
+                $($lent.as_mut_ptr(), $lent.len(), $($($after,)+)?)*
             )
         }
     };
@@ -205,6 +220,34 @@ pub fn seed(
 /// A game where the highest priority decides, as one where the lowest does.
 pub fn convert(game: &[u16], output: &mut [u16]) -> RaskjomiAnswer {
     call!(raskjomi_convert; shared game; lent output)
+}
+
+/// An edge added to the table that begins a buffer.
+pub fn add_edge(
+    table: &mut [u16],
+    source: u32,
+    target: u32,
+    marks: &mut [u8],
+    spare: &mut [u8],
+    classes: &mut [u16],
+) -> RaskjomiAnswer {
+    call!(
+        raskjomi_add_edge; shared; lent table then source and target, marks, spare, classes
+    )
+}
+
+/// Every copy of an edge removed from the table that begins a buffer.
+pub fn remove_edge(
+    table: &mut [u16],
+    source: u32,
+    target: u32,
+    marks: &mut [u8],
+    spare: &mut [u8],
+    classes: &mut [u16],
+) -> RaskjomiAnswer {
+    call!(
+        raskjomi_remove_edge; shared; lent table then source and target, marks, spare, classes
+    )
 }
 
 /// The kind of a refusal number.

@@ -7,8 +7,8 @@
 //! n priorities, n owners (0 [`EVEN`], 1 [`ODD`]), m sources and m targets. An edge may stand there
 //! several times; it counts as one, though m and all lengths count it each time. The library judges
 //! such tables, writes their direct simulation order, classes, quotient and reduced game, judges
-//! foreign relations and winning plans, carries a plan to another vertex, draws games by a seed, and
-//! converts games where the highest priority decides.
+//! foreign relations and winning plans, carries a plan to another vertex, draws games by a seed,
+//! converts games where the highest priority decides, and adds and removes edges.
 //! Every call works in memory that the caller lends, of any length and content. docs/CONTRACT.md in
 //! the repository has the definitions, each call's checks in order, every refusal, and what each buffer
 //! holds afterwards.
@@ -83,6 +83,24 @@ impl PlanSize {
     }
 }
 
+/// What an edit leaves: the sizes of the new table, and the number of its classes.
+#[derive(Clone, Copy, Debug, PartialEq, Eq)]
+pub struct Edited {
+    /// The number of classes.
+    pub classes: usize,
+    /// The number n of vertices, as before.
+    pub vertices: usize,
+    /// The number m of edges in the new table.
+    pub edges: usize,
+}
+
+impl Edited {
+    /// The words of the new table: 2 + 2n + 2m.
+    pub fn words(&self) -> usize {
+        2 + 2 * self.vertices + 2 * self.edges
+    }
+}
+
 /// The answer if it accepts, else its refusal.
 fn verdict(answer: RaskjomiAnswer) -> Result<RaskjomiAnswer, Refusal> {
     match answer.number {
@@ -111,6 +129,13 @@ fn filled(answer: RaskjomiAnswer) -> (usize, usize) {
 /// The size of a plan that a call has written.
 fn carried(answer: RaskjomiAnswer) -> PlanSize {
     PlanSize { positions: answer.positions as usize, links: answer.links as usize }
+}
+
+/// The counts of an edited table.
+fn edited(answer: RaskjomiAnswer) -> Edited {
+    let [classes, vertices, edges] =
+        [answer.classes, answer.vertices, answer.edges].map(|count| count as usize);
+    Edited { classes, vertices, edges }
 }
 
 /// Judges a game table.
@@ -360,4 +385,60 @@ pub fn seed(
 /// ```
 pub fn convert(game: &[u16], output: &mut [u16]) -> Result<(usize, usize), Refusal> {
     verdict(exports::convert(game, output)).map(filled)
+}
+
+/// Adds an edge to the table that begins `table`, which may be longer: it goes to the end of both
+/// arrays, so every target moves up by a word, and needs two words behind the table. Writes the order
+/// and the classes of the new table as [`classes()`] does. Words behind the new table stay as they are.
+///
+/// ```
+/// // Priorities 0, 1, 0, and an edge from each vertex to 1; two words are kept free.
+/// let mut table = [3, 3, 0, 1, 0, 0, 0, 1, 0, 1, 2, 1, 1, 1, 9, 9];
+/// let (mut marks, mut spare, mut classes) = ([0; 9], [0; 9], [0; 3]);
+/// let edited = raskjomi::add_edge(&mut table, 0, 2, &mut marks, &mut spare, &mut classes)?;
+/// assert_eq!(table, [3, 4, 0, 1, 0, 0, 0, 1, 0, 1, 2, 0, 1, 1, 1, 2]);
+/// // Vertices 0 and 2 no longer share a class.
+/// assert_eq!((edited.classes, edited.edges, edited.words()), (3, 4, 16));
+/// assert_eq!(classes, [0, 1, 2]);
+/// // The edge is there now, and adding it again is refused.
+/// let refusal = raskjomi::add_edge(&mut table, 0, 2, &mut marks, &mut spare, &mut classes);
+/// assert_eq!(refusal, Err(raskjomi::Refusal { number: 37, place: 0 }));
+/// # Ok::<(), raskjomi::Refusal>(())
+/// ```
+pub fn add_edge(
+    table: &mut [u16],
+    source: u32,
+    target: u32,
+    marks: &mut [u8],
+    spare: &mut [u8],
+    classes: &mut [u16],
+) -> Result<Edited, Refusal> {
+    verdict(exports::add_edge(table, source, target, marks, spare, classes)).map(edited)
+}
+
+/// Removes an edge from the table that begins `table`, which may be longer: every copy of it; the
+/// other edges keep their sequence, and the words that the table gives up become 0. Writes the order and
+/// the classes of the new table as [`classes()`] does.
+///
+/// ```
+/// // The edge from 0 to 2 stands there twice.
+/// let mut table = [3, 5, 0, 1, 0, 0, 0, 1, 0, 0, 1, 2, 0, 1, 2, 1, 1, 2];
+/// let (mut marks, mut spare, mut classes) = ([0; 9], [0; 9], [0; 3]);
+/// let edited = raskjomi::remove_edge(&mut table, 0, 2, &mut marks, &mut spare, &mut classes)?;
+/// assert_eq!(table, [3, 3, 0, 1, 0, 0, 0, 1, 0, 1, 2, 1, 1, 1, 0, 0, 0, 0]);
+/// assert_eq!((edited.classes, edited.edges), (2, 3));
+/// // Vertex 0 has one edge left, and keeps it.
+/// let refusal = raskjomi::remove_edge(&mut table, 0, 1, &mut marks, &mut spare, &mut classes);
+/// assert_eq!(refusal, Err(raskjomi::Refusal { number: 38, place: 0 }));
+/// # Ok::<(), raskjomi::Refusal>(())
+/// ```
+pub fn remove_edge(
+    table: &mut [u16],
+    source: u32,
+    target: u32,
+    marks: &mut [u8],
+    spare: &mut [u8],
+    classes: &mut [u16],
+) -> Result<Edited, Refusal> {
+    verdict(exports::remove_edge(table, source, target, marks, spare, classes)).map(edited)
 }

@@ -128,6 +128,7 @@ pub fn explain(number: u32) -> Option<Explanation> {
         31..=32 => &SEED[number as usize - 31],
         33..=35 => &CARRY[number as usize - 33],
         36 => &OVERSIZE,
+        37..=39 => &EDIT[number as usize - 37],
         _ => return None,
     };
     Some(*row)
@@ -265,3 +266,21 @@ const OVERSIZE: Explanation = row(
     "the word of the first priority 0",
     "number the priorities in use anew, in the same sequence and each with its parity, below 65,535",
 );
+
+const EDIT: [Explanation; 3] = [
+    row(
+        "an end of the edge isn't there, or an added edge is there already, or a removed one isn't",
+        "the edge's source, as it was given",
+        "name two vertices; add an edge that the table doesn't have, or remove one that it has",
+    ),
+    row(
+        "the edge is the last one out of its source, however often it stands there",
+        "the vertex that it leaves",
+        "add another edge out of the vertex first",
+    ),
+    row(
+        "the table has 4,096 edges, or the buffer has no two words behind it",
+        "the number m of edges in the table",
+        "remove an edge first, or lend a buffer two words longer than the table",
+    ),
+];

@@ -3,6 +3,7 @@
 #![forbid(unsafe_code)]
 
 mod baseline;
+mod edits;
 mod measure;
 mod rows;
 
@@ -183,6 +184,8 @@ fn show(Row { name, game, work }: &Row) -> (f64, Option<f64>) {
         Work::CarryClass(plan) => carry_figures(game, plan, true),
         Work::Seed(numbers) => seed_figures(*numbers, game.len()),
         Work::Convert => convert_figures(game),
+        Work::AddEdge(source, target) => edits::figures(&edits::ADD, game, *source, *target),
+        Work::RemoveEdge(source, target) => edits::figures(&edits::REMOVE, game, *source, *target),
     };
     let micros = |time: Duration| format!("{:.1}", time.as_secs_f64() * 1e6);
     let ratio_to = |time: Duration| library.as_secs_f64() / time.as_secs_f64();

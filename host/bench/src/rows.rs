@@ -21,6 +21,10 @@ pub enum Work {
     Convert,
     /// The game by a seed, of so many vertices, edges out of each, and priorities.
     Seed([u32; 4]),
+    /// An edge added to the game.
+    AddEdge(u32, u32),
+    /// An edge removed from it.
+    RemoveEdge(u32, u32),
 }
 
 /// A row of the table.
@@ -56,8 +60,20 @@ fn carried(n: usize, round: usize) -> [Row; 2] {
     [row("carry", Work::Carry(plan.words())), row("carry_class", Work::CarryClass(loops.words()))]
 }
 
+/// An edge that arrives in a random game, and one that leaves it.
+fn edited(lcg: &mut Lcg, n: usize, m: usize) -> [Row; 2] {
+    let game = random(lcg, n, m, 8);
+    let absent = (0..n as u16).find(|&target| !game.edges.contains(&(0, target)));
+    let (source, target) = game.edges[m / 2];
+    let row = |name: &str, work| Row { name: name.into(), game: game.words(), work };
+    [
+        row("add_edge", Work::AddEdge(0, absent.expect("a vertex without an edge from 0") as u32)),
+        row("remove_edge", Work::RemoveEdge(source as u32, target as u32)),
+    ]
+}
+
 /// All rows: random games, a chain, the largest plan, plans carried to the limits, the largest game by a
-/// seed, the largest game converted, and rings of coprime lengths.
+/// seed, the largest game converted, edits of one below the limit, and rings of coprime lengths.
 pub fn rows() -> Vec<Row> {
     let mut lcg = Lcg::new(2024);
     let mut rows = Vec::new();
@@ -75,6 +91,7 @@ pub fn rows() -> Vec<Row> {
     rows.push(Row::seed([1, 256, 16, 8]));
     let game = random(&mut lcg, 256, 4096, 8).words();
     rows.push(Row { name: "convert".into(), game, work: Work::Convert });
+    rows.extend(edited(&mut lcg, 256, 4095));
     rows.push(Row::reduce("two rings", rings(&[127, 128])));
     rows.push(Row::reduce("four rings", rings(&[59, 61, 62, 63])));
     for (player, owner) in [(0, "Even"), (1, "Odd")] {

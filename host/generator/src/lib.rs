@@ -4,6 +4,7 @@
 
 mod carries;
 mod damage;
+mod edits;
 mod families;
 mod lcg;
 mod plans;
@@ -16,6 +17,7 @@ mod table;
 
 pub use carries::{branching, crowded, opponents, round_complete, round_of_loops, round_plan};
 pub use damage::{damaged, damaged_often, REFUSALS};
+pub use edits::{edge_to_edit, words_behind};
 pub use families::{chain, complete, copies, fans, forced_ring, random, rings, watched_rings};
 pub use lcg::Lcg;
 pub use plans::{largest_plan, strategy_plan, unfolded, Plan};

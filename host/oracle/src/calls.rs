@@ -28,6 +28,8 @@ pub struct Refusal {
 /// The memory that a host lends.
 #[derive(Clone, Debug, Default, PartialEq, Eq)]
 pub struct Memory {
+    /// The buffer that a table begins, for the calls that edit it.
+    pub table: Vec<u16>,
     pub marks: Vec<u8>,
     pub spare: Vec<u8>,
     pub classes: Vec<u16>,
@@ -138,17 +140,28 @@ impl Oracle {
         buffers: usize,
     ) -> Result<Game, Refusal> {
         let game = self.game(game)?;
+        self.lengths(&game, memory, buffers)?;
+        Ok(game)
+    }
+
+    /// Refusals 21 to 24, as far as the first `buffers` go.
+    pub(crate) fn lengths(
+        &self,
+        game: &Game,
+        memory: &mut Memory,
+        buffers: usize,
+    ) -> Result<(), Refusal> {
         let n = game.n();
-        let needed = [n * n, n * n, n, self.output_words(&game)];
+        let needed = [n * n, n * n, n, self.output_words(game)];
         let lent =
             [memory.marks.len(), memory.spare.len(), memory.classes.len(), memory.output.len()];
         for i in 0..buffers {
             if i == 2 && self.falls_for(Trap::OrderBeforeLengths) {
-                self.write_order(&game, memory);
+                self.write_order(game, memory);
             }
             refuse_if(lent[i] < needed[i], 21 + i as u32, needed[i])?;
         }
-        Ok(game)
+        Ok(())
     }
 
     /// The words that the output needs.
@@ -169,7 +182,11 @@ impl Oracle {
         (order, passes)
     }
 
-    fn write_classes(&self, game: &Game, memory: &mut Memory) -> (Relation, Classes, Answer) {
+    pub(crate) fn write_classes(
+        &self,
+        game: &Game,
+        memory: &mut Memory,
+    ) -> (Relation, Classes, Answer) {
         let (order, passes) = self.write_order(game, memory);
         let classes = self.classes_of(game, &order);
         let words: Vec<u16> = classes.of.iter().map(|&class| class as u16).collect();

@@ -146,6 +146,23 @@ pub enum Trap {
     /// A converted table has each edge once.
     RepeatsDropped,
 
+    /// A table that begins a longer buffer is refused.
+    LongBufferRefused,
+    /// An edge arrives in front of the others.
+    ArrivesInFront,
+    /// A leaving removes the first copy alone.
+    OneCopyRemoved,
+    /// The words that a shorter table gives up keep their content.
+    FreedLeftOld,
+    /// The order and the classes are those of the old table.
+    OldClasses,
+    /// The place of a bad target is the target.
+    BadEndAsPlace,
+    /// A vertex's last edge is found by counting its words.
+    LastEdgeByWords,
+    /// The room for an edge is judged before the edge.
+    RoomBeforeEdge,
+
     /// Numbers between two ranges have the kind of the range below.
     KindsWithoutGaps,
     /// The report drops a last half word.
@@ -158,7 +175,7 @@ pub enum Trap {
 
 impl Trap {
     /// Every trap, those of document 01 first.
-    pub const ALL: [Trap; 71] = [
+    pub const ALL: [Trap; 79] = [
         Trap::SomeMemberHasEdge,
         Trap::LittleBrothersByProse,
         Trap::MixedRowsExchanged,
@@ -226,6 +243,14 @@ impl Trap {
         Trap::OversizeBeforeLength,
         Trap::OwnersTurned,
         Trap::RepeatsDropped,
+        Trap::LongBufferRefused,
+        Trap::ArrivesInFront,
+        Trap::OneCopyRemoved,
+        Trap::FreedLeftOld,
+        Trap::OldClasses,
+        Trap::BadEndAsPlace,
+        Trap::LastEdgeByWords,
+        Trap::RoomBeforeEdge,
         Trap::KindsWithoutGaps,
         Trap::HalfWordDropped,
         Trap::ReportUnlimited,

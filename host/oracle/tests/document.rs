@@ -3,7 +3,7 @@
 mod games;
 
 use games::{Carried, B, C, CARRIED, D, TABLES};
-use oracle::{Answer, Memory, Oracle, Trap};
+use oracle::{Answer, Edit, Memory, Oracle, Trap};
 
 /// A game of n vertices, each with the first m / n vertices as successors.
 fn regular(n: usize, m: usize) -> Vec<u16> {
@@ -27,6 +27,7 @@ fn memory_for(game: &[u16]) -> Memory {
         classes: vec![7; n],
         reduction: vec![7; game.len()],
         output: vec![7; game.len()],
+        ..Memory::default()
     }
 }
 
@@ -279,4 +280,24 @@ fn report_of_b() {
     assert_eq!(Oracle::exact().report(&[]), "refused 1 at 0\n");
     let long = [[1, 0, 1, 0].repeat(4), vec![9; 20_000]].concat();
     assert_eq!(Oracle::exact().report(&long), "refused 4 at 8707\n");
+}
+
+/// The worked edits of docs/CONTRACT.md, by answer and words.
+#[test]
+fn edits_of_game_b() {
+    let b: &[u16] = &[3, 3, 0, 1, 0, 0, 0, 1, 0, 1, 2, 1, 1, 1];
+    let mut memory = Memory { table: [b, &[9; 2]].concat(), ..memory_for(b) };
+    let mut short = Memory { table: [b, &[9]].concat(), ..memory_for(b) };
+    assert_eq!(Oracle::exact().edit(Edit::Add, (0, 2), &mut short), refused(39, 3));
+    let edited = Answer { classes: 3, vertices: 3, edges: 4, ..Answer::default() };
+    assert_eq!(Oracle::exact().edit(Edit::Add, (0, 2), &mut memory), edited);
+    assert_eq!(memory.table, [3, 4, 0, 1, 0, 0, 0, 1, 0, 1, 2, 0, 1, 1, 1, 2]);
+    assert_eq!(memory.classes, [0, 1, 2]);
+    for (edge, place) in [((0, 2), 0), ((0, 3), 0), ((3, 0), 3)] {
+        assert_eq!(Oracle::exact().edit(Edit::Add, edge, &mut memory), refused(37, place));
+    }
+    let edited = Answer { classes: 2, vertices: 3, edges: 3, ..Answer::default() };
+    assert_eq!(Oracle::exact().edit(Edit::Remove, (0, 2), &mut memory), edited);
+    assert_eq!(memory.table, [b, &[0; 2]].concat());
+    assert_eq!(Oracle::exact().edit(Edit::Remove, (0, 1), &mut memory), refused(38, 0));
 }

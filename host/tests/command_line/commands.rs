@@ -213,6 +213,41 @@ fn converted_games() {
 }
 
 #[test]
+fn edits() {
+    let edit = |edits: &[&str]| run(&[&["edit", "games/b.txt"], edits].concat());
+    // An edge comes, and the first edge goes: both in sequence.
+    let game = [3, 3, 0, 1, 0, 0, 0, 1, 1, 2, 0, 1, 1, 2];
+    let text = edit(&["--add", "0:2", "--remove", "0:1"]).text();
+    assert!(text.starts_with("# games/b.txt after edits: 1 added, 1 removed\n"), "{text}");
+    assert_eq!(numbers(&text), game);
+    assert_eq!(words(&edit(&["--add=0:2", "--remove=0:1", "--as", "words"]).bytes()), game);
+    let doubled = run_on(&["edit", "-", "--remove", "0:0"], b"1 3 / 0 / 0 / 0 0 0 / 0 0 0");
+    doubled.fails(1, &["standard input: --remove 0:0 ", ": refused 38 at 0: "]);
+    let doubled = b"2 4 / 0 0 / 0 0 / 0 0 0 1 / 1 0 1 1";
+    let left = run_on(&["edit", "-", "--remove", "0:1"], doubled).text();
+    assert_eq!(numbers(&left), [2, 2, 0, 0, 0, 0, 0, 1, 0, 1], "both copies go");
+    let back = edit(&["--add", "0:2", "--remove", "0:2"]).text();
+    assert_eq!(numbers(&back), shipped("b.txt"));
+    for input in [text.as_bytes(), &bytes(&game)] {
+        let report = run_on(&["report"], input).text();
+        assert!(report.starts_with("game 3 3\n"), "{report}");
+    }
+}
+
+#[test]
+fn edits_and_classes() {
+    let classes = |edits: &[&str]| run(&[&["edit", "games/d.txt", "--classes"], edits].concat());
+    let parted = "classes 5 before, 6 after\nvertex 0: with 5 before, alone after\n\
+                  vertex 5: with 0 before, alone after\n";
+    assert_eq!(classes(&["--remove=0:2"]).text(), parted);
+    assert_eq!(classes(&["--add=5:1"]).text(), "classes 5 before, 5 after\n");
+    let game = b"3 4 / 0 1 0 / 0 0 1 / 0 1 2 0 / 1 1 1 2";
+    let merged = "classes 3 before, 2 after\nvertex 0: alone before, with 2 after\n\
+                  vertex 2: alone before, with 0 after\n";
+    assert_eq!(run_on(&["edit", "-", "--classes", "--remove", "0:2"], game).text(), merged);
+}
+
+#[test]
 fn shipped_plans_win() {
     for (game, plan) in [("c.txt", "c.plan.txt"), ("lift-doors.txt", "lift-doors.plan.txt")] {
         let words = ["check-plan", &path(game), &path(plan), "--player", "even"];
@@ -268,7 +303,7 @@ fn carried_plans_from_standard_input() {
 
 #[test]
 fn explain_each_number() {
-    for number in (1..=16).chain(21..=24).chain(31..=36) {
+    for number in (1..=16).chain(21..=24).chain(31..=39) {
         let text = run(&["explain", &number.to_string()]).text();
         let about = if number < 31 { "the " } else { "a later addition\n" };
         assert!(text.starts_with(&format!("refusal {number}, about {about}")), "{text}");
@@ -296,7 +331,7 @@ fn help_of_each_command_has_an_example_that_runs() {
     assert_eq!(run(&["help"]).text(), overview);
     let listed: Vec<&str> =
         overview.lines().filter_map(|line| line.strip_prefix("  ")?.split(' ').next()).collect();
-    assert_eq!(listed.len(), 12, "{listed:?}");
+    assert_eq!(listed.len(), 13, "{listed:?}");
     for command in listed {
         let help = run(&[command, "--help"]).text();
         assert_eq!(run(&["help", command]).text(), help);

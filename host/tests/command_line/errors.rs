@@ -36,10 +36,10 @@ fn commands_and_options() {
 fn numbers() {
     bad(&["explain"], &["arguments: 0 instead of 1"]);
     bad(&["explain", "-1"], &["no option -1"]);
-    for word in ["17", "0", "37", "x", "+8", "65544"] {
+    for word in ["17", "0", "40", "x", "+8", "65544"] {
         bad(
             &["explain", word],
-            &[&format!("`{word}` is no refusal number"), "1 to 16, 21 to 24 and 31 to 36"],
+            &[&format!("`{word}` is no refusal number"), "1 to 16, 21 to 24 and 31 to 39"],
         );
     }
     for vertex in ["3", "x", "-1", "+1", ""] {
@@ -67,6 +67,22 @@ fn plans_to_carry() {
         &["carry", "games/d.txt", "none", "--player=odd", "--vertex=0"],
         &["none: ", "name a file"],
     );
+}
+
+#[test]
+fn edges_to_edit() {
+    let usage = "usage: raskjomi edit GAME --add V:W --remove V:W ..";
+    bad(&["edit", "--add", "0:1"], &["arguments: 0 instead of 1", usage]);
+    bad(&["edit", "games/b.txt"], &["no edit; write --add V:W or --remove V:W"]);
+    bad(&["edit", "games/b.txt", "--add"], &["--add needs an edge, as 0:2"]);
+    bad(&["edit", "games/b.txt", "--add=0:1", "--as=dot"], &["edit: no form `dot`"]);
+    bad(&["edit", "games/b.txt", "--classes", "--classes"], &["--classes is given twice"]);
+    for edge in ["0", "", "0:", ":1", "0:1:2", "a:b", "-1:0", "0:4294967296", "0 : 1"] {
+        for option in ["--add", "--remove"] {
+            let parts = [&*format!("edit: {option}: no edge `{edge}`"), "as --"];
+            bad(&["edit", "games/b.txt", option, edge], &parts);
+        }
+    }
 }
 
 #[test]

@@ -143,6 +143,33 @@ fn plans_that_are_not_carried() {
 }
 
 #[test]
+fn edits() {
+    let rows: [(&[&str], &str, &str); 6] = [
+        (&["--add", "0:1"], "37 at 0", "--add 0:1"),
+        (&["--add", "0:3"], "37 at 0", "--add 0:3"),
+        (&["--remove", "4294967295:1"], "37 at 4294967295", "--remove 4294967295:1"),
+        (&["--remove", "2:0"], "37 at 2", "--remove 2:0"),
+        (&["--add", "0:2", "--remove", "0:2", "--remove=0:1"], "38 at 0", "--remove 0:1"),
+        (&["--add", "0:0", "--add", "0:0"], "37 at 0", "--add 0:0"),
+    ];
+    for (edits, verdict, place) in rows {
+        let place = format!("games/b.txt: {place} (its vertices are 0 to 2): refused {verdict}: ");
+        let out = run(&[&["edit", "games/b.txt"], edits].concat()).fails(1, &[&place]);
+        assert_eq!(out, "", "nothing is written");
+    }
+    let full = file("full.bin", &bytes(&generator::complete(64).words()));
+    let full_parts = [": refused 37 at 0: ", "; name two vertices"];
+    run(&["edit", &full, "--add=0:0"]).fails(1, &full_parts);
+    let mut lcg = generator::Lcg::new(1);
+    let most = generator::random(&mut lcg, 256, 4096, 2);
+    let absent = (0..256).find(|w| !most.edges.contains(&(0, *w))).expect("a vertex");
+    let most = file("most.bin", &bytes(&most.words()));
+    let parts = [": refused 39 at 4096: ", "; remove an edge first"];
+    assert_eq!(run(&["edit", &most, "--add", &format!("0:{absent}")]).fails(1, &parts), "");
+    run_on(&["edit", "-", "--add=0:0"], b"1 1 0 0 0").fails(1, &[": refused 4 at 5: "]);
+}
+
+#[test]
 fn games_by_the_seed() {
     for numbers in [["0", "2", "4"], ["257", "2", "4"], ["3", "17", "4"], ["3", "2", "65536"]] {
         let [n, degree, priorities] = numbers;

@@ -1,8 +1,8 @@
 //! One call, made of the library and of the oracle.
 
-use oracle::{Answer, Memory, Oracle};
+use oracle::{Answer, Edit, Memory, Oracle};
 use raskjomi::exports::{self, RaskjomiAnswer};
-use raskjomi::{PlanSize, Refusal, Size};
+use raskjomi::{Edited, PlanSize, Refusal, Size};
 use std::ops::RangeInclusive;
 
 /// A call of the library.
@@ -18,6 +18,8 @@ pub enum Call {
     AcceptPlan,
     Carry,
     CarryClass,
+    AddEdge,
+    RemoveEdge,
     Seed,
 }
 
@@ -36,10 +38,13 @@ impl Call {
     /// The calls that carry a plan.
     pub const CARRYING: [Call; 2] = [Call::Carry, Call::CarryClass];
 
+    /// The calls that edit a table.
+    pub const EDITING: [Call; 2] = [Call::AddEdge, Call::RemoveEdge];
+
     /// Every call with an answer.
     pub fn all() -> impl Iterator<Item = Call> {
         let others = [Call::AcceptPlan, Call::Seed];
-        Call::ON_MEMORY.into_iter().chain(Call::CARRYING).chain(others)
+        Call::ON_MEMORY.into_iter().chain(Call::CARRYING).chain(Call::EDITING).chain(others)
     }
 
     /// The refusals that docs/CONTRACT.md gives the call.
@@ -55,6 +60,8 @@ impl Call {
             Call::AcceptPlan => &[11..=16],
             Call::Carry => &[11..=16, 21..=22, 33..=35],
             Call::CarryClass => &[11..=16, 21..=24, 33..=35],
+            Call::AddEdge => &[21..=23, 37..=37, 39..=39],
+            Call::RemoveEdge => &[21..=23, 37..=38],
         };
         generator::REFUSALS.into_iter().chain(own.iter().cloned().flatten()).collect()
     }
@@ -70,6 +77,8 @@ pub struct Case {
     pub plan: Vec<u16>,
     /// Where the plan is carried to.
     pub vertex: u32,
+    /// The edge that comes or goes; its table is in the memory.
+    pub edge: (u32, u32),
     /// A seed, and the numbers of vertices, of edges out of each, and of priorities.
     pub seed: [u32; 4],
 }
@@ -85,7 +94,8 @@ impl Case {
     /// A call on a game and memory.
     pub fn on_memory(call: Call, game: &[u16], memory: Memory) -> Case {
         let game = game.to_vec();
-        Case { call, game, memory, player: 0, plan: vec![], vertex: 0, seed: [0; 4] }
+        let (plan, edge) = (vec![], (0, 0));
+        Case { call, game, memory, player: 0, plan, vertex: 0, edge, seed: [0; 4] }
     }
 
     /// The judgement of a plan.
@@ -105,6 +115,11 @@ impl Case {
     ) -> Case {
         let case = Case::on_memory(call, game, memory);
         Case { player, plan: plan.to_vec(), vertex, ..case }
+    }
+
+    /// An edit of the table that begins the memory's.
+    pub fn of_edit(call: Call, edge: (u32, u32), memory: Memory) -> Case {
+        Case { edge, ..Case::on_memory(call, &[], memory) }
     }
 
     /// The drawing of a game into an output.
@@ -129,6 +144,8 @@ impl Case {
             Call::CarryClass => {
                 oracle.carry_class(game, self.player, &self.plan, self.vertex, &mut memory)
             }
+            Call::AddEdge => oracle.edit(Edit::Add, self.edge, &mut memory),
+            Call::RemoveEdge => oracle.edit(Edit::Remove, self.edge, &mut memory),
             Call::Seed => oracle.seed(self.seed, &mut memory),
         };
         Outcome { answer, memory }
@@ -142,9 +159,11 @@ impl Case {
             (Guarded::new(&self.memory.marks), Guarded::new(&self.memory.spare));
         let (mut classes, mut output) =
             (Guarded::new(&self.memory.classes), Guarded::new(&self.memory.output));
-        let mut reduction = Guarded::new(&self.memory.reduction);
+        let (mut reduction, mut table) =
+            (Guarded::new(&self.memory.reduction), Guarded::new(&self.memory.table));
         let (m, s, c, o) = (marks.lend(), spare.lend(), classes.lend(), output.lend());
         let (r, player, plan, vertex) = (reduction.lend(), self.player, &self.plan, self.vertex);
+        let (t, (from, to)) = (table.lend(), self.edge);
         let answer = match self.call {
             Call::Read => exports::read(game),
             Call::Order => exports::order(game, m, s),
@@ -156,9 +175,12 @@ impl Case {
             Call::AcceptPlan => exports::accept_plan(game, player, plan),
             Call::Carry => exports::carry(game, player, plan, vertex, m, s, o),
             Call::CarryClass => exports::carry_class(game, player, plan, vertex, m, s, c, r, o),
+            Call::AddEdge => exports::add_edge(t, from, to, m, s, c),
+            Call::RemoveEdge => exports::remove_edge(t, from, to, m, s, c),
             Call::Seed => exports::seed(seed, n, degree, priorities, o),
         };
         let memory = Memory {
+            table: table.content(),
             marks: marks.content(),
             spare: spare.content(),
             classes: classes.content(),
@@ -171,7 +193,7 @@ impl Case {
     /// The counts that the safe function hands on, or its refusal, as an answer.
     pub fn safe_answer(&self) -> Answer {
         let (game, mut memory) = (&self.game[..], self.memory.clone());
-        let Memory { marks, spare, classes, reduction, output } = &mut memory;
+        let Memory { table, marks, spare, classes, reduction, output } = &mut memory;
         let (player, plan, vertex) = (self.player, &self.plan, self.vertex);
         let of_size = |Size { vertices, edges, different }| Answer {
             vertices: vertices as u32,
@@ -193,7 +215,12 @@ impl Case {
             let Answer { positions, links, .. } = of_plan(plan);
             Answer { positions, links, ..of_table(size) }
         };
+        let of_edit = |Edited { classes, vertices, edges }| {
+            let size = of_size(Size { vertices, edges, different: 0 });
+            Answer { classes: classes as u32, ..size }
+        };
         let of_classes = |classes| Answer { classes: classes as u32, ..Answer::default() };
+        let (from, to) = self.edge;
         let verdict = match self.call {
             Call::Read => raskjomi::read(game).map(of_size),
             Call::Order => raskjomi::order(game, marks, spare)
@@ -215,6 +242,12 @@ impl Case {
                 game, player, plan, vertex, marks, spare, classes, reduction, output,
             )
             .map(of_both),
+            Call::AddEdge => {
+                raskjomi::add_edge(table, from, to, marks, spare, classes).map(of_edit)
+            }
+            Call::RemoveEdge => {
+                raskjomi::remove_edge(table, from, to, marks, spare, classes).map(of_edit)
+            }
             Call::Seed => {
                 let [seed, n, degree, priorities] = self.seed;
                 raskjomi::seed(seed, n, degree, priorities, output).map(of_filled)

@@ -170,6 +170,7 @@ fn dirty(lcg: &mut Lcg, table: &Table, output: usize) -> Memory {
         classes: old(n + 7),
         reduction: old(table.words().len() + 9),
         output: old(output),
+        ..Memory::default()
     }
 }
 

@@ -2,6 +2,7 @@
 
 use crate::calls::{Call, Case};
 use crate::carries::{room, round};
+use crate::edits::at_the_limit;
 use generator::{chain, complete, largest_plan, opponents, random, Lcg, Table};
 use oracle::{Memory, Oracle};
 
@@ -49,6 +50,7 @@ pub fn largest_cases() -> Vec<Case> {
         }
     }
     cases.push(Case::of_seed([7, 256, 16, 65_535], vec![6; 8706]));
+    cases.extend(at_the_limit());
     cases
 }
 

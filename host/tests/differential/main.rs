@@ -8,6 +8,7 @@ mod agreement;
 mod calls;
 mod carries;
 mod conversions;
+mod edits;
 mod families;
 mod limits;
 mod repeats;

@@ -3,8 +3,9 @@
 use crate::calls::{Call, Case};
 use crate::carries::{of_both, plan_words, room, round, Origin};
 use generator::{
-    any_game, bent_plan, branching, crowded, damaged, damaged_often, old_bytes, old_words,
-    relation, seed_numbers, solve, strategy_plan, unfolded, Lcg, Plan, Solution, Table, REFUSALS,
+    any_game, bent_plan, branching, crowded, damaged, damaged_often, edge_to_edit, old_bytes,
+    old_words, relation, seed_numbers, solve, strategy_plan, unfolded, words_behind, Lcg, Plan,
+    Solution, Table, REFUSALS,
 };
 use oracle::{Memory, Oracle};
 
@@ -135,6 +136,17 @@ fn case_of_crowd(lcg: &mut Lcg) -> Case {
     Case::of_carrying(call, &game.words(), player as u32, &plan, vertex, room(&game))
 }
 
+/// An edge added and one removed, with a whole table or a damaged one at the start of a buffer.
+pub fn cases_of_edits(lcg: &mut Lcg, table: &Table) -> Vec<Case> {
+    let case = |call| {
+        let edge = edge_to_edit(lcg, table, call == Call::RemoveEdge);
+        let words = if lcg.once_in(6) { damaged_table(lcg, table) } else { table.words() };
+        let buffer = [words, words_behind(lcg)].concat();
+        Case::of_edit(call, edge, Memory { table: buffer, ..memory(lcg, table) })
+    };
+    Call::EDITING.map(case).into()
+}
+
 /// The drawing of a game of mostly at most `most` vertices into an output of several lengths.
 pub fn case_of_seed(lcg: &mut Lcg, most: usize) -> Case {
     let numbers = seed_numbers(lcg, most);
@@ -167,6 +179,7 @@ pub fn cases(lcg: &mut Lcg, most: usize) -> Vec<Case> {
     if lcg.once_in(CROWDS) {
         cases.push(case_of_crowd(lcg));
     }
+    cases.extend(cases_of_edits(lcg, &table));
     cases.push(case_of_seed(lcg, most));
     cases.push(case_of_conversion(lcg, most));
     cases

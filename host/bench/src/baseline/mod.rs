@@ -4,6 +4,7 @@
 mod bits;
 mod carry;
 mod convert;
+mod edit;
 mod game;
 mod index;
 mod passes;
@@ -15,6 +16,7 @@ mod seed;
 
 pub use carry::{carry, carry_class};
 pub use convert::convert;
+pub use edit::{add_edge, remove_edge};
 pub use passes::write_order as by_passes;
 pub use plan::accept_plan;
 pub use reduction::reduce;

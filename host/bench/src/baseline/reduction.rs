@@ -69,7 +69,7 @@ fn write_reduced(
 }
 
 /// The class of each vertex and the lowest member of each class; the number of classes.
-fn write_classes(marks: &[u8], classes: &mut [u16], lowest: &mut [u16; 256]) -> usize {
+pub fn write_classes(marks: &[u8], classes: &mut [u16], lowest: &mut [u16; 256]) -> usize {
     let n = classes.len();
     let mut k = 0;
     for v in 0..n {

@@ -2,13 +2,15 @@
 //! its process, so the program runs itself once for each size that it tries.
 #![forbid(unsafe_code)]
 
-use generator::{forced_ring, largest_plan, opponents, random, round_of_loops, round_plan, Lcg};
+use generator::{
+    forced_ring, largest_plan, opponents, random, round_of_loops, round_plan, Lcg, Table,
+};
 use raskjomi::exports;
 use std::os::unix::process::ExitStatusExt;
 use std::process::{Command, ExitStatus, Stdio};
 use std::thread;
 
-const CALLS: [&str; 13] = [
+const CALLS: [&str; 15] = [
     "no call",
     "kind",
     "read",
@@ -22,6 +24,8 @@ const CALLS: [&str; 13] = [
     "carry_class",
     "seed",
     "convert",
+    "add_edge",
+    "remove_edge",
 ];
 /// The sizes tried, in KiB: a page, the least that Rust gives a thread, and what it gives by default.
 const PAGE: usize = 4;
@@ -37,6 +41,8 @@ fn call(name: &str) -> impl FnOnce() -> u32 + Send + 'static {
     let (plan_game, plan) = plan();
     let (carry_game, carried, of_classes) = plans_to_carry();
     let mut written = vec![0; raskjomi::MOST_PLAN_WORDS];
+    let (edited, absent) = game_to_edit();
+    let mut table = [edited.words(), vec![0; 2]].concat();
     move || {
         let (m, s, c, o) = (&mut marks, &mut spare, &mut classes, &mut output);
         let answer = match name.as_str() {
@@ -62,10 +68,22 @@ fn call(name: &str) -> impl FnOnce() -> u32 + Send + 'static {
             ),
             "seed" => exports::seed(1, 256, 16, 8, o),
             "convert" => exports::convert(&game, o),
+            "add_edge" => exports::add_edge(&mut table, 0, absent, m, s, c),
+            "remove_edge" => {
+                let (source, target) = edited.edges[0];
+                exports::remove_edge(&mut table, source as u32, target as u32, m, s, c)
+            }
             _ => exports::reduce(&game, m, s, c, o),
         };
         answer.number
     }
+}
+
+/// A game one edge below the limit, and a vertex to which there is no edge from 0.
+fn game_to_edit() -> (Table, u32) {
+    let game = random(&mut Lcg::new(1), 256, 4095, 2);
+    let absent = (0..256).find(|&target| !game.edges.contains(&(0, target)));
+    (game, absent.expect("a vertex without an edge from 0") as u32)
 }
 
 /// Even's plan of 4,096 positions and 16,384 links, and a game of 4,096 edges in which it wins: where

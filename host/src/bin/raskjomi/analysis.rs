@@ -18,10 +18,18 @@ pub struct Order {
     pub passes: u32,
 }
 
-/// The class of each vertex, and a table of the classes.
+/// The class of each vertex, and a table: of the classes, or after edits.
 pub struct Merged {
     pub classes: Vec<u16>,
     words: Vec<u16>,
+}
+
+/// An edge to add or to remove.
+#[derive(Clone, Copy, Debug)]
+pub struct Edit {
+    pub add: bool,
+    pub source: u32,
+    pub target: u32,
 }
 
 /// A call of the library that writes a table.
@@ -112,6 +120,20 @@ impl Game {
         Ok(shortened(words, size))
     }
 
+    /// The words of the table after the edits, in sequence, and its classes; or the refusal of one, with
+    /// its number from 0.
+    pub fn edited(&self, edits: &[Edit]) -> Result<Merged, (usize, Refusal)> {
+        let (mut marks, mut spare) = self.marks();
+        let (mut classes, mut words) = (vec![0; self.size.vertices], self.input.numbers.clone());
+        words.resize(words.len() + 2 * edits.len(), 0);
+        for (i, &Edit { add, source, target }) in edits.iter().enumerate() {
+            let make = if add { raskjomi::add_edge } else { raskjomi::remove_edge };
+            make(&mut words, source, target, &mut marks, &mut spare, &mut classes)
+                .map_err(|refusal| (i, refusal))?;
+        }
+        Ok(Merged { classes, words })
+    }
+
     fn marks(&self) -> (Vec<u8>, Vec<u8>) {
         (vec![0; self.size.marks()], vec![0; self.size.marks()])
     }
@@ -122,7 +144,7 @@ impl Game {
 }
 
 impl Merged {
-    /// The table of the classes.
+    /// The table.
     pub fn table(&self) -> Table<'_> {
         Table::new(&self.words)
     }

@@ -1,7 +1,7 @@
 //! The words after a command, told apart into files and options.
 
 use crate::failure::Failure;
-use crate::help::Command;
+use crate::help::{Command, REPEATED};
 use std::collections::BTreeMap;
 use std::slice::Iter;
 
@@ -10,6 +10,7 @@ use std::slice::Iter;
 pub struct Arguments {
     files: Vec<String>,
     options: BTreeMap<String, String>,
+    repeated: Vec<(String, String)>,
 }
 
 /// The form of an output.
@@ -63,6 +64,10 @@ impl Arguments {
             None if given.is_some() => return Err(bad(command, format!("{name} takes no value"))),
             None => "",
         };
+        if REPEATED.contains(&name) {
+            self.repeated.push((name.into(), value.into()));
+            return Ok(());
+        }
         match self.options.insert(name.into(), value.into()) {
             Some(_) => Err(bad(command, format!("{name} is given twice; write it once"))),
             None => Ok(()),
@@ -82,6 +87,11 @@ impl Arguments {
     /// The option's value, if it is there.
     pub fn value(&self, option: &str) -> Option<&str> {
         self.options.get(option).map(String::as_str)
+    }
+
+    /// The options that may be given several times, each with its value, in sequence.
+    pub fn repeated(&self) -> &[(String, String)] {
+        &self.repeated
     }
 
     /// The form that `--as` names, or text.

@@ -1,11 +1,11 @@
 //! The commands.
 
-use crate::analysis::{members, Game, Merged};
+use crate::analysis::{members, Edit, Game, Merged};
 use crate::arguments::{name_of, Arguments, Form};
 use crate::failure::Failure;
 use crate::help::{self, Command, COMMANDS};
 use crate::input::{self, number, Input, Unit};
-use crate::locate::{carry_refused, plan_refused, relation_refused, seed_refused};
+use crate::locate::{carry_refused, edit_refused, plan_refused, relation_refused, seed_refused};
 use crate::table::Table;
 use crate::{dot as picture, tell, text};
 use raskjomi::Kind;
@@ -208,6 +208,48 @@ fn as_words(arguments: &Arguments, command: &str, hint: &str) -> Result<bool, Fa
         ))),
         form => Ok(form == Form::Words),
     }
+}
+
+/// `edit`.
+pub fn edit(arguments: &Arguments) -> Written {
+    let as_words = as_words(arguments, "edit", ", or hand the game on to raskjomi dot")?;
+    let edits = edits(arguments)?;
+    let game = Game::load(arguments.file(0))?;
+    let after = game.edited(&edits).map_err(|(i, refusal)| {
+        let (option, edge) = &arguments.repeated()[i];
+        edit_refused(refusal, &game, &format!("{option} {edge}"))
+    })?;
+    if arguments.has("--classes") {
+        return Ok(text::changes(&game.classes()?, &after.classes).into());
+    }
+    let (table, title) = (after.table(), format!("{} after {}", game.input.name, told(&edits)));
+    Ok(if as_words { text::bytes(table.words()) } else { text::table(&title, &table).into() })
+}
+
+/// The edits that `--add` and `--remove` name; whether the game can have them, the library judges.
+fn edits(arguments: &Arguments) -> Result<Vec<Edit>, Failure> {
+    let given = arguments.repeated();
+    if given.is_empty() {
+        return Err(Failure::usage("edit: no edit; write --add V:W or --remove V:W"));
+    }
+    let edit = |(option, edge): &(String, String)| {
+        let ends = edge.split_once(':').and_then(|(source, target)| {
+            Some((number(source, u32::MAX)?, number(target, u32::MAX)?))
+        });
+        let (source, target) = ends.ok_or_else(|| {
+            Failure::usage(format!(
+                "edit: {option}: no edge `{edge}`; write two vertices, as {option} 0:2"
+            ))
+        })?;
+        Ok(Edit { add: option == "--add", source, target })
+    };
+    given.iter().map(edit).collect()
+}
+
+/// How many edges come and go.
+fn told(edits: &[Edit]) -> String {
+    let added = edits.iter().filter(|edit| edit.add).count();
+    format!("edits: {added} added, {} removed", edits.len() - added)
 }
 
 /// The words of the longest table.

@@ -24,10 +24,13 @@ pub struct Command {
 }
 
 /// The refusal numbers that `explain` knows.
-pub const NUMBERS: &str = "1 to 16, 21 to 24 and 31 to 36";
+pub const NUMBERS: &str = "1 to 16, 21 to 24 and 31 to 39";
 
 /// What `seed` takes, in the sequence of its usage.
 pub const SEED_NUMBERS: [&str; 4] = ["SEED", "VERTICES", "DEGREE", "PRIORITIES"];
+
+/// The options that may be given several times; their sequence counts.
+pub const REPEATED: [&str; 2] = ["--add", "--remove"];
 
 const AS: &[Opt] = &[Opt { name: "--as", value: Some("text, words or dot") }];
 
@@ -56,7 +59,7 @@ const TABLES: &str = "Text and words are game tables, which every command reads.
                       the game, with the members of each class.";
 
 /// The commands, in the sequence of the help.
-pub const COMMANDS: [Command; 12] = [
+pub const COMMANDS: [Command; 13] = [
     Command {
         name: "report",
         usage: "report [GAME] [--vertex V]",
@@ -163,11 +166,32 @@ pub const COMMANDS: [Command; 12] = [
         run: commands::carry,
     },
     Command {
+        name: "edit",
+        usage: "edit GAME --add V:W --remove V:W .. [--classes] [--as text|words]",
+        summary: "the game after edges are added and removed, or what that does to its classes",
+        details:
+            "--add V:W adds the edge from V to W behind the others, --remove V:W removes every copy of \
+                  it. Both may be given several times, and are done in sequence. A vertex keeps an \
+                  edge out, and a table has at most 4,096 edges; where an edit is refused, nothing \
+                  is written. The output is a game table, which every command reads; with --classes, \
+                  it is the number of classes before and after, and each vertex that then shares its \
+                  class with others than before.",
+        example: "./raskjomi edit games/d.txt --add 5:3 --remove 5:2 --classes",
+        files: 1..=1,
+        options: &[
+            Opt { name: "--add", value: Some("an edge, as 0:2") },
+            Opt { name: "--remove", value: Some("an edge, as 0:2") },
+            Opt { name: "--classes", value: None },
+            Opt { name: "--as", value: Some("text or words") },
+        ],
+        run: commands::edit,
+    },
+    Command {
         name: "explain",
         usage: "explain NUMBER",
         summary: "what a refusal number means, what its place counts, and what to do",
         details:
-            "A refused input gets one of the numbers 1 to 16, 21 to 24 and 31 to 36; 7 no longer occurs.",
+            "A refused input gets one of the numbers 1 to 16, 21 to 24 and 31 to 39; 7 no longer occurs.",
         example: "./raskjomi explain 8",
         files: 1..=1,
         options: &[],

@@ -100,6 +100,12 @@ pub fn carry_refused(
     )
 }
 
+/// A refusal of an edit, told with the option that asked for it.
+pub fn edit_refused(refusal: Refusal, game: &Game, edit: &str) -> Failure {
+    let last = game.size.vertices - 1;
+    tell(refusal, format!("{}: {edit} (its vertices are 0 to {last})", game.input.name))
+}
+
 /// A refusal of the numbers of a game by the seed.
 pub fn seed_refused(refusal: Refusal, [_, n, degree, priorities]: [u32; 4]) -> Failure {
     tell(refusal, format!("{n} vertices, degree {degree}, {priorities} priorities"))

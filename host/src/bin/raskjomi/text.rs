@@ -76,6 +76,29 @@ pub fn classes(classes: &[u16]) -> String {
     text + "# the class of each vertex\n" + &lines(classes, A_LINE)
 }
 
+/// The number of classes before and after, and the vertices whose company in their class changes.
+pub fn changes(before: &[u16], after: &[u16]) -> String {
+    let (old, new) = (members(before), members(after));
+    let mut text = format!("classes {} before, {} after\n", old.len(), new.len());
+    let company = |members: &[Vec<usize>], classes: &[u16], vertex: usize| {
+        let mut others = members[classes[vertex] as usize].clone();
+        others.retain(|&other| other != vertex);
+        others
+    };
+    let named = |others: &[usize]| match others {
+        [] => "alone".to_string(),
+        _ => format!("with {}", listed(others)),
+    };
+    for vertex in 0..before.len() {
+        let (was, is) = (company(&old, before, vertex), company(&new, after, vertex));
+        if was != is {
+            let line = format!("vertex {vertex}: {} before, {} after", named(&was), named(&is));
+            writeln!(text, "{line}").expect("a string takes all");
+        }
+    }
+    text
+}
+
 /// Words as bytes, low byte first.
 pub fn bytes(words: &[u16]) -> Vec<u8> {
     words.iter().flat_map(|word| word.to_le_bytes()).collect()

@@ -1,0 +1,117 @@
+//! Edges that come and go.
+
+use super::game::Game;
+use super::reduction::{lengths, write_classes};
+use super::rounds::write_order;
+use super::{reader, refused};
+use raskjomi::exports::RaskjomiAnswer;
+
+/// An edge added, as the library's call of this name.
+pub fn add_edge(
+    table: &mut [u16],
+    source: u32,
+    target: u32,
+    marks: &mut [u8],
+    spare: &mut [u8],
+    classes: &mut [u16],
+) -> RaskjomiAnswer {
+    edit(table, source, target, marks, spare, classes, true)
+}
+
+/// An edge removed, as the library's call of this name.
+pub fn remove_edge(
+    table: &mut [u16],
+    source: u32,
+    target: u32,
+    marks: &mut [u8],
+    spare: &mut [u8],
+    classes: &mut [u16],
+) -> RaskjomiAnswer {
+    edit(table, source, target, marks, spare, classes, false)
+}
+
+fn edit(
+    table: &mut [u16],
+    source: u32,
+    target: u32,
+    marks: &mut [u8],
+    spare: &mut [u8],
+    classes: &mut [u16],
+    add: bool,
+) -> RaskjomiAnswer {
+    let needed = match table {
+        &mut [n, m, ..] => 2 + 2 * n as usize + 2 * m as usize,
+        _ => 0,
+    };
+    let (n, m) = match reader::read(&table[..needed.min(table.len())]) {
+        Ok(sizes) => sizes,
+        Err(refusal) => return refusal,
+    };
+    let lent = [marks.len(), spare.len(), classes.len()];
+    if let Err(refusal) = lengths(&lent, &[n * n, n * n, n]) {
+        return refusal;
+    }
+    let edge = (source as usize, target as usize);
+    if let Err(refusal) = judge(table, n, m, edge, add) {
+        return refusal;
+    }
+    let edge = (source as u16, target as u16);
+    let edges = if add { arrive(table, n, m, edge) } else { leave(table, n, m, edge) };
+    let end = 2 + 2 * n + 2 * edges;
+    let (mut starts, mut places) = ([0; 257], [0; 4096]);
+    let game = Game::new(&table[..end], n, edges, &mut starts, &mut places);
+    write_order(&game, &mut marks[..n * n], &mut spare[..n * n]);
+    let k = write_classes(&marks[..n * n], &mut classes[..n], &mut [0; 256]);
+    let (classes, vertices, edges) = (k as u32, n as u32, edges as u32);
+    RaskjomiAnswer { classes, vertices, edges, ..RaskjomiAnswer::default() }
+}
+
+/// Refusals 37 to 39.
+fn judge(
+    table: &[u16],
+    n: usize,
+    m: usize,
+    (source, target): (usize, usize),
+    add: bool,
+) -> Result<(), RaskjomiAnswer> {
+    let (sources, targets) = table[2 + 2 * n..2 + 2 * n + 2 * m].split_at(m);
+    let some = |test: &dyn Fn(usize) -> bool| {
+        let mut edges = sources.iter().zip(targets);
+        edges.any(|(&from, &to)| from as usize == source && test(to as usize))
+    };
+    if source >= n || target >= n || some(&|to| to == target) == add {
+        return Err(refused(37, source));
+    }
+    if !add && !some(&|to| to != target) {
+        return Err(refused(38, source));
+    }
+    if add && (m == 4096 || table.len() < 2 + 2 * n + 2 * m + 2) {
+        return Err(refused(39, m));
+    }
+    Ok(())
+}
+
+/// Puts the edge at the end of both arrays; the number of edges then.
+fn arrive(table: &mut [u16], n: usize, m: usize, (source, target): (u16, u16)) -> usize {
+    let targets = 2 + 2 * n + m;
+    table.copy_within(targets..targets + m, targets + 1);
+    (table[1], table[targets], table[targets + 1 + m]) = (m as u16 + 1, source, target);
+    m + 1
+}
+
+/// Removes every copy of the edge, and clears the words that are given up; the number of edges then.
+fn leave(table: &mut [u16], n: usize, m: usize, edge: (u16, u16)) -> usize {
+    let first = 2 + 2 * n;
+    let mut left = 0;
+    for j in 0..m {
+        let other = (table[first + j], table[first + m + j]);
+        if other != edge {
+            (table[first + left], table[first + m + left]) = other;
+            left += 1;
+        }
+    }
+    table.copy_within(first + m..first + m + left, first + left);
+    table[first + 2 * left..first + 2 * m].fill(0);
+    table[1] = left as u16;
+    left
+}

@@ -1,0 +1,41 @@
+//! The calls that edit a table. Each works on a fresh copy of it, whose making counts for both sides.
+
+use crate::{baseline, Figures};
+use raskjomi::exports::{self, RaskjomiAnswer};
+
+/// A call that edits a table.
+type Edit = fn(&mut [u16], u32, u32, &mut [u8], &mut [u8], &mut [u16]) -> RaskjomiAnswer;
+
+pub const ADD: [Edit; 2] = [exports::add_edge, baseline::add_edge];
+pub const REMOVE: [Edit; 2] = [exports::remove_edge, baseline::remove_edge];
+
+/// The memory that a side works in.
+#[derive(Clone, PartialEq, Eq)]
+struct Memory {
+    table: Vec<u16>,
+    marks: Vec<u8>,
+    spare: Vec<u8>,
+    classes: Vec<u16>,
+}
+
+impl Memory {
+    fn for_game(game: &[u16]) -> Memory {
+        let n = game[0] as usize;
+        let (table, marks) = ([game, &[7; 2]].concat(), vec![7; n * n]);
+        Memory { table, spare: marks.clone(), marks, classes: vec![7; n] }
+    }
+
+    fn edit(&mut self, call: Edit, game: &[u16], source: u32, target: u32) -> RaskjomiAnswer {
+        let Memory { table, marks, spare, classes } = self;
+        table[..game.len()].copy_from_slice(game);
+        call(table, source, target, marks, spare, classes)
+    }
+}
+
+/// What the row of an edit shows.
+pub fn figures(calls: &[Edit; 2], game: &[u16], source: u32, target: u32) -> Figures {
+    let call = |side: usize, memory: &mut Memory| memory.edit(calls[side], game, source, target);
+    let (figures, answer) = crate::figures(Memory::for_game(game), call);
+    assert_eq!(answer.number, 0, "the edit is accepted");
+    figures
+}
