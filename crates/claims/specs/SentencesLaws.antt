@@ -1,9 +1,10 @@
 -- The sentences follow from what the calls promise.
-use mathlib.Core.Path.{_≡_, refl, sym, _∙_}
+use mathlib.Core.Path.{_≡_, refl, sym, _∙_, subst}
 use mathlib.Core.List.{List}
 use Prim.Native.Nat.{ℕ}
 use Rattle.theory.specs.Game.{Game}
 use Rattle.theory.specs.Reduction.{reduced}
+use Rattle.table.specs.Table.{tableIn}
 use Rattle.table.specs.Verdict.{Row, Answer, accepted, judge, Clean}
 use Rattle.table.specs.VerdictLaws.{judge-clean, judge-accepted, clean-split}
 use Rattle.table.specs.Acceptance.{acceptanceAnswer}
@@ -14,12 +15,13 @@ use Rattle.reduction.specs.TableCall.{tableRows, tableCounts, TableCall}
 use Rattle.carry.specs.CarryCall.{judgedRows, carryRows, CarryCall, carryClassRows, CarryClassCall}
 use Rattle.carry.specs.CarryMemoryLaws.{carry-passed, carry-class-passed}
 use Rattle.carry.specs.WrittenPlanLaws.{carry-wins, carry-class-wins}
+use Rattle.edges.specs.Edges.{edited}
 use Rattle.edges.specs.declared.Edit.{Edit}
 use Rattle.edit.specs.EditCall.{callRows, EditCall}
 use Rattle.edit.specs.NewTableLaws.{call-table, call-read}
 use Rattle.claims.specs.Written.{LeavesOrder, Faithful}
 use Rattle.claims.specs.Demands as demands
-use Rattle.claims.specs.Sentences.{OnAcceptance, OrderSentences, Orders, Classifies, Tabulates, Contains, OnceWritten, AfterOrder, AfterReduction, Carries, CarriesClass, Edits}
+use Rattle.claims.specs.Sentences.{OnAcceptance, OrderSentences, ClassSentence, Orders, Classifies, Tabulates, Contains, OnceWritten, AfterOrder, AfterReduction, Carries, CarriesClass, Edits}
 use Rattle.claims.specs.declared.Containment.{Containment}
 
 -- a call that accepts has passed its rows
@@ -132,13 +134,17 @@ module _ {game : List ℕ} {player : ℕ} {plan : List ℕ} {vertex : ℕ} {mark
 pub edits : {e : Edit} {buffer : List ℕ} {s t : ℕ} {marks spare classes : List ℕ} {answer : Answer} {buffer′ marks′ spare′ classes′ : List ℕ}
     → EditCall e buffer s t marks spare classes answer buffer′ marks′ spare′ classes′
     → Edits e buffer s t marks spare classes answer buffer′ marks′ spare′ classes′
-edits {e} {buffer} {s} {t} {marks} {spare} {classes} call =
-    let clean = passed (callRows e buffer s t marks spare classes) _ (call .verdict) in record {
+edits {e} {buffer} {s} {t} {marks} {spare} {classes} {answer} {buffer′} {marks′} {spare′} {classes′} call =
+    let clean = passed (callRows e buffer s t marks spare classes) _ (call .verdict) in
+    let table : OnAcceptance answer (edited e (tableIn buffer) s t ≡ tableIn buffer′) = λ counts a. sym (call-table (rw a at call)) in record {
       call = call;
       read = λ k n m a. call-read (rw a at call) refl;
-      marks-order = λ counts a. rw (call-table (rw a at call)) (order-sentences (record { buffer = call .marks-after }) (clean counts a));
-      spare-order = λ counts a. rw (call-table (rw a at call)) (order-sentences (record { buffer = call .spare-after }) (clean counts a));
-      classes-words = λ counts a. rw (call-table (rw a at call)) (demands.class-word (record { words = call .classes-after }) (clean counts a));
+      marks-order = λ counts a.
+          subst (λ (g : List ℕ). OrderSentences g marks′) (table counts a) (order-sentences (record { buffer = call .marks-after }) (clean counts a));
+      spare-order = λ counts a.
+          subst (λ (g : List ℕ). OrderSentences g spare′) (table counts a) (order-sentences (record { buffer = call .spare-after }) (clean counts a));
+      classes-words = λ counts a.
+          subst (λ (g : List ℕ). ClassSentence g classes′) (table counts a) (demands.class-word (record { words = call .classes-after }) (clean counts a));
     }
 
 pub contains : {game relation marks spare : List ℕ} {r : Containment} {marks′ spare′ : List ℕ}
