@@ -8,7 +8,7 @@ use Rattle.theory.specs.Range.{tabulate}
 use Rattle.theory.specs.Order.{order}
 use Rattle.theory.specs.Reduction.{classCount, classOf}
 use Rattle.table.specs.Table.{vertexCount, gameOf}
-use Rattle.table.specs.Verdict.{Row, row, Answer, accepted, refused, judge, written, after}
+use Rattle.table.specs.Verdict.{Row, row, Answer, accepted, refused, judge, after}
 use Rattle.table.specs.Reading.{gameRows}
 use Rattle.pairs.specs.Marks.{marksLength}
 use Rattle.order.specs.OrderCall.{orderBytes}
@@ -51,10 +51,3 @@ pub record ClassesCall (game marks spare classes : List ℕ) (answer : Answer) (
   pub marks-after : marks′ ≡ after (classRows game marks spare classes) (orderBytes game) marks
   pub spare-after : spare′ ≡ after (classRows game marks spare classes) (orderBytes game) spare
   pub classes-after : classes′ ≡ after (classRows game marks spare classes) (classWords game) classes
-
--- what is written once the game and the memory are judged, and k classes are found; no public promise cites this
-pub record ClassesDone (game marks spare classes : List ℕ) (k : ℕ) (marks′ spare′ classes′ : List ℕ) : Type 0 where
-  pub count : k ≡ classTotal game
-  pub marks-after : marks′ ≡ written (orderBytes game) marks
-  pub spare-after : spare′ ≡ written (orderBytes game) spare
-  pub classes-after : classes′ ≡ written (classWords game) classes

@@ -17,7 +17,8 @@ use Rattle.table.specs.declared.Reading.the-variants.{Refused}
 use Rattle.pairs.specs.Marks.{relation}
 use Rattle.order.specs.OrderWritten.{OrderDone}
 use Rattle.order.specs.OrderCall.{orderBytes}
-use Rattle.classes.specs.ClassesCall.{memoryRows, memoryAnswer, classRows, classWords, classesAnswer, ClassesDone, ClassesCall}
+use Rattle.classes.specs.ClassesCall.{memoryRows, memoryAnswer, classRows, classWords, classesAnswer, ClassesCall}
+use Rattle.classes.specs.Done.{ClassesDone}
 use Rattle.classes.specs.HoldingLaws.{ordered-done, ordered-total, ordered-words}
 use Rattle.classes.specs.ClassesRules.{ClassesFit}
 use Rattle.classes.specs.ClassesRulesLaws.{classes-clean, clean-classes}

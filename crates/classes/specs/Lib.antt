@@ -1,4 +1,5 @@
 pub mod ClassesCall
+pub mod Done
 pub mod ClassesRules
 pub mod Numbering
 pub mod NumberingLaws

@@ -11,7 +11,8 @@ ghost use Prim.Native.Nat.{_≤_};
 ghost use Rattle.table.specs.Limits.{vertexLimit};
 ghost use Rattle.table.specs.Table.{vertexCount};
 ghost use Rattle.table.specs.Verdict.{judge};
-ghost use Rattle.classes.specs.ClassesCall.{memoryRows, memoryAnswer, classificationAnswer, ClassesDone, ClassesCall};
+ghost use Rattle.classes.specs.ClassesCall.{memoryRows, memoryAnswer, classificationAnswer, ClassesCall};
+ghost use Rattle.classes.specs.Done.{ClassesDone};
 ghost use Rattle.classes.specs.ClassesRules.{ClassesFit};
 
 pub struct ClassCount {

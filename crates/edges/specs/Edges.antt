@@ -1,5 +1,4 @@
 -- Edges that come and go: change request 7, on the words of a table. The rows are those of a table that begins a buffer of some size.
-use mathlib.Core.Path.{_≡_}
 use mathlib.Core.Bool.{Bool, not, cond}
 use mathlib.Core.List.{List, [], _∷_, _++_}
 use Prim.Native.Nat.{ℕ, _+_, _-_}
@@ -8,10 +7,9 @@ use lib.ListN.{length}
 use Rattle.theory.specs.Bools.{_&_, _or_}
 use Rattle.theory.specs.Range.{tabulate}
 use Rattle.table.specs.Limits.{edgeLimit}
-use Rattle.table.specs.Table.{vertexCount, tableEdges, priorityAt, ownerAt, sourceAt, targetAt, tableLength, tableIn, gameOf}
-use Rattle.table.specs.Verdict.{Row, row, written}
+use Rattle.table.specs.Table.{vertexCount, tableEdges, priorityAt, ownerAt, sourceAt, targetAt, tableLength, gameOf}
+use Rattle.table.specs.Verdict.{Row, row}
 use Rattle.table.specs.Reading.{lacksEdge}
-use Rattle.table.specs.WellFormed.{WellFormed}
 use Rattle.table.specs.Listing.{sourcesOf, targetsOf}
 use Rattle.edges.specs.declared.Edit.{Edit}
 use Rattle.edges.specs.declared.Edit.the-variants.{Arrival, Leaving}
@@ -65,20 +63,3 @@ changeRows Leaving g size s t = row 38 (lacksEdge (edited Leaving g s t) s) s �
 unfoldable pub editRows : Edit → List ℕ → ℕ → ℕ → ℕ → List Row
 editRows e g size s t =
     row 37 ((leb (vertexCount g) s or leb (vertexCount g) t) or misplaced e (gameOf g .edge s t)) s ∷ changeRows e g size s t
-
--- ---- what the parts of the calls assume and promise of each other; no public promise cites these
-
--- a well-formed table of n vertices and m edges
-pub record Formed (g : List ℕ) (n m : ℕ) : Type 0 where
-  pub well : WellFormed g
-  pub vertices : n ≡ vertexCount g
-  pub edges : m ≡ tableEdges g
-
--- edge j leads from s to t or, where `there` is false, from s to another vertex
-unfoldable pub leads : List ℕ → ℕ → ℕ → Bool → ℕ → Bool
-leads g s t there j = eqb (sourceAt g j) s & cond there (eqb (targetAt g j) t) (not (eqb (targetAt g j) t))
-
--- the edit is made in the buffer, and m is the number of edges then
-pub record Made (e : Edit) (buffer : List ℕ) (s t m : ℕ) (buffer′ : List ℕ) : Type 0 where
-  pub count : m ≡ tableEdges (edited e (tableIn buffer) s t)
-  pub buffer-after : buffer′ ≡ written (editedWords e (tableIn buffer) s t) buffer

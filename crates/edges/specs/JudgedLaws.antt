@@ -13,7 +13,8 @@ use Rattle.table.specs.Table.{vertexCount, tableLength, gameOf}
 use Rattle.table.specs.Verdict.{row, accepted, refused, judge}
 use Rattle.table.specs.VerdictLaws.{judge-hit, judge-next, judge-clean}
 use Rattle.table.specs.Reading.{lacksEdge}
-use Rattle.edges.specs.Edges.{edited, misplaced, changeRows, editRows, Formed, leads}
+use Rattle.edges.specs.Edges.{edited, misplaced, changeRows, editRows}
+use Rattle.edges.specs.Making.{Formed, leads}
 use Rattle.edges.specs.SearchLaws.{there-edge, elsewhere-stays}
 use Rattle.edges.specs.declared.Edit.{Edit}
 use Rattle.edges.specs.declared.Edit.the-variants.{Arrival, Leaving}

@@ -1,4 +1,5 @@
 pub mod Edges
+pub mod Making
 pub mod Buffer
 pub mod BufferLaws
 pub mod EdgesLaws

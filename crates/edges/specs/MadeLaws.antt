@@ -15,7 +15,8 @@ use Rattle.table.specs.Placing.{placed}
 use Rattle.table.specs.PlacingLaws.{written-join}
 use Rattle.table.specs.Listing.{sourcesOf, targetsOf, Appended}
 use Rattle.table.specs.ListingLaws.{read-back, listed-sources, listed-targets}
-use Rattle.edges.specs.Edges.{edgesIn, others, editedEdges, edited, editedWords, Formed, Made}
+use Rattle.edges.specs.Edges.{edgesIn, others, editedEdges, edited, editedWords}
+use Rattle.edges.specs.Making.{Formed, Made}
 use Rattle.edges.specs.BufferLaws.{in-vertices, in-edges, in-room}
 use Rattle.edges.specs.EdgesLaws.{length-edgesIn, length-others}
 use Rattle.edges.specs.PartsLaws.{head, length-head, with-parts, head-kept, sources-kept, edges-sources, edges-targets}

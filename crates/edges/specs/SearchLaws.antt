@@ -21,7 +21,8 @@ use Rattle.table.specs.Reading.{lacksEdge}
 use Rattle.table.specs.PlacingLaws.{placed-one}
 use Rattle.table.specs.Listing.{Appended}
 use Rattle.table.specs.ListingLaws.{appended-none}
-use Rattle.edges.specs.Edges.{others, edited, Formed, leads}
+use Rattle.edges.specs.Edges.{others, edited}
+use Rattle.edges.specs.Making.{Formed, leads}
 use Rattle.edges.specs.EdgesLaws.{others-append, length-others}
 use Rattle.edges.specs.EditedLaws.{left-edge}
 use Rattle.edges.specs.declared.Edit.the-variants.{Leaving}

@@ -6,7 +6,7 @@ ghost use Prim.Native.Nat.{_+_, _<_, _≤_};
 ghost use lib.ListN.{length};
 ghost use Rattle.table.specs.Limits.{edgeLimit};
 ghost use Rattle.table.specs.Table.{tableLength, tableIn};
-ghost use Rattle.edges.specs.Edges.{Formed, Made};
+ghost use Rattle.edges.specs.Making.{Formed, Made};
 ghost use Rattle.edges.specs.declared.Edit.the-variants.{Arrival, Leaving};
 
 // Adds the edge at the end of both arrays, so that every target moves up by a word. The targets are meanwhile in a local array of 8,192

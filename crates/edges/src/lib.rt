@@ -15,7 +15,8 @@ ghost use lib.ListN.{length};
 ghost use Rattle.table.specs.Table.{tableIn};
 ghost use Rattle.table.specs.Verdict.{judge, Clean};
 ghost use Rattle.table.specs.Acceptance.{acceptanceAnswer};
-ghost use Rattle.edges.specs.Edges.{misplaced, changeRows, editRows, Formed, Made};
+ghost use Rattle.edges.specs.Edges.{misplaced, changeRows, editRows};
+ghost use Rattle.edges.specs.Making.{Formed, Made};
 
 pub enum Edit {
     Arrival,

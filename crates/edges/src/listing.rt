@@ -6,7 +6,8 @@ ghost use lib.ListN.{length};
 ghost use Rattle.theory.specs.Range.{anyBelow};
 ghost use Rattle.table.specs.Table.{sourceAt, targetAt};
 ghost use Rattle.table.specs.Listing.{Appended};
-ghost use Rattle.edges.specs.Edges.{Formed, edgesIn, leads, others};
+ghost use Rattle.edges.specs.Edges.{edgesIn, others};
+ghost use Rattle.edges.specs.Making.{Formed, leads};
 
 // Whether edge j leads from s to t or, where `there` is false, from s to another vertex.
 fn leads_so(table: &[u16], n: usize, m: usize, j: usize, s: usize, t: usize, there: bool) -> bool

@@ -6,10 +6,9 @@ use lib.ListN.{length}
 use Rattle.table.specs.Table.{vertexCount, tableEdges, tableIn}
 use Rattle.table.specs.Verdict.{Row, Answer, judge, after}
 use Rattle.order.specs.OrderCall.{orderBytes}
-use Rattle.classes.specs.ClassesCall.{memoryRows, classTotal, classWords, ClassesDone}
-use Rattle.reduction.specs.declared.TableCounts.{TableCounts}
+use Rattle.classes.specs.ClassesCall.{memoryRows, classTotal, classWords}
 use Rattle.edges.specs.Buffer.{bufferRows}
-use Rattle.edges.specs.Edges.{edited, editedWords, editRows, Made}
+use Rattle.edges.specs.Edges.{edited, editedWords, editRows}
 use Rattle.edges.specs.declared.Edit.{Edit}
 
 -- 1 to 8, where 4 means "shorter"; 21 to 23; 37 to 39
@@ -31,10 +30,3 @@ pub record EditCall (e : Edit) (buffer : List ℕ) (s t : ℕ) (marks spare clas
   pub marks-after : marks′ ≡ after (callRows e buffer s t marks spare classes) (orderBytes (edited e (tableIn buffer) s t)) marks
   pub spare-after : spare′ ≡ after (callRows e buffer s t marks spare classes) (orderBytes (edited e (tableIn buffer) s t)) spare
   pub classes-after : classes′ ≡ after (callRows e buffer s t marks spare classes) (classWords (edited e (tableIn buffer) s t)) classes
-
--- what is written once the table, the memory and the edit are judged; no public promise cites this
-pub record EditDone (e : Edit) (buffer : List ℕ) (s t : ℕ) (marks spare classes : List ℕ) (counts : TableCounts)
-    (buffer′ marks′ spare′ classes′ : List ℕ) : Type 0 where
-  pub made : Made e buffer s t (counts .edges) buffer′
-  pub vertices : counts .vertices ≡ vertexCount (edited e (tableIn buffer) s t)
-  pub memory : ClassesDone (edited e (tableIn buffer) s t) marks spare classes (counts .classes) marks′ spare′ classes′

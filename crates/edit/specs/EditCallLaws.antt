@@ -24,10 +24,12 @@ use Rattle.classes.specs.declared.Memory.the-variants.{Enough, Short}
 use Rattle.reduction.specs.declared.TableCounts.{TableCounts}
 use Rattle.edges.specs.Buffer.{bufferRows}
 use Rattle.edges.specs.BufferLaws.{in-vertices, buffer-judge, buffer-clean}
-use Rattle.edges.specs.Edges.{edited, editedWords, editRows, Formed, Made}
+use Rattle.edges.specs.Edges.{edited, editedWords, editRows}
+use Rattle.edges.specs.Making.{Formed, Made}
 use Rattle.edges.specs.EditedLaws.{edited-vertices, edited-well, edited-part}
 use Rattle.edges.specs.declared.Edit.{Edit}
-use Rattle.edit.specs.EditCall.{callRows, callCounts, EditCall, EditDone}
+use Rattle.edit.specs.EditCall.{callRows, callCounts, EditCall}
+use Rattle.edit.specs.Done.{EditDone}
 
 -- the reader accepted the table that begins the buffer
 pub formed : (buffer : List ℕ) {reading : Reading} {sizes : Sizes} → reading ≡ Accepted sizes → readingAnswer reading ≡ readAnswer (tableIn buffer)

@@ -15,10 +15,12 @@ ghost use lib.ListN.{length};
 ghost use Rattle.table.specs.Table.{tableIn};
 ghost use Rattle.table.specs.Verdict.{Clean};
 ghost use Rattle.classes.specs.ClassesRules.{ClassesFit};
-ghost use Rattle.edges.specs.Edges.{editRows, Formed};
+ghost use Rattle.edges.specs.Edges.{editRows};
+ghost use Rattle.edges.specs.Making.{Formed};
 ghost use Rattle.edges.specs.declared.Edit.the-variants.{Arrival, Leaving};
 ghost use Rattle.reduction.specs.TableCall.{tabulationAnswer};
-ghost use Rattle.edit.specs.EditCall.{EditDone, EditCall};
+ghost use Rattle.edit.specs.EditCall.{EditCall};
+ghost use Rattle.edit.specs.Done.{EditDone};
 
 // Makes an edit that was judged, and writes the order and the classes of the new table.
 fn apply_edit(

@@ -2,7 +2,8 @@
 use mathlib.Core.Path.{_≡_, sym, ap, _∙_}
 use mathlib.Core.Bool.{true}
 use Rattle.theory.specs.Range.{anyBelow}
-use Rattle.edges.specs.Edges.{misplaced, leads}
+use Rattle.edges.specs.Edges.{misplaced}
+use Rattle.edges.specs.Making.{leads}
 use Rattle.edges.specs.JudgedLaws.{source-outside, target-outside, edit-misplaced, edit-placed}
 use borrow.Author.Needs.{needs}
 use Rattle.edges.proofs.judge_edit.Statement.{statement}

@@ -10,7 +10,8 @@ use Rattle.table.specs.Verdict.{accepted, judge}
 use Rattle.table.specs.Acceptance.{acceptanceAnswer}
 use Rattle.classes.specs.ClassesCall.{memoryRows, memoryAnswer}
 use Rattle.classes.specs.declared.Memory.the-variants.{Enough}
-use Rattle.edges.specs.Edges.{editRows, Formed}
+use Rattle.edges.specs.Edges.{editRows}
+use Rattle.edges.specs.Making.{Formed}
 use Rattle.edges.specs.MadeLaws.{formed-room, formed-part}
 use Rattle.edit.specs.EditCallLaws.{call-short, call-judged, call-fits, edit-clean, call-done}
 use borrow.Author.Needs.{needs}

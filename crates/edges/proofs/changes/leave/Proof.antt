@@ -6,7 +6,7 @@ use native.Mathlib.Omega.{arith}
 use lib.ListN.{length, take, length-set}
 use lib.Seq.{length-take-le}
 use Rattle.table.specs.Table.{tableLength, tableIn}
-use Rattle.edges.specs.Edges.{Formed}
+use Rattle.edges.specs.Making.{Formed}
 use Rattle.edges.specs.MadeLaws.{formed-room, formed-part, leaving-few, leaving-made}
 use borrow.Author.Needs.{needs}
 use Rattle.edges.proofs.changes.leave.Statement.{statement}

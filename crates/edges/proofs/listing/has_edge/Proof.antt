@@ -5,7 +5,7 @@ use Prim.Native.Nat.{_-_, _≤_}
 use native.Mathlib.Omega.{arith}
 use Rattle.theory.specs.Range.{anyBelow}
 use Rattle.theory.specs.RangeLaws.{any-in, any-same}
-use Rattle.edges.specs.Edges.{leads}
+use Rattle.edges.specs.Making.{leads}
 use Rattle.edges.specs.SearchLaws.{leads-none}
 use borrow.Author.Needs.{needs}
 use Rattle.edges.proofs.listing.has_edge.Statement.{statement}
