@@ -2,14 +2,15 @@
 use mathlib.Core.Path.{_≡_, refl, sym, ap, _∙_, subst}
 use mathlib.Core.Logic.{inl, inr}
 use mathlib.Core.Bool.{Bool, true, false, not, So}
-use Prim.Native.Nat.{ℕ, _<_}
-use native.Mathlib.Decide.{ℕ-discrete}
+use Prim.Native.Nat.{ℕ, _≤_, _<_}
+use native.Mathlib.Decide.{decLt, ℕ-discrete}
+use native.Mathlib.Omega.{arith}
 use lib.Dec.{eqb}
 use borrow.Author.Tests.{eqb-true, eq-eqb, ne-eqb}
 use Rattle.theory.specs.Bools.{_&_, _or_}
 use Rattle.theory.specs.BoolsLaws.{clash, So-ext, So-not, and-in, and-out, and-true, or-left, or-right, or-out, or-false, not-in, not-out, and-neither}
 use Rattle.theory.specs.Range.{anyBelow}
-use Rattle.theory.specs.RangeLaws.{any-in, any-out, any-ext}
+use Rattle.theory.specs.RangeLaws.{any-in, any-out, any-ext, first-le, first-before, first-passes, first-none}
 use Rattle.bits.specs.Bits.{wordBits, digit, lowestBit, Lowest, Rest}
 use Rattle.bits.specs.WordLaws.{digit-zero}
 
@@ -115,3 +116,49 @@ module _ (which : ℕ) where
         let x = and-out (r .2) in
         clash (x .1) (some (r .0) (r .1) (and-out (x .0) .0))) in
         clash (and-in (and-in (c .0) (not-in g)) (not-in (some k (m .inside) (l k (m .set))))) f)
+
+-- ---- a loop that takes the bits in sequence: what is left is all of the word from the lowest bit left on
+
+abbrev pub Onward : ℕ → ℕ → Type 0
+Onward which left = (k : ℕ) → lowestBit left ≤ k → digit which k ≡ digit left k
+
+pub onward-start : (which : ℕ) → Onward which which
+onward-start which k h = refl
+
+module _ (left k r : ℕ) (m : Lowest left k) (e : Rest left r) where
+  -- above the bit that goes, nothing changes
+  rest-same : (i : ℕ) → k < i → digit left i ≡ digit r i
+  rest-same i l =
+      sym (and-true (digit left i)) ∙ ap (λ b. digit left i & not b) (sym (ne-eqb i (lowestBit left) (λ z. omega (arith, z, m .is)))) ∙ sym (e .digits i)
+
+  rest-below : (i : ℕ) → i ≤ k → digit r i ≡ false
+  unfolding lowestBit
+  rest-below i l = So-not (λ t.
+      let c = and-out (sym (e .digits i) ∙ t) in elim (ℕ-discrete i (lowestBit left)) [
+        | yes j ↦ clash (eq-eqb i (lowestBit left) j) (not-out (c .1))
+        | no j ↦ clash (c .0) (first-before (digit left) 0 wordBits i (omega arith) (omega (arith, l, j, m .is)))
+      ])
+
+  pub rest-above : k < lowestBit r
+  unfolding lowestBit
+  rest-above = elim (decLt k (lowestBit r)) [
+    | yes h ↦ h
+    | no h ↦ clash (first-passes (digit r) 0 wordBits (omega arith) (omega (arith, h, m .inside))) (rest-below (lowestBit r) (omega (arith, h)))
+  ]
+
+  module _ (which : ℕ) (o : Onward which left) where
+    pub onward-here : So (digit which k)
+    onward-here = o k (omega (arith, m .is)) ∙ m .set
+
+    pub onward-next : Onward which r
+    onward-next i h = o i (omega (arith, h, rest-above, m .is)) ∙ rest-same i (omega (arith, h, rest-above))
+
+    -- no bit lies between the one that goes and the next
+    pub onward-between : (i : ℕ) → k < i → i < lowestBit r → digit which i ≡ false
+    unfolding lowestBit
+    onward-between i l h = o i (omega (arith, l, m .is)) ∙ rest-same i l ∙ first-before (digit r) 0 wordBits i (omega arith) h
+
+-- no bit is left
+pub lowest-none : lowestBit 0 ≡ wordBits
+unfolding lowestBit
+lowest-none = omega (arith, first-le (digit 0) 0 wordBits (omega arith), first-none (digit 0) 0 wordBits (omega arith) (λ k l h. digit-zero k))

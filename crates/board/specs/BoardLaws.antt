@@ -3,23 +3,26 @@ use mathlib.Core.Path.{_≡_, refl, sym, ap, ap₂, _∙_}
 use mathlib.Core.Logic.{inl, inr}
 use mathlib.Core.Bool.{Bool, true, false, not, cond, So}
 use mathlib.Core.List.{List}
-use Prim.Native.Nat.{ℕ, _+_, _-_, _*_, _<_}
+use Prim.Native.Nat.{ℕ, _+_, _-_, _*_, _≤_, _<_}
 use native.Mathlib.Omega.{arith}
 use lib.Dec.{eqb}
+use lib.ListN.{getD}
 use borrow.Author.Tests.{eq-eqb}
 use Rattle.theory.specs.Bools.{_&_, _or_, imp}
 use Rattle.theory.specs.BoolsLaws.{decide, So-ext, and-in, and-out, and-fails, not-out, and-first, and-one, and-assoc}
-use Rattle.theory.specs.Range.{anyBelow, first}
-use Rattle.theory.specs.RangeLaws.{any-in, any-out, any-ext, any-fails}
+use Rattle.theory.specs.Range.{anyBelow}
+use Rattle.theory.specs.RangeLaws.{any-in, any-out, any-ext, any-fails, first-le, first-before}
 use Rattle.theory.specs.Passes.{Rel}
 use Rattle.theory.specs.Game.{even, Game, own, Succ}
 use Rattle.theory.specs.Order.{anyNext}
 use Rattle.theory.specs.OrderLaws.{anyNext-in, anyNext-out}
 use Rattle.theory.specs.Rows.{united, fall, unitedLost, fails, loses}
 use Rattle.theory.specs.RowsLaws.{any-same, fall-same, fall-none}
-use Rattle.bits.specs.Bits.{rowBits, has, RowIs, cell, Put, Added, unitedRows, apart}
+use Rattle.bits.specs.Bits.{wordBits, rowBits, digit, lowestBit, Lowest, Rest, has, RowIs, cell, Put, Added, unitedRows, apart}
+use Rattle.bits.specs.LeftLaws.{Onward, rest-above, onward-between}
+use Rattle.bits.specs.RowLaws.{has-at}
 use Rattle.bits.specs.MatrixLaws.{cell-base}
-use Rattle.bits.specs.MembersLaws.{kept-start, kept-next, members-start, members-next}
+use Rattle.bits.specs.MembersLaws.{kept-none, kept-skip, kept-step, members-skip, members-step}
 use Rattle.board.specs.Board.{EdgeRows, struck, Fell, oddLoss, Losses}
 
 -- ---- Bools
@@ -164,20 +167,56 @@ module _ (G : Game) (edges : List ℕ) (s : EdgeRows G edges) where
 -- ---- the losses of all vertices, one by one
 
 module _ (p : Rel) (near : List ℕ) where
-  pub losses-start : (next losing : List ℕ) → ((x : ℕ) → x < rowBits → cell losing 0 x ≡ false) → Losses p near (first (has near) 0 rowBits) next losing
+  pub losses-start : (next losing : List ℕ) → ((x : ℕ) → x < rowBits → cell losing 0 x ≡ false) → Losses p near 0 next losing
   losses-start next losing z = record {
-    rows = members-start (has near) rowBits _;
-    some = λ u h. z u h ∙ sym (kept-start (has near) rowBits (λ v. anyBelow rowBits (p v)) u);
+    rows = λ u h. absurd (omega arith);
+    some = λ u h. z u h ∙ sym (kept-none (has near) rowBits (λ v. anyBelow rowBits (p v)) u);
   }
 
-  pub losses-next : (v : ℕ) (next losing out next′ losing′ : List ℕ) (b : Bool) → So (has near v) → Losses p near v next losing → RowIs out (p v)
-      → Put next next′ v out → b ≡ anyBelow rowBits (has out) → Added losing losing′ 0 v b → Losses p near (first (has near) (v + 1) rowBits) next′ losing′
-  losses-next v next losing out next′ losing′ b on l e put k add = record {
-    rows = members-next (has near) rowBits _ v
+  -- no vertex of `near` from k to i
+  losses-skip : (k i : ℕ) (next losing : List ℕ) → k ≤ i → ((u : ℕ) → k ≤ u → u < i → has near u ≡ false) → Losses p near k next losing
+      → Losses p near i next losing
+  losses-skip k i next losing l none m = record {
+    rows = members-skip (has near) rowBits _ k i none (m .rows);
+    some = λ u h. m .some u h ∙ kept-skip (has near) rowBits (λ v. anyBelow rowBits (p v)) k i l none u;
+  }
+
+  pub losses-step : (v : ℕ) (next losing out next′ losing′ : List ℕ) (b : Bool) → So (has near v) → Losses p near v next losing → RowIs out (p v)
+      → Put next next′ v out → b ≡ anyBelow rowBits (has out) → Added losing losing′ 0 v b → Losses p near (v + 1) next′ losing′
+  losses-step v next losing out next′ losing′ b on l e put k add = record {
+    rows = members-step (has near) rowBits _ v
         (λ u h s x m. put .other u x (λ q. omega (arith, q, h)) m ∙ l .rows u h s x m)
         (λ x m. sym (put .here x m) ∙ e x m);
     some = λ u h.
         add 0 u h
         ∙ ap₂ _or_ (and-one _ (eq-eqb 0 0 refl) ∙ ap (λ c. eqb u v & c) (k ∙ any-ext rowBits (has out) (p v) e)) (l .some u h)
-        ∙ kept-next (has near) rowBits (λ w. anyBelow rowBits (p w)) v on u;
+        ∙ kept-step (has near) rowBits (λ w. anyBelow rowBits (p w)) v on u;
   }
+
+  -- ---- word j of `near`, bit by bit
+
+  module _ (j : ℕ) where
+    -- no bit from a to b
+    none-between : (a b : ℕ) → b ≤ wordBits → ((k : ℕ) → a ≤ k → k < b → digit (getD near j 0) k ≡ false) → (u : ℕ) → j * 64 + a ≤ u → u < j * 64 + b
+        → has near u ≡ false
+    none-between a b h none u l m =
+        let e : j * 64 + (u - j * 64) ≡ u = omega arith in
+        sym (ap (has near) e) ∙ has-at near j (u - j * 64) (omega arith) ∙ none (u - j * 64) (omega arith) (omega arith)
+
+    word-skip : (a b : ℕ) (next losing : List ℕ) → a ≤ b → b ≤ wordBits → ((k : ℕ) → a ≤ k → k < b → digit (getD near j 0) k ≡ false)
+        → Losses p near (j * 64 + a) next losing → Losses p near (j * 64 + b) next losing
+    word-skip a b next losing l h none = losses-skip (j * 64 + a) (j * 64 + b) next losing (omega arith) (none-between a b h none)
+
+    pub word-start : (next losing : List ℕ) → Losses p near (j * 64 + 0) next losing → Losses p near (j * 64 + lowestBit (getD near j 0)) next losing
+    unfolding lowestBit
+    word-start next losing =
+        word-skip 0 _ next losing (omega arith) (first-le (digit (getD near j 0)) 0 wordBits (omega arith)) (first-before (digit (getD near j 0)) 0 wordBits)
+
+    -- the lowest bit that is left is done
+    pub word-next : (left k r : ℕ) (next losing : List ℕ) → Onward (getD near j 0) left → Lowest left k → Rest left r
+        → Losses p near (j * 64 + k + 1) next losing → Losses p near (j * 64 + lowestBit r) next losing
+    unfolding lowestBit
+    word-next left k r next losing o m e l =
+        let h : j * 64 + k + 1 ≡ j * 64 + (k + 1) = omega arith in
+        word-skip (k + 1) (lowestBit r) next losing (omega (arith, rest-above left k r m e)) (first-le (digit r) 0 wordBits (omega arith))
+        (λ i x y. onward-between left k r m e (getD near j 0) o i (omega (arith, x)) y) (rw h at l)

@@ -9,16 +9,16 @@ use bits::matrix::unite;
 use bits::row::Row;
 use bits::row::WORDS;
 use bits::row::common;
-use bits::row::first_from;
 use bits::row::is_some;
+use bits::word;
 use table::limits::VERTICES;
 ghost use mathlib.Core.Path.{_≡_};
 ghost use mathlib.Core.Bool.{false};
-ghost use Prim.Native.Nat.{ℕ, _<_, _≤_};
+ghost use Prim.Native.Nat.{ℕ, _+_, _*_, _<_, _≤_};
 ghost use lib.ListN.{length};
 ghost use Rattle.theory.specs.Game.{Game};
 ghost use Rattle.theory.specs.Rows.{loses};
-ghost use Rattle.bits.specs.Bits.{rowBits, rowWords, has, RowIs, cell};
+ghost use Rattle.bits.specs.Bits.{wordBits, rowBits, rowWords, has, RowIs, cell};
 ghost use Rattle.board.specs.Board.{edgeWords, EdgeRows, relationWords, struck, Fell, oddLoss, LossesTo};
 
 // What an Odd vertex v loses, where `gone` is what the rows of its successors lost. It ends early where other successors still have all of it.
@@ -47,6 +47,33 @@ fn lose(edges: &[u64], related: &[u64], lost: &[u64], falls: &[u64], changed: Ro
     common(row(related, v), unite(falls, 0, which))
 }
 
+// What the vertices of word j of `near` lose, where those of the words before it are done.
+fn lose_word(
+    edges: &[u64],
+    related: &[u64],
+    lost: &[u64],
+    falls: &[u64],
+    changed: Row,
+    near: &[u64],
+    j: usize,
+    next: &mut [u64],
+    losing: &mut [u64],
+)
+    requires { ⌜ (edgeWords ≤ length (now edges)) × (relationWords ≤ length (now related)) × (relationWords ≤ length (now lost)) × (relationWords ≤ length (now falls)) ⌝ }
+    requires { ⌜ (rowWords ≤ length (now near)) × (relationWords ≤ length (now next)) × (rowWords ≤ length (now losing)) × (j < rowWords) ⌝ }
+    requires { ⌜ LossesTo (now edges) (now related) (now lost) (now falls) changed (now near) (j * wordBits) (now next) (now losing) ⌝ }
+    ensures { λ r. ⌜ LossesTo (now (edges .entry)) (now (related .entry)) (now (lost .entry)) (now (falls .entry)) changed (now (near .entry)) (j * wordBits + wordBits) (now (next .exit)) (now (losing .exit)) ⌝ }
+{
+    let mut left = near[j];
+    while left != 0 {
+        let v = j * 64 + word::lowest(left);
+        let out = lose(edges, related, lost, falls, changed, v);
+        put(next, v, out);
+        add(losing, 0, v, is_some(out));
+        left = word::rest(left);
+    }
+}
+
 // Writes what each vertex of `near` loses into its row of `next`, and those that lose something into `losing`, which is empty.
 pub fn lose_all(
     edges: &[u64],
@@ -63,11 +90,9 @@ pub fn lose_all(
     requires { ⌜ ((x : ℕ) → x < rowBits → cell (now losing) 0 x ≡ false) ⌝ }
     ensures { λ r. ⌜ LossesTo (now (edges .entry)) (now (related .entry)) (now (lost .entry)) (now (falls .entry)) changed (now (near .entry)) rowBits (now (next .exit)) (now (losing .exit)) ⌝ }
 {
-    let mut v = first_from(near, 0);
-    while v < VERTICES {
-        let out = lose(edges, related, lost, falls, changed, v);
-        put(next, v, out);
-        add(losing, 0, v, is_some(out));
-        v = first_from(near, v + 1);
+    let mut j = 0;
+    while j < WORDS {
+        lose_word(edges, related, lost, falls, changed, near, j, next, losing);
+        j += 1;
     }
 }
