@@ -12,7 +12,7 @@ use Rattle.edges.specs.Edges.{edited, editedWords, editRows}
 use Rattle.edges.specs.declared.Edit.{Edit}
 
 -- 1 to 8, where 4 means "shorter"; 21 to 23; 37 to 39
-unfoldable pub callRows : Edit → List ℕ → ℕ → ℕ → List ℕ → List ℕ → List ℕ → List Row
+abbrev pub callRows : Edit → List ℕ → ℕ → ℕ → List ℕ → List ℕ → List ℕ → List Row
 callRows e buffer s t marks spare classes =
     bufferRows buffer
     ++ (memoryRows (vertexCount buffer) (length marks) (length spare) (length classes) ++ editRows e (tableIn buffer) (length buffer) s t)
@@ -21,12 +21,17 @@ callRows e buffer s t marks spare classes =
 unfoldable pub callCounts : List ℕ → List ℕ
 callCounts new = classTotal new ∷ vertexCount new ∷ tableEdges new ∷ []
 
--- The promise: the verdict, and every lent word. "The order, spare and classes afterwards equal those worked out afresh from the new table,
--- whatever was in these buffers before."
-pub record EditCall (e : Edit) (buffer : List ℕ) (s t : ℕ) (marks spare classes : List ℕ) (answer : Answer)
+-- The promise of a call that edits the table g in a buffer, with its table of refusals: the verdict, and every lent word. "The order, spare and
+-- classes afterwards equal those worked out afresh from the new table, whatever was in these buffers before."
+pub record EditedBy (rows : List Row) (e : Edit) (g : List ℕ) (s t : ℕ) (buffer marks spare classes : List ℕ) (answer : Answer)
     (buffer′ marks′ spare′ classes′ : List ℕ) : Type 0 where
-  pub verdict : answer ≡ judge (callRows e buffer s t marks spare classes) (callCounts (edited e (tableIn buffer) s t))
-  pub buffer-after : buffer′ ≡ after (callRows e buffer s t marks spare classes) (editedWords e (tableIn buffer) s t) buffer
-  pub marks-after : marks′ ≡ after (callRows e buffer s t marks spare classes) (orderBytes (edited e (tableIn buffer) s t)) marks
-  pub spare-after : spare′ ≡ after (callRows e buffer s t marks spare classes) (orderBytes (edited e (tableIn buffer) s t)) spare
-  pub classes-after : classes′ ≡ after (callRows e buffer s t marks spare classes) (classWords (edited e (tableIn buffer) s t)) classes
+  pub verdict : answer ≡ judge rows (callCounts (edited e g s t))
+  pub buffer-after : buffer′ ≡ after rows (editedWords e g s t) buffer
+  pub marks-after : marks′ ≡ after rows (orderBytes (edited e g s t)) marks
+  pub spare-after : spare′ ≡ after rows (orderBytes (edited e g s t)) spare
+  pub classes-after : classes′ ≡ after rows (classWords (edited e g s t)) classes
+
+-- the calls of change request 7: the table begins the buffer that the edit is made in
+abbrev pub EditCall : Edit → List ℕ → ℕ → ℕ → List ℕ → List ℕ → List ℕ → Answer → List ℕ → List ℕ → List ℕ → List ℕ → Type 0
+EditCall e buffer s t marks spare classes =
+    EditedBy (callRows e buffer s t marks spare classes) e (tableIn buffer) s t buffer marks spare classes

@@ -5,7 +5,7 @@ use Prim.Native.Nat.{ℕ, _≤_}
 use native.Mathlib.Omega.{arith}
 use lib.ListN.{length, take, length-take}
 use Rattle.table.specs.Table.{vertexCount, tableLength, tableIn}
-use Rattle.table.specs.Verdict.{Row, accepted, refused, judge, Clean}
+use Rattle.table.specs.Verdict.{Row, accepted, refused, judge, Clean, written}
 use Rattle.table.specs.VerdictLaws.{judge-clean, judge-accepted, judge-past, judge-stays, after-clean, after-refused, clean-append}
 use Rattle.table.specs.Reading.{readAnswer, readingAnswer, refusalOf}
 use Rattle.table.specs.ReadingLaws.{reading-accepted}
@@ -28,7 +28,7 @@ use Rattle.edges.specs.Edges.{edited, editedWords, editRows}
 use Rattle.edges.specs.Making.{Formed, Made}
 use Rattle.edges.specs.EditedLaws.{edited-vertices, edited-well, edited-part}
 use Rattle.edges.specs.declared.Edit.{Edit}
-use Rattle.edit.specs.EditCall.{callRows, callCounts, EditCall}
+use Rattle.edit.specs.EditCall.{callCounts, EditedBy}
 use Rattle.edit.specs.Done.{EditDone}
 
 -- the reader accepted the table that begins the buffer
@@ -38,25 +38,22 @@ formed buffer e a =
     let w = reading-accepted (tableIn buffer) _ (rw e at a) in
     record { well = w .well; vertices = w .vertices; edges = w .edges }
 
-module _ (e : Edit) (buffer : List ℕ) (s t : ℕ) (marks spare classes : List ℕ) where
-  abbrev rows : List Row
-  rows = callRows e buffer s t marks spare classes
+-- memory that is enough for n vertices is enough for the table
+pub call-fits : (g marks spare classes : List ℕ) {n m : ℕ} → Formed g n m
+    → memoryAnswer Enough ≡ judge (memoryRows n (length marks) (length spare) (length classes)) [] → ClassesFit g marks spare classes
+call-fits g marks spare classes form enough = memory-fits g marks spare classes (form .well) (rw (form .vertices) at enough)
 
-  abbrev g : List ℕ
-  g = tableIn buffer
+-- ---- whatever the rows
 
+pub passed-clean : (rows : List Row) → accepted [] ≡ judge rows [] → Clean rows
+passed-clean rows a = judge-accepted rows [] [] (sym a) .0
+
+module _ (rows : List Row) (e : Edit) (g : List ℕ) (s t : ℕ) (buffer marks spare classes : List ℕ) where
   abbrev new : List ℕ
   new = edited e g s t
 
-  -- the rows of the memory, for n vertices, and those of the edit
-  abbrev memory : ℕ → List Row
-  memory n = memoryRows n (length marks) (length spare) (length classes)
-
-  abbrev edit : List Row
-  edit = editRows e g (length buffer) s t
-
   call-old : (k p : ℕ) → judge rows (callCounts new) ≡ refused k p
-      → EditCall e buffer s t marks spare classes (refused k p) buffer marks spare classes
+      → EditedBy rows e g s t buffer marks spare classes (refused k p) buffer marks spare classes
   call-old k p r = record {
     verdict = sym r;
     buffer-after = sym (after-refused rows _ (editedWords e g s t) buffer r);
@@ -65,62 +62,74 @@ module _ (e : Edit) (buffer : List ℕ) (s t : ℕ) (marks spare classes : List 
     classes-after = sym (after-refused rows _ (classWords new) classes r);
   }
 
+  -- the edit is made in a buffer that g begins, and what lies beyond is the old content
+  call-made : Clean rows → (start : List ℕ) → tableIn start ≡ g → written (editedWords e g s t) start ≡ written (editedWords e g s t) buffer
+      → (c : TableCounts) (buffer′ marks′ spare′ classes′ : List ℕ) → EditDone e start s t marks spare classes c buffer′ marks′ spare′ classes′
+      → EditedBy rows e g s t buffer marks spare classes (accepted (c .classes ∷ c .vertices ∷ c .edges ∷ [])) buffer′ marks′ spare′ classes′
+  unfolding callCounts
+  call-made clean start same beyond c buffer′ marks′ spare′ classes′ done =
+      let d : EditDone e start s t marks spare classes c buffer′ marks′ spare′ classes′ = done in record {
+        verdict = rw (d .memory .count, d .vertices, d .made .count, same) (sym (judge-clean rows (callCounts new) clean));
+        buffer-after = d .made .buffer-after ∙ rw same (beyond ∙ sym (after-clean rows (editedWords e g s t) buffer clean));
+        marks-after = d .memory .marks-after ∙ rw same (sym (after-clean rows (orderBytes new) marks clean));
+        spare-after = d .memory .spare-after ∙ rw same (sym (after-clean rows (orderBytes new) spare clean));
+        classes-after = d .memory .classes-after ∙ rw same (sym (after-clean rows (classWords new) classes clean));
+      }
+
+-- ---- rows 1 to 8 of the table that begins `game`, 21 to 23, and then others
+
+module _ (rest : List Row) (e : Edit) (game : List ℕ) (s t : ℕ) (buffer marks spare classes : List ℕ) where
+  abbrev g : List ℕ
+  g = tableIn game
+
+  -- the rows of the memory, for n vertices
+  abbrev memory : ℕ → List Row
+  memory n = memoryRows n (length marks) (length spare) (length classes)
+
+  abbrev rows : List Row
+  rows = bufferRows game ++ (memory (vertexCount game) ++ rest)
+
+  abbrev Old : Refusal → Type 0
+  Old f = EditedBy rows e g s t buffer marks spare classes (refused (f .number) (f .place)) buffer marks spare classes
+
+  old : (f : Refusal) → judge rows (callCounts (edited e g s t)) ≡ refused (f .number) (f .place) → Old f
+  old f = call-old rows e g s t buffer marks spare classes (f .number) (f .place)
+
   -- the reader's refusal, taken out of its verdict, is the call's
-  pub call-handed : (reading : Reading) (f h : Refusal) → reading ≡ Refused f → readingAnswer reading ≡ readAnswer g → h ≡ refusalOf reading
-      → EditCall e buffer s t marks spare classes (refused (h .number) (h .place)) buffer marks spare classes
-  unfolding readAnswer callRows
+  pub call-handed : (reading : Reading) (f h : Refusal) → reading ≡ Refused f → readingAnswer reading ≡ readAnswer g → h ≡ refusalOf reading → Old h
+  unfolding readAnswer
   call-handed reading f h r a k =
-      rw (k, r) (call-old (f .number) (f .place)
-      (judge-stays (bufferRows buffer) _ _ _ (f .number) (f .place) (buffer-judge buffer _ ∙ sym (rw r at a))))
+      rw (k, r) (old f (judge-stays (bufferRows game) _ _ _ (f .number) (f .place) (buffer-judge game _ ∙ sym (rw r at a))))
 
   module _ {n m : ℕ} (form : Formed g n m) where
-    vertices : n ≡ vertexCount buffer
-    vertices = form .vertices ∙ in-vertices buffer
+    vertices : n ≡ vertexCount game
+    vertices = form .vertices ∙ in-vertices game
 
-    past-table : (counts : List ℕ) → judge rows counts ≡ judge (memory n ++ edit) counts
-    unfolding callRows
-    past-table counts = rw vertices (judge-past (bufferRows buffer) _ counts (buffer-clean buffer (form .well)))
+    past-table : (counts : List ℕ) → judge rows counts ≡ judge (memory n ++ rest) counts
+    past-table counts = rw vertices (judge-past (bufferRows game) _ counts (buffer-clean game (form .well)))
 
-    pub call-short : (f : Refusal) → memoryAnswer (Short f) ≡ judge (memory n) []
-        → EditCall e buffer s t marks spare classes (refused (f .number) (f .place)) buffer marks spare classes
-    call-short f a =
-        call-old (f .number) (f .place) (past-table _ ∙ judge-stays (memory n) edit [] _ (f .number) (f .place) (sym a))
+    pub call-short : (f : Refusal) → memoryAnswer (Short f) ≡ judge (memory n) [] → Old f
+    call-short f a = old f (past-table _ ∙ judge-stays (memory n) rest [] _ (f .number) (f .place) (sym a))
 
     module _ (enough : memoryAnswer Enough ≡ judge (memory n) []) where
       memory-clean : Clean (memory n)
-      memory-clean = judge-accepted (memory n) [] [] (sym enough) .0
+      memory-clean = passed-clean (memory n) enough
 
-      pub call-judged : (f : Refusal) → acceptanceAnswer (Acceptance.Refused f) ≡ judge edit []
-          → EditCall e buffer s t marks spare classes (refused (f .number) (f .place)) buffer marks spare classes
+      pub call-judged : (f : Refusal) → acceptanceAnswer (Acceptance.Refused f) ≡ judge rest [] → Old f
       call-judged f a =
-          call-old (f .number) (f .place)
-          (past-table _ ∙ judge-past (memory n) edit _ memory-clean
-          ∙ (rw (append-nil edit) at (judge-stays edit [] [] (callCounts new) (f .number) (f .place) (sym a))))
+          old f
+          (past-table _ ∙ judge-past (memory n) rest _ memory-clean
+          ∙ (rw (append-nil rest) at (judge-stays rest [] [] (callCounts (edited e g s t)) (f .number) (f .place) (sym a))))
 
-      -- it is enough for the table, too
-      pub call-fits : ClassesFit g marks spare classes
-      call-fits = memory-fits g marks spare classes (form .well) (rw (form .vertices) at enough)
+      rows-clean : Clean rest → Clean rows
+      rows-clean clean =
+          clean-append (bufferRows game) _ (buffer-clean game (form .well))
+          (clean-append (memory (vertexCount game)) rest (rw vertices at memory-clean) clean)
 
-      module _ (passed : accepted [] ≡ judge edit []) where
-        pub edit-clean : Clean edit
-        edit-clean = judge-accepted edit [] [] (sym passed) .0
-
-        rows-clean : Clean rows
-        unfolding callRows
-        rows-clean =
-            clean-append (bufferRows buffer) _ (buffer-clean buffer (form .well))
-            (clean-append (memory (vertexCount buffer)) edit (rw vertices at memory-clean) edit-clean)
-
-        pub call-done : (c : TableCounts) (buffer′ marks′ spare′ classes′ : List ℕ) → EditDone e buffer s t marks spare classes c buffer′ marks′ spare′ classes′
-            → EditCall e buffer s t marks spare classes (accepted (c .classes ∷ c .vertices ∷ c .edges ∷ [])) buffer′ marks′ spare′ classes′
-        unfolding callCounts
-        call-done c buffer′ marks′ spare′ classes′ d = record {
-          verdict = rw (d .memory .count, d .vertices, d .made .count) (sym (judge-clean rows (callCounts new) rows-clean));
-          buffer-after = d .made .buffer-after ∙ sym (after-clean rows (editedWords e g s t) buffer rows-clean);
-          marks-after = d .memory .marks-after ∙ sym (after-clean rows (orderBytes new) marks rows-clean);
-          spare-after = d .memory .spare-after ∙ sym (after-clean rows (orderBytes new) spare rows-clean);
-          classes-after = d .memory .classes-after ∙ sym (after-clean rows (classWords new) classes rows-clean);
-        }
+      pub call-done : Clean rest → (start : List ℕ) → tableIn start ≡ g → written (editedWords e g s t) start ≡ written (editedWords e g s t) buffer
+          → (c : TableCounts) (buffer′ marks′ spare′ classes′ : List ℕ) → EditDone e start s t marks spare classes c buffer′ marks′ spare′ classes′
+          → EditedBy rows e g s t buffer marks spare classes (accepted (c .classes ∷ c .vertices ∷ c .edges ∷ [])) buffer′ marks′ spare′ classes′
+      call-done clean = call-made rows e g s t buffer marks spare classes (rows-clean clean)
 
 -- ---- the edit is made: the new table begins the buffer, and the memory fits it
 

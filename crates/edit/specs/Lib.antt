@@ -4,3 +4,9 @@ pub mod EditCallLaws
 pub mod EditRules
 pub mod EditRulesLaws
 pub mod NewTableLaws
+pub mod CopyLaws
+pub mod PreviewCall
+pub mod PreviewRules
+pub mod PreviewRulesLaws
+pub mod PreviewCallLaws
+pub mod PreviewEditLaws

@@ -32,11 +32,9 @@ module _ {e : Edit} {buffer : List ℕ} {s t : ℕ} {marks spare classes counts 
 
   -- the rows that were passed
   pub call-well : WellFormed g
-  unfolding callRows
   call-well = clean-buffer buffer (clean-split (bufferRows buffer) _ (call-passed call _ refl .0) .0)
 
   pub call-edit : Clean (editRows e g (length buffer) s t)
-  unfolding callRows
   call-edit =
       clean-split (memoryRows (vertexCount buffer) (length marks) (length spare) (length classes)) (editRows e g (length buffer) s t)
       (clean-split (bufferRows buffer) _ (call-passed call _ refl .0) .1) .1
@@ -102,7 +100,6 @@ module _ {buffer : List ℕ} {s t : ℕ} {marks spare classes counts : List ℕ}
       sym (in-vertices buffer₁) ∙ ap (λ (g : List ℕ). vertexCount g) (call-table added) ∙ edited-vertices Arrival old s t ∙ in-vertices buffer
 
   removed-clean : Clean (callRows Leaving buffer₁ s t marks₂ spare₂ classes₂)
-  unfolding callRows
   removed-clean =
       clean-append (bufferRows buffer₁) _
       (buffer-clean buffer₁ (rw (call-table added) (new-well added)))

@@ -1,4 +1,6 @@
 // Edges that come and go: edits of a table that begins a buffer, with the order and the classes of the new table.
+pub mod preview;
+
 use classes::Memory;
 use classes::fill_memory;
 use classes::judge_memory;

@@ -22,7 +22,7 @@ same-length c = search needs
 returns : tie.Need-returns
 returns c =
     let t = c .before in
-    call-handed _ _ _ _ _ _ _ _ _ _ (t .enum-told .given .1) (t .before .before .read-in .ensures) (c .refusal-of .ensures)
+    call-handed _ _ _ _ _ _ _ _ _ _ _ _ (t .enum-told .given .1) (t .before .before .read-in .ensures) (c .refusal-of .ensures)
 
 edit-table-requires : tie.Need-edit-table-requires
 edit-table-requires c κs =

@@ -1,5 +1,5 @@
 -- Each way out is a row of the call's table of refusals, or what the edit leaves.
-use mathlib.Core.Path.{_≡_, sym, ap, _∙_, subst}
+use mathlib.Core.Path.{_≡_, refl, sym, ap, _∙_, subst}
 use mathlib.Core.List.{List, []}
 use Prim.Native.Nat.{ℕ, _≤_}
 use native.Mathlib.Omega.{arith}
@@ -13,7 +13,7 @@ use Rattle.classes.specs.declared.Memory.the-variants.{Enough}
 use Rattle.edges.specs.Edges.{editRows}
 use Rattle.edges.specs.Making.{Formed}
 use Rattle.edges.specs.MadeLaws.{formed-room, formed-part}
-use Rattle.edit.specs.EditCallLaws.{call-short, call-judged, call-fits, edit-clean, call-done}
+use Rattle.edit.specs.EditCallLaws.{passed-clean, call-short, call-judged, call-fits, call-done}
 use borrow.Author.Needs.{needs}
 use Rattle.edit.proofs.edit_table.Statement.{statement}
 use Rattle.edit.proofs.edit_table.Tie as tie
@@ -59,7 +59,7 @@ enum-known-memory c = search needs
 returns : tie.Need-returns
 returns c =
     let j = c .before .before .before in
-    call-short _ _ _ _ _ _ _ (start j .pre) _ (ap memoryAnswer (sym (c .before .memory .given .1)) ∙ j .judge-memory .ensures)
+    call-short _ _ _ _ _ _ _ _ _ (start j .pre) _ (ap memoryAnswer (sym (c .before .memory .given .1)) ∙ j .judge-memory .ensures)
 
 enum-told : tie.Need-enum-told
 enum-told c = search needs
@@ -98,7 +98,7 @@ returns-2 : tie.Need-returns-2
 returns-2 c =
     let j = c .before .before .before in
     let t = told-at j in
-    call-judged _ _ _ _ _ _ _ (entry t .pre) (enough t) _ (ap acceptanceAnswer (sym (c .before .judged .given .1)) ∙ judged j)
+    call-judged _ _ _ _ _ _ _ _ _ (entry t .pre) (enough t) _ (ap acceptanceAnswer (sym (c .before .judged .given .1)) ∙ judged j)
 
 enum-told-2 : tie.Need-enum-told-2
 enum-told-2 c = search needs
@@ -109,10 +109,7 @@ apply-edit-requires c κs =
     let t = told-at (u .before .before) in
     let s = entry t in
     let a = s .args in
-    let e = a .edit in (
-      (s .pre, call-fits e (a .buffer .now) (a .source) (a .target) _ _ _ (s .pre) (enough t)),
-      edit-clean e (a .buffer .now) (a .source) (a .target) (a .marks .now) (a .spare .now) (a .classes .now) (s .pre) (enough t) (passed u),
-    )
+    ((s .pre, call-fits (tableIn (a .buffer .now)) _ _ _ (s .pre) (enough t)), passed-clean _ (passed u))
 
 same-length-2 : tie.Need-same-length-2
 same-length-2 c = search needs
@@ -131,7 +128,7 @@ returns-3 c =
     let x = c .before .before .before .before .before .before .before .before in
     let u = x .before .before .before .before .before in
     let t = told-at (u .before .before) in
-    call-done _ _ _ _ _ _ _ (entry t .pre) (enough t) (passed u) _ _ _ _ _ (x .apply-edit .ensures)
+    call-done _ _ _ _ _ _ _ _ _ (entry t .pre) (enough t) (passed-clean _ (passed u)) _ refl refl _ _ _ _ _ (x .apply-edit .ensures)
 
 pub edit-table-spec : {M : Type 1} → statement M
 edit-table-spec =
