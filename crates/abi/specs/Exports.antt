@@ -9,6 +9,7 @@ use Rattle.classes.specs.ClassesCall.{ClassesCall}
 use Rattle.reduction.specs.TableCall.{TableCall}
 use Rattle.edges.specs.declared.Edit.{Edit}
 use Rattle.edit.specs.EditCall.{EditCall}
+use Rattle.edit.specs.PreviewCall.{PreviewCall}
 use Rattle.seed.specs.SeedCall.{SeedCall}
 use Rattle.convert.specs.ConvertCall.{ConvertCall}
 use Rattle.carry.specs.CarryCall.{CarryCall, CarryClassCall}
@@ -35,6 +36,12 @@ pub record EditExport (e : Edit) (table : List ℕ) (source target : ℕ) (marks
   pub answer : Answer
   pub fields : r ≡ tableFields answer
   pub call : EditCall e table source target marks spare classes answer table′ marks′ spare′ classes′
+
+pub record PreviewExport (e : Edit) (game : List ℕ) (source target : ℕ) (table marks spare classes : List ℕ) (r : RaskjomiAnswer)
+    (table′ marks′ spare′ classes′ : List ℕ) : Type 0 where
+  pub answer : Answer
+  pub fields : r ≡ tableFields answer
+  pub call : PreviewCall e game source target table marks spare classes answer table′ marks′ spare′ classes′
 
 pub record SeedExport (seed n d c : ℕ) (output : List ℕ) (r : RaskjomiAnswer) (output′ : List ℕ) : Type 0 where
   pub answer : Answer

@@ -16,7 +16,7 @@ ghost use Rattle.relation.specs.RelationCall.{relationAnswer};
 ghost use Rattle.plan.specs.Acceptance.{planAnswer};
 ghost use Rattle.edges.specs.declared.Edit.the-variants.{Arrival, Leaving};
 ghost use Rattle.answer.specs.Fields.{readFields, acceptFields};
-ghost use Rattle.abi.specs.Exports.{OrderExport, ClassesExport, TableExport, SeedExport, ConvertExport, CarryExport, CarryClassExport, EditExport};
+ghost use Rattle.abi.specs.Exports.{OrderExport, ClassesExport, TableExport, SeedExport, ConvertExport, CarryExport, CarryClassExport, EditExport, PreviewExport};
 
 // The kind of a refusal number.
 #[no_mangle]
@@ -193,4 +193,36 @@ pub extern "C" fn raskjomi_remove_edge(
     ensures { λ r. ⌜ EditExport Leaving (now (table .entry)) source target (now (marks .entry)) (now (spare .entry)) (now (classes .entry)) r (now (table .exit)) (now (marks .exit)) (now (spare .exit)) (now (classes .exit)) ⌝ }
 {
     of_tabulation(edit::remove_edge(table, source, target, marks, spare, classes))
+}
+
+// An edge added to a copy, in `table`, of the table that begins `game`; the classes and the order of the new table.
+#[no_mangle]
+pub extern "C" fn raskjomi_preview_add(
+    game: &[u16],
+    source: u32,
+    target: u32,
+    table: &mut [u16],
+    marks: &mut [u8],
+    spare: &mut [u8],
+    classes: &mut [u16],
+) -> RaskjomiAnswer
+    ensures { λ r. ⌜ PreviewExport Arrival (now (game .entry)) source target (now (table .entry)) (now (marks .entry)) (now (spare .entry)) (now (classes .entry)) r (now (table .exit)) (now (marks .exit)) (now (spare .exit)) (now (classes .exit)) ⌝ }
+{
+    of_tabulation(edit::preview::preview_add(game, source, target, table, marks, spare, classes))
+}
+
+// Every copy of an edge removed from a copy, in `table`, of the table that begins `game`; the classes and the order of the new table.
+#[no_mangle]
+pub extern "C" fn raskjomi_preview_remove(
+    game: &[u16],
+    source: u32,
+    target: u32,
+    table: &mut [u16],
+    marks: &mut [u8],
+    spare: &mut [u8],
+    classes: &mut [u16],
+) -> RaskjomiAnswer
+    ensures { λ r. ⌜ PreviewExport Leaving (now (game .entry)) source target (now (table .entry)) (now (marks .entry)) (now (spare .entry)) (now (classes .entry)) r (now (table .exit)) (now (marks .exit)) (now (spare .exit)) (now (classes .exit)) ⌝ }
+{
+    of_tabulation(edit::preview::preview_remove(game, source, target, table, marks, spare, classes))
 }

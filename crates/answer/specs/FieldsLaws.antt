@@ -35,6 +35,8 @@ use Rattle.edges.specs.declared.Edit.{Edit}
 use Rattle.edit.specs.EditCall.{callCounts, EditCall}
 use Rattle.edit.specs.EditRulesLaws.{call-passed}
 use Rattle.edit.specs.NewTableLaws.{new-well}
+use Rattle.edit.specs.PreviewCall.{PreviewCall}
+use Rattle.edit.specs.PreviewEditLaws.{preview-edit}
 use Rattle.seed.specs.SeedCall.{SeedCall}
 use Rattle.seed.specs.SeedRulesLaws.{seed-accepted}
 use Rattle.convert.specs.ConvertCall.{ConvertCall}
@@ -145,6 +147,13 @@ editing-small e buffer s t marks spare classes (Tabulation.Accepted counts) buff
       omega (arith, third-count c, w .edges),
     )
 editing-small e buffer s t marks spare classes (Tabulation.Refused refusal) buffer′ marks′ spare′ classes′ call = tt
+
+-- accepted, a preview is an edit of the copy
+pub previewing-small : (e : Edit) (game : List ℕ) (s t : ℕ) (table marks spare classes : List ℕ) (r : Tabulation) (table′ marks′ spare′ classes′ : List ℕ)
+    → PreviewCall e game s t table marks spare classes (tabulationAnswer r) table′ marks′ spare′ classes′ → SmallCounts r
+previewing-small e game s t table marks spare classes (Tabulation.Accepted counts) table′ marks′ spare′ classes′ call =
+    editing-small e _ s t marks spare classes (Tabulation.Accepted counts) table′ marks′ spare′ classes′ (preview-edit game call _ refl)
+previewing-small e game s t table marks spare classes (Tabulation.Refused refusal) table′ marks′ spare′ classes′ call = tt
 
 -- ---- a carried plan's counts: 34 didn't hold
 

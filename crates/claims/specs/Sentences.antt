@@ -20,6 +20,7 @@ use Rattle.carry.specs.CarryCall.{CarryCall, CarryClassCall}
 use Rattle.carry.specs.WrittenPlanLaws.{writtenPlan, PlanFrom}
 use Rattle.edges.specs.declared.Edit.{Edit}
 use Rattle.edit.specs.EditCall.{EditCall}
+use Rattle.edit.specs.PreviewCall.{PreviewCall}
 use Rattle.claims.specs.Written.{writtenTable}
 use Rattle.claims.specs.declared.Containment.{Containment}
 
@@ -105,15 +106,25 @@ pub record CarriesClass (game : List ℕ) (player : ℕ) (plan : List ℕ) (vert
   pub reduction-table : OnceWritten AfterReduction answer (TableSentences game classes′ reduction′ (reduced (gameOf game) .n) (edgeCount (reduced (gameOf game))))
   pub output-plan : (k n e p l : ℕ) → answer ≡ accepted (k ∷ n ∷ e ∷ p ∷ l ∷ []) → PlanFrom game player vertex (writtenPlan p l output′)
 
--- a call that edits a table: the sentences are about the table that begins the buffer after it
-pub record Edits (e : Edit) (buffer : List ℕ) (s t : ℕ) (marks spare classes : List ℕ) (answer : Answer)
-    (buffer′ marks′ spare′ classes′ : List ℕ) : Type 0 where
-  pub call : EditCall e buffer s t marks spare classes answer buffer′ marks′ spare′ classes′
+-- of the table that begins a buffer once an edit is made there
+pub record EditSentences (answer : Answer) (buffer′ marks′ spare′ classes′ : List ℕ) : Type 0 where
   -- the reader accepts it, with the n and m of the verdict
   pub read : (k n m : ℕ) → answer ≡ accepted (k ∷ n ∷ m ∷ []) → readAnswer (tableIn buffer′) ≡ accepted (n ∷ m ∷ edgeCount (gameOf (tableIn buffer′)) ∷ [])
   pub marks-order : OnAcceptance answer (OrderSentences (tableIn buffer′) marks′)
   pub spare-order : OnAcceptance answer (OrderSentences (tableIn buffer′) spare′)
   pub classes-words : OnAcceptance answer (ClassSentence (tableIn buffer′) classes′)
+
+-- a call that edits a table
+pub record Edits (e : Edit) (buffer : List ℕ) (s t : ℕ) (marks spare classes : List ℕ) (answer : Answer)
+    (buffer′ marks′ spare′ classes′ : List ℕ) : Type 0 where
+  pub call : EditCall e buffer s t marks spare classes answer buffer′ marks′ spare′ classes′
+  pub sentences : EditSentences answer buffer′ marks′ spare′ classes′
+
+-- a call that previews an edit: the sentences are about the table that begins the second one after it
+pub record Previews (e : Edit) (game : List ℕ) (s t : ℕ) (table marks spare classes : List ℕ) (answer : Answer)
+    (table′ marks′ spare′ classes′ : List ℕ) : Type 0 where
+  pub call : PreviewCall e game s t table marks spare classes answer table′ marks′ spare′ classes′
+  pub sentences : EditSentences answer table′ marks′ spare′ classes′
 
 -- the relation acceptor and then the order call, with the verdicts of both
 pub record Contains (game relation marks spare : List ℕ) (r : Containment) (marks′ spare′ : List ℕ) : Type 0 where

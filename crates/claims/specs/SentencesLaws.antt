@@ -19,9 +19,11 @@ use Rattle.edges.specs.Edges.{edited}
 use Rattle.edges.specs.declared.Edit.{Edit}
 use Rattle.edit.specs.EditCall.{callRows, EditCall}
 use Rattle.edit.specs.NewTableLaws.{call-table, call-read}
+use Rattle.edit.specs.PreviewCall.{PreviewCall}
+use Rattle.edit.specs.PreviewEditLaws.{preview-edit}
 use Rattle.claims.specs.Written.{LeavesOrder, Faithful}
 use Rattle.claims.specs.Demands as demands
-use Rattle.claims.specs.Sentences.{OnAcceptance, OrderSentences, ClassSentence, Orders, Classifies, Tabulates, Contains, OnceWritten, AfterOrder, AfterReduction, Carries, CarriesClass, Edits}
+use Rattle.claims.specs.Sentences.{OnAcceptance, OrderSentences, ClassSentence, Orders, Classifies, Tabulates, Contains, OnceWritten, AfterOrder, AfterReduction, Carries, CarriesClass, EditSentences, Edits, Previews}
 use Rattle.claims.specs.declared.Containment.{Containment}
 
 -- a call that accepts has passed its rows
@@ -131,13 +133,11 @@ module _ {game : List ℕ} {player : ℕ} {plan : List ℕ} {vertex : ℕ} {mark
 
 -- ---- the calls that edit a table
 
-pub edits : {e : Edit} {buffer : List ℕ} {s t : ℕ} {marks spare classes : List ℕ} {answer : Answer} {buffer′ marks′ spare′ classes′ : List ℕ}
-    → EditCall e buffer s t marks spare classes answer buffer′ marks′ spare′ classes′
-    → Edits e buffer s t marks spare classes answer buffer′ marks′ spare′ classes′
-edits {e} {buffer} {s} {t} {marks} {spare} {classes} {answer} {buffer′} {marks′} {spare′} {classes′} call =
+edit-sentences : {e : Edit} {buffer : List ℕ} {s t : ℕ} {marks spare classes : List ℕ} {answer : Answer} {buffer′ marks′ spare′ classes′ : List ℕ}
+    → EditCall e buffer s t marks spare classes answer buffer′ marks′ spare′ classes′ → EditSentences answer buffer′ marks′ spare′ classes′
+edit-sentences {e} {buffer} {s} {t} {marks} {spare} {classes} {answer} {buffer′} {marks′} {spare′} {classes′} call =
     let clean = passed (callRows e buffer s t marks spare classes) _ (call .verdict) in
     let table : OnAcceptance answer (edited e (tableIn buffer) s t ≡ tableIn buffer′) = λ counts a. sym (call-table (rw a at call)) in record {
-      call = call;
       read = λ k n m a. call-read (rw a at call) refl;
       marks-order = λ counts a.
           subst (λ (g : List ℕ). OrderSentences g marks′) (table counts a) (order-sentences (record { buffer = call .marks-after }) (clean counts a));
@@ -145,6 +145,27 @@ edits {e} {buffer} {s} {t} {marks} {spare} {classes} {answer} {buffer′} {marks
           subst (λ (g : List ℕ). OrderSentences g spare′) (table counts a) (order-sentences (record { buffer = call .spare-after }) (clean counts a));
       classes-words = λ counts a.
           subst (λ (g : List ℕ). ClassSentence g classes′) (table counts a) (demands.class-word (record { words = call .classes-after }) (clean counts a));
+    }
+
+pub edits : {e : Edit} {buffer : List ℕ} {s t : ℕ} {marks spare classes : List ℕ} {answer : Answer} {buffer′ marks′ spare′ classes′ : List ℕ}
+    → EditCall e buffer s t marks spare classes answer buffer′ marks′ spare′ classes′
+    → Edits e buffer s t marks spare classes answer buffer′ marks′ spare′ classes′
+edits call = record { call = call; sentences = edit-sentences call }
+
+-- accepted, a preview is an edit of the copy
+pub previews : (game : List ℕ) {e : Edit} {s t : ℕ} {table marks spare classes : List ℕ} {answer : Answer} {table′ marks′ spare′ classes′ : List ℕ}
+    → PreviewCall e game s t table marks spare classes answer table′ marks′ spare′ classes′
+    → Previews e game s t table marks spare classes answer table′ marks′ spare′ classes′
+previews game {answer} {table′} {marks′} {spare′} {classes′} call =
+    let edit : OnAcceptance answer (EditSentences answer table′ marks′ spare′ classes′) = λ counts a. edit-sentences (preview-edit game call counts a) in
+    record {
+      call = call;
+      sentences = record {
+        read = λ k n m a. edit _ a .read k n m a;
+        marks-order = λ counts a. edit counts a .marks-order counts a;
+        spare-order = λ counts a. edit counts a .spare-order counts a;
+        classes-words = λ counts a. edit counts a .classes-words counts a;
+      };
     }
 
 pub contains : {game relation marks spare : List ℕ} {r : Containment} {marks′ spare′ : List ℕ}

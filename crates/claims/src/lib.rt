@@ -13,7 +13,7 @@ ghost use Rattle.reduction.specs.TableCall.{tabulationAnswer};
 ghost use Rattle.arrival.specs.PlanWords.{carryingAnswer};
 ghost use Rattle.carry.specs.CarryCall.{classCarryingAnswer};
 ghost use Rattle.edges.specs.declared.Edit.the-variants.{Arrival, Leaving};
-ghost use Rattle.claims.specs.Sentences.{Orders, Classifies, Tabulates, Contains, Carries, CarriesClass, Edits};
+ghost use Rattle.claims.specs.Sentences.{Orders, Classifies, Tabulates, Contains, Carries, CarriesClass, Edits, Previews};
 
 // The verdicts of the two calls.
 pub struct Containment {
@@ -146,4 +146,34 @@ pub fn removes(
     ensures { λ r. ⌜ Edits Leaving (now (buffer .entry)) source target (now (marks .entry)) (now (spare .entry)) (now (classes .entry)) (tabulationAnswer r) (now (buffer .exit)) (now (marks .exit)) (now (spare .exit)) (now (classes .exit)) ⌝ }
 {
     edit::remove_edge(buffer, source, target, marks, spare, classes)
+}
+
+// Previews an arrival.
+pub fn previews_add(
+    game: &[u16],
+    source: u32,
+    target: u32,
+    table: &mut [u16],
+    marks: &mut [u8],
+    spare: &mut [u8],
+    classes: &mut [u16],
+) -> Tabulation
+    ensures { λ r. ⌜ Previews Arrival (now (game .entry)) source target (now (table .entry)) (now (marks .entry)) (now (spare .entry)) (now (classes .entry)) (tabulationAnswer r) (now (table .exit)) (now (marks .exit)) (now (spare .exit)) (now (classes .exit)) ⌝ }
+{
+    edit::preview::preview_add(game, source, target, table, marks, spare, classes)
+}
+
+// Previews a leaving.
+pub fn previews_remove(
+    game: &[u16],
+    source: u32,
+    target: u32,
+    table: &mut [u16],
+    marks: &mut [u8],
+    spare: &mut [u8],
+    classes: &mut [u16],
+) -> Tabulation
+    ensures { λ r. ⌜ Previews Leaving (now (game .entry)) source target (now (table .entry)) (now (marks .entry)) (now (spare .entry)) (now (classes .entry)) (tabulationAnswer r) (now (table .exit)) (now (marks .exit)) (now (spare .exit)) (now (classes .exit)) ⌝ }
+{
+    edit::preview::preview_remove(game, source, target, table, marks, spare, classes)
 }
