@@ -100,20 +100,36 @@ extern "C" {
         spare: *mut u8, spare_len: usize,
         classes: *mut u16, classes_len: usize,
     ) -> RaskjomiAnswer;
+    fn raskjomi_preview_add(
+        game: *const u16, game_len: usize,
+        source: u32, target: u32,
+        table: *mut u16, table_len: usize,
+        marks: *mut u8, marks_len: usize,
+        spare: *mut u8, spare_len: usize,
+        classes: *mut u16, classes_len: usize,
+    ) -> RaskjomiAnswer;
+    fn raskjomi_preview_remove(
+        game: *const u16, game_len: usize,
+        source: u32, target: u32,
+        table: *mut u16, table_len: usize,
+        marks: *mut u8, marks_len: usize,
+        spare: *mut u8, spare_len: usize,
+        classes: *mut u16, classes_len: usize,
+    ) -> RaskjomiAnswer;
     fn raskjomi_kind(number: u32) -> u32;
 }
 
 /// Calls an export with the slices that it reads, then those lent to it: each goes as a pointer, then
 /// a length. Numbers go between two slices.
 macro_rules! call {
-    ($export:ident; shared $($shared:ident $(then $number:ident)?),*;
+    ($export:ident; shared $($shared:ident $(then $($number:ident)and+)?),*;
         lent $($lent:ident $(then $($after:ident)and+)?),*) => {
         // SAFETY: each pointer and length are those of one live slice, the lent slices are borrowed
         // for this call alone, and the exports are proved for slices of any length and content, and
         // for any number.
         unsafe {
             $export(
-                $($shared.as_ptr(), $shared.len(), $($number,)?)*
+                $($shared.as_ptr(), $shared.len(), $($($number,)+)?)*
                 $($lent.as_mut_ptr(), $lent.len(), $($($after,)+)?)*
             )
         }
@@ -247,6 +263,38 @@ pub fn remove_edge(
 ) -> RaskjomiAnswer {
     call!(
         raskjomi_remove_edge; shared; lent table then source and target, marks, spare, classes
+    )
+}
+
+/// An edge added to a copy of the table that begins a shared buffer.
+pub fn preview_add(
+    game: &[u16],
+    source: u32,
+    target: u32,
+    table: &mut [u16],
+    marks: &mut [u8],
+    spare: &mut [u8],
+    classes: &mut [u16],
+) -> RaskjomiAnswer {
+    call!(
+        raskjomi_preview_add; shared game then source and target;
+        lent table, marks, spare, classes
+    )
+}
+
+/// Every copy of an edge removed from a copy of the table that begins a shared buffer.
+pub fn preview_remove(
+    game: &[u16],
+    source: u32,
+    target: u32,
+    table: &mut [u16],
+    marks: &mut [u8],
+    spare: &mut [u8],
+    classes: &mut [u16],
+) -> RaskjomiAnswer {
+    call!(
+        raskjomi_preview_remove; shared game then source and target;
+        lent table, marks, spare, classes
     )
 }
 

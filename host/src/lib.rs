@@ -8,7 +8,7 @@
 //! several times; it counts as one, though m and all lengths count it each time. The library judges
 //! such tables, writes their direct simulation order, classes, quotient and reduced game, judges
 //! foreign relations and winning plans, carries a plan to another vertex, draws games by a seed,
-//! converts games where the highest priority decides, and adds and removes edges.
+//! converts games where the highest priority decides, adds and removes edges, and previews that.
 //! Every call works in memory that the caller lends, of any length and content. docs/CONTRACT.md in
 //! the repository has the definitions, each call's checks in order, every refusal, and what each buffer
 //! holds afterwards.
@@ -441,4 +441,59 @@ pub fn remove_edge(
     classes: &mut [u16],
 ) -> Result<Edited, Refusal> {
     verdict(exports::remove_edge(table, source, target, marks, spare, classes)).map(edited)
+}
+
+/// Previews [`add_edge`]: gives what it would give on a copy of the table that begins `game`, which may be
+/// longer, and changes nothing but a second set. The copy begins the second table, `table`, which needs
+/// two words more than the first; the words behind the new table stay as they are. Refused, the second
+/// set has its old content.
+///
+/// ```
+/// let game = [3, 3, 0, 1, 0, 0, 0, 1, 0, 1, 2, 1, 1, 1];
+/// let (mut table, mut marks, mut spare, mut classes) = ([9; 18], [0; 9], [0; 9], [0; 3]);
+/// let seen = raskjomi::preview_add(&game, 0, 2, &mut table, &mut marks, &mut spare, &mut classes)?;
+/// // Vertices 0 and 2 would no longer share a class.
+/// assert_eq!((seen.classes, seen.edges), (3, 4));
+/// assert_eq!(classes, [0, 1, 2]);
+/// assert_eq!(table, [3, 4, 0, 1, 0, 0, 0, 1, 0, 1, 2, 0, 1, 1, 1, 2, 9, 9]);
+/// // A second table that is too short for the first.
+/// let refusal =
+///     raskjomi::preview_add(&game, 0, 2, &mut table[..13], &mut marks, &mut spare, &mut classes);
+/// assert_eq!(refusal, Err(raskjomi::Refusal { number: 24, place: 14 }));
+/// # Ok::<(), raskjomi::Refusal>(())
+/// ```
+pub fn preview_add(
+    game: &[u16],
+    source: u32,
+    target: u32,
+    table: &mut [u16],
+    marks: &mut [u8],
+    spare: &mut [u8],
+    classes: &mut [u16],
+) -> Result<Edited, Refusal> {
+    verdict(exports::preview_add(game, source, target, table, marks, spare, classes)).map(edited)
+}
+
+/// Previews [`remove_edge`] as [`preview_add`] does [`add_edge`]. The second table needs as many words as
+/// the first; those that the copy gives up become 0.
+///
+/// ```
+/// let game = [3, 4, 0, 1, 0, 0, 0, 1, 0, 1, 2, 0, 1, 1, 1, 2];
+/// let (mut table, mut marks, mut spare, mut classes) = ([9; 17], [0; 9], [0; 9], [0; 3]);
+/// let seen =
+///     raskjomi::preview_remove(&game, 0, 2, &mut table, &mut marks, &mut spare, &mut classes)?;
+/// assert_eq!((seen.classes, seen.edges, seen.words()), (2, 3, 14));
+/// assert_eq!(table, [3, 3, 0, 1, 0, 0, 0, 1, 0, 1, 2, 1, 1, 1, 0, 0, 9]);
+/// # Ok::<(), raskjomi::Refusal>(())
+/// ```
+pub fn preview_remove(
+    game: &[u16],
+    source: u32,
+    target: u32,
+    table: &mut [u16],
+    marks: &mut [u8],
+    spare: &mut [u8],
+    classes: &mut [u16],
+) -> Result<Edited, Refusal> {
+    verdict(exports::preview_remove(game, source, target, table, marks, spare, classes)).map(edited)
 }

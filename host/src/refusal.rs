@@ -223,9 +223,9 @@ const MEMORY: [Explanation; 4] = [
     row("the spare is too short", "the length needed, n × n bytes", "lend at least n × n bytes"),
     row("the class words are too few", "the length needed, n words", "lend at least n words"),
     row(
-        "the output is too short",
+        "the output, or a preview's second table, is too short",
         "the length needed, 2 + 2n + 2m words of the input's sizes",
-        "lend an output as long as the input table, even if the result is shorter",
+        "lend an output or second table as long as the input table, even if the result is shorter",
     ),
 ];
 
@@ -281,6 +281,6 @@ const EDIT: [Explanation; 3] = [
     row(
         "the table has 4,096 edges, or the buffer has no two words behind it",
         "the number m of edges in the table",
-        "remove an edge first, or lend a buffer two words longer than the table",
+        "remove an edge first, or lend a buffer, or second table, two words longer than the table",
     ),
 ];

@@ -1,4 +1,5 @@
-//! The calls that edit a table. Each works on a fresh copy of it, whose making counts for both sides.
+//! The calls that edit a table, and those that preview that. An edit works on a fresh copy of the table,
+//! whose making counts for both sides; a preview makes its own.
 
 use crate::{baseline, Figures};
 use raskjomi::exports::{self, RaskjomiAnswer};
@@ -8,6 +9,12 @@ type Edit = fn(&mut [u16], u32, u32, &mut [u8], &mut [u8], &mut [u16]) -> Raskjo
 
 pub const ADD: [Edit; 2] = [exports::add_edge, baseline::add_edge];
 pub const REMOVE: [Edit; 2] = [exports::remove_edge, baseline::remove_edge];
+
+/// A call that previews an edit.
+type Preview = fn(&[u16], u32, u32, &mut [u16], &mut [u8], &mut [u8], &mut [u16]) -> RaskjomiAnswer;
+
+pub const PREVIEW_ADD: [Preview; 2] = [exports::preview_add, baseline::preview_add];
+pub const PREVIEW_REMOVE: [Preview; 2] = [exports::preview_remove, baseline::preview_remove];
 
 /// The memory that a side works in.
 #[derive(Clone, PartialEq, Eq)]
@@ -30,6 +37,11 @@ impl Memory {
         table[..game.len()].copy_from_slice(game);
         call(table, source, target, marks, spare, classes)
     }
+
+    fn preview(&mut self, call: Preview, game: &[u16], source: u32, target: u32) -> RaskjomiAnswer {
+        let Memory { table, marks, spare, classes } = self;
+        call(game, source, target, table, marks, spare, classes)
+    }
 }
 
 /// What the row of an edit shows.
@@ -37,5 +49,13 @@ pub fn figures(calls: &[Edit; 2], game: &[u16], source: u32, target: u32) -> Fig
     let call = |side: usize, memory: &mut Memory| memory.edit(calls[side], game, source, target);
     let (figures, answer) = crate::figures(Memory::for_game(game), call);
     assert_eq!(answer.number, 0, "the edit is accepted");
+    figures
+}
+
+/// What the row of a preview shows.
+pub fn preview_figures(calls: &[Preview; 2], game: &[u16], source: u32, target: u32) -> Figures {
+    let call = |side: usize, memory: &mut Memory| memory.preview(calls[side], game, source, target);
+    let (figures, answer) = crate::figures(Memory::for_game(game), call);
+    assert_eq!(answer.number, 0, "the preview is accepted");
     figures
 }

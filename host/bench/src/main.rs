@@ -186,6 +186,12 @@ fn show(Row { name, game, work }: &Row) -> (f64, Option<f64>) {
         Work::Convert => convert_figures(game),
         Work::AddEdge(source, target) => edits::figures(&edits::ADD, game, *source, *target),
         Work::RemoveEdge(source, target) => edits::figures(&edits::REMOVE, game, *source, *target),
+        Work::PreviewAdd(source, target) => {
+            edits::preview_figures(&edits::PREVIEW_ADD, game, *source, *target)
+        }
+        Work::PreviewRemove(source, target) => {
+            edits::preview_figures(&edits::PREVIEW_REMOVE, game, *source, *target)
+        }
     };
     let micros = |time: Duration| format!("{:.1}", time.as_secs_f64() * 1e6);
     let ratio_to = |time: Duration| library.as_secs_f64() / time.as_secs_f64();

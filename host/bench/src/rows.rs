@@ -25,6 +25,9 @@ pub enum Work {
     AddEdge(u32, u32),
     /// An edge removed from it.
     RemoveEdge(u32, u32),
+    /// The same two on a copy.
+    PreviewAdd(u32, u32),
+    PreviewRemove(u32, u32),
 }
 
 /// A row of the table.
@@ -60,20 +63,23 @@ fn carried(n: usize, round: usize) -> [Row; 2] {
     [row("carry", Work::Carry(plan.words())), row("carry_class", Work::CarryClass(loops.words()))]
 }
 
-/// An edge that arrives in a random game, and one that leaves it.
-fn edited(lcg: &mut Lcg, n: usize, m: usize) -> [Row; 2] {
+/// An edge that arrives in a random game, and one that leaves it; and the previews of both.
+fn edited(lcg: &mut Lcg, n: usize, m: usize) -> [Row; 4] {
     let game = random(lcg, n, m, 8);
     let absent = (0..n as u16).find(|&target| !game.edges.contains(&(0, target)));
-    let (source, target) = game.edges[m / 2];
+    let absent = absent.expect("a vertex without an edge from 0") as u32;
+    let (source, target) = (game.edges[m / 2].0 as u32, game.edges[m / 2].1 as u32);
     let row = |name: &str, work| Row { name: name.into(), game: game.words(), work };
     [
-        row("add_edge", Work::AddEdge(0, absent.expect("a vertex without an edge from 0") as u32)),
-        row("remove_edge", Work::RemoveEdge(source as u32, target as u32)),
+        row("add_edge", Work::AddEdge(0, absent)),
+        row("remove_edge", Work::RemoveEdge(source, target)),
+        row("preview_add", Work::PreviewAdd(0, absent)),
+        row("preview_remove", Work::PreviewRemove(source, target)),
     ]
 }
 
 /// All rows: random games, a chain, the largest plan, plans carried to the limits, the largest game by a
-/// seed, the largest game converted, edits of one below the limit, and rings of coprime lengths.
+/// seed, the largest game converted, edits of one below the limit and their previews, and rings of coprime lengths.
 pub fn rows() -> Vec<Row> {
     let mut lcg = Lcg::new(2024);
     let mut rows = Vec::new();

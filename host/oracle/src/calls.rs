@@ -28,7 +28,7 @@ pub struct Refusal {
 /// The memory that a host lends.
 #[derive(Clone, Debug, Default, PartialEq, Eq)]
 pub struct Memory {
-    /// The buffer that a table begins, for the calls that edit it.
+    /// The buffer that a table begins, for the calls that edit it; the second table, for previews.
     pub table: Vec<u16>,
     pub marks: Vec<u8>,
     pub spare: Vec<u8>,

@@ -15,7 +15,43 @@ pub enum Edit {
 impl Oracle {
     /// The call: the table that begins `memory.table` gets an edge, or loses every copy of one.
     pub fn edit(&self, edit: Edit, edge: (u32, u32), memory: &mut Memory) -> Answer {
-        let verdict = self.edited(edit, edge, memory).map(|(old, new)| {
+        self.edit_with_room(edit, edge, memory.table.len(), memory)
+    }
+
+    /// The preview: the edit, made on a copy of the table that begins `game` in `memory.table`, the
+    /// second table. After a refusal the memory is old.
+    pub fn preview(
+        &self,
+        edit: Edit,
+        edge: (u32, u32),
+        game: &[u16],
+        memory: &mut Memory,
+    ) -> Answer {
+        let mut copy = memory.clone();
+        let second = copy.table.len();
+        let of_both = self.falls_for(Trap::RoomOfTheFirst);
+        let room = if of_both { second.min(game.len()) } else { second };
+        let laid = self.lay(game, &mut copy);
+        let (kept, verdict) = (
+            laid.is_ok() && self.falls_for(Trap::CopiedBeforeEdge),
+            laid.map(|()| self.edit_with_room(edit, edge, room, &mut copy)),
+        );
+        let answer = self.answer(verdict);
+        if answer.number == 0 || kept {
+            *memory = copy;
+        }
+        answer
+    }
+
+    /// The edit, in a buffer that counts as so long.
+    fn edit_with_room(
+        &self,
+        edit: Edit,
+        edge: (u32, u32),
+        room: usize,
+        memory: &mut Memory,
+    ) -> Answer {
+        let verdict = self.edited(edit, edge, room, memory).map(|(old, new)| {
             let freed = if self.falls_for(Trap::FreedLeftOld) { 0 } else { old.words() };
             let mut words = new.table();
             words.resize(words.len().max(freed), 0);
@@ -28,21 +64,41 @@ impl Oracle {
         self.answer(verdict)
     }
 
+    /// The first table is laid over the start of the second, or a refusal: 1 to 8 of the first, then 21
+    /// to 24 of the second set.
+    fn lay(&self, game: &[u16], memory: &mut Memory) -> Result<(), Refusal> {
+        let first = self.beginning(game)?;
+        let needed = first.words();
+        let short = refuse_if(memory.table.len() < needed, 24, needed);
+        if self.falls_for(Trap::TableBeforeMemory) {
+            short?;
+        }
+        self.lengths(&first, memory, 3)?;
+        short?;
+        memory.table[..needed].copy_from_slice(&game[..needed]);
+        if self.falls_for(Trap::BeyondFromFirst) {
+            let end = game.len().min(memory.table.len());
+            memory.table[needed..end].copy_from_slice(&game[needed..end]);
+        }
+        Ok(())
+    }
+
     /// The game before and after the edit, or a refusal.
     fn edited(
         &self,
         edit: Edit,
         edge: (u32, u32),
+        room: usize,
         memory: &mut Memory,
     ) -> Result<(Game, Game), Refusal> {
         let game = self.beginning(&memory.table)?;
         self.lengths(&game, memory, 3)?;
         if self.falls_for(Trap::RoomBeforeEdge) && edit == Edit::Add {
-            self.room(&game, memory.table.len())?;
+            self.room(&game, room)?;
         }
         let (source, target) = self.ends(&game, edit, edge)?;
         match edit {
-            Edit::Add => self.room(&game, memory.table.len())?,
+            Edit::Add => self.room(&game, room)?,
             Edit::Remove => refuse_if(self.is_last(&game, source), 38, source)?,
         }
         let listed = self.listed_after(edit, (source, target), &game.listed);

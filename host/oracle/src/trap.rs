@@ -163,6 +163,15 @@ pub enum Trap {
     /// The room for an edge is judged before the edge.
     RoomBeforeEdge,
 
+    /// A preview's second table is checked before the marks, spare and class words.
+    TableBeforeMemory,
+    /// A preview's second table has the first one's words before the edge is judged.
+    CopiedBeforeEdge,
+    /// A previewed edge needs room behind the first table too.
+    RoomOfTheFirst,
+    /// A preview copies the words behind the first table too.
+    BeyondFromFirst,
+
     /// Numbers between two ranges have the kind of the range below.
     KindsWithoutGaps,
     /// The report drops a last half word.
@@ -175,7 +184,7 @@ pub enum Trap {
 
 impl Trap {
     /// Every trap, those of document 01 first.
-    pub const ALL: [Trap; 79] = [
+    pub const ALL: [Trap; 83] = [
         Trap::SomeMemberHasEdge,
         Trap::LittleBrothersByProse,
         Trap::MixedRowsExchanged,
@@ -251,6 +260,10 @@ impl Trap {
         Trap::BadEndAsPlace,
         Trap::LastEdgeByWords,
         Trap::RoomBeforeEdge,
+        Trap::TableBeforeMemory,
+        Trap::CopiedBeforeEdge,
+        Trap::RoomOfTheFirst,
+        Trap::BeyondFromFirst,
         Trap::KindsWithoutGaps,
         Trap::HalfWordDropped,
         Trap::ReportUnlimited,

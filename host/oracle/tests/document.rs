@@ -301,3 +301,28 @@ fn edits_of_game_b() {
     assert_eq!(memory.table, [b, &[0; 2]].concat());
     assert_eq!(Oracle::exact().edit(Edit::Remove, (0, 1), &mut memory), refused(38, 0));
 }
+
+/// The worked previews of docs/CONTRACT.md, by answer and words.
+#[test]
+fn previews_of_game_b() {
+    let b: &[u16] = &[3, 3, 0, 1, 0, 0, 0, 1, 0, 1, 2, 1, 1, 1];
+    let preview = |edit, edge, words: usize| {
+        let mut memory = Memory { table: vec![9; words], ..memory_for(b) };
+        let answer = Oracle::exact().preview(edit, edge, b, &mut memory);
+        (answer, memory)
+    };
+    let (answer, memory) = preview(Edit::Add, (0, 2), 17);
+    assert_eq!(answer, Answer { classes: 3, vertices: 3, edges: 4, ..Answer::default() });
+    assert_eq!(memory.table, [3, 4, 0, 1, 0, 0, 0, 1, 0, 1, 2, 0, 1, 1, 1, 2, 9]);
+    assert_eq!(memory.classes, [0, 1, 2]);
+    for (edit, edge, words, expected) in [
+        (Edit::Add, (0, 2), 15, refused(39, 3)),
+        (Edit::Add, (0, 2), 13, refused(24, 14)),
+        (Edit::Add, (0, 1), 17, refused(37, 0)),
+        (Edit::Remove, (0, 1), 17, refused(38, 0)),
+    ] {
+        let (answer, memory) = preview(edit, edge, words);
+        assert_eq!(answer, expected);
+        assert_eq!(memory, Memory { table: vec![9; words], ..memory_for(b) });
+    }
+}

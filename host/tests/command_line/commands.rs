@@ -248,6 +248,24 @@ fn edits_and_classes() {
 }
 
 #[test]
+fn previews_of_edits() {
+    let preview = |edits: &[&str]| run(&[&["edit", "games/d.txt", "--preview"], edits].concat());
+    let before = shipped("d.txt");
+    assert_eq!(preview(&["--remove=0:2"]).text(), "classes 5 before, 6 after\nwould part: 0 | 5\n");
+    let same = "classes 5 before, 5 after\nno vertices would part or merge\n";
+    assert_eq!(preview(&["--add=5:1"]).text(), same);
+    assert_eq!(preview(&["--remove=0:2", "--add=0:2"]).text(), same, "in sequence");
+    assert_eq!(shipped("d.txt"), before, "the game is as it was");
+    let game = b"3 4 / 0 1 0 / 0 0 1 / 0 1 2 0 / 1 1 1 2";
+    let merged = "classes 3 before, 2 after\nwould merge: 0 | 2\n";
+    assert_eq!(run_on(&["edit", "-", "--preview", "--remove", "0:2"], game).text(), merged);
+    // Of three that share a class one would part, and the two others stay together.
+    let game = b"5 5 / 0 0 0 1 0 / 0 0 0 0 0 / 0 1 2 3 4 / 3 3 3 3 4";
+    let parted = "classes 3 before, 4 after\nwould part: 0 and 2 | 1\n";
+    assert_eq!(run_on(&["edit", "-", "--preview", "--add=1:4"], game).text(), parted);
+}
+
+#[test]
 fn shipped_plans_win() {
     for (game, plan) in [("c.txt", "c.plan.txt"), ("lift-doors.txt", "lift-doors.plan.txt")] {
         let words = ["check-plan", &path(game), &path(plan), "--player", "even"];

@@ -77,6 +77,7 @@ fn edges_to_edit() {
     bad(&["edit", "games/b.txt", "--add"], &["--add needs an edge, as 0:2"]);
     bad(&["edit", "games/b.txt", "--add=0:1", "--as=dot"], &["edit: no form `dot`"]);
     bad(&["edit", "games/b.txt", "--classes", "--classes"], &["--classes is given twice"]);
+    bad(&["edit", "games/b.txt", "--preview"], &["no edit; write --add V:W or --remove V:W"]);
     for edge in ["0", "", "0:", ":1", "0:1:2", "a:b", "-1:0", "0:4294967296", "0 : 1"] {
         for option in ["--add", "--remove"] {
             let parts = [&*format!("edit: {option}: no edge `{edge}`"), "as --"];

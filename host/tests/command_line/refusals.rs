@@ -154,8 +154,10 @@ fn edits() {
     ];
     for (edits, verdict, place) in rows {
         let place = format!("games/b.txt: {place} (its vertices are 0 to 2): refused {verdict}: ");
-        let out = run(&[&["edit", "games/b.txt"], edits].concat()).fails(1, &[&place]);
-        assert_eq!(out, "", "nothing is written");
+        for form in [&[][..], &["--preview"], &["--classes"]] {
+            let out = run(&[&["edit", "games/b.txt"], edits, form].concat()).fails(1, &[&place]);
+            assert_eq!(out, "", "nothing is written");
+        }
     }
     let full = file("full.bin", &bytes(&generator::complete(64).words()));
     let full_parts = [": refused 37 at 0: ", "; name two vertices"];

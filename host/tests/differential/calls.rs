@@ -20,6 +20,8 @@ pub enum Call {
     CarryClass,
     AddEdge,
     RemoveEdge,
+    PreviewAdd,
+    PreviewRemove,
     Seed,
 }
 
@@ -41,10 +43,14 @@ impl Call {
     /// The calls that edit a table.
     pub const EDITING: [Call; 2] = [Call::AddEdge, Call::RemoveEdge];
 
+    /// The calls that preview an edit.
+    pub const PREVIEWING: [Call; 2] = [Call::PreviewAdd, Call::PreviewRemove];
+
     /// Every call with an answer.
     pub fn all() -> impl Iterator<Item = Call> {
         let others = [Call::AcceptPlan, Call::Seed];
-        Call::ON_MEMORY.into_iter().chain(Call::CARRYING).chain(Call::EDITING).chain(others)
+        let edits = Call::EDITING.into_iter().chain(Call::PREVIEWING);
+        Call::ON_MEMORY.into_iter().chain(Call::CARRYING).chain(edits).chain(others)
     }
 
     /// The refusals that docs/CONTRACT.md gives the call.
@@ -62,6 +68,8 @@ impl Call {
             Call::CarryClass => &[11..=16, 21..=24, 33..=35],
             Call::AddEdge => &[21..=23, 37..=37, 39..=39],
             Call::RemoveEdge => &[21..=23, 37..=38],
+            Call::PreviewAdd => &[21..=24, 37..=37, 39..=39],
+            Call::PreviewRemove => &[21..=24, 37..=38],
         };
         generator::REFUSALS.into_iter().chain(own.iter().cloned().flatten()).collect()
     }
@@ -77,7 +85,7 @@ pub struct Case {
     pub plan: Vec<u16>,
     /// Where the plan is carried to.
     pub vertex: u32,
-    /// The edge that comes or goes; its table is in the memory.
+    /// The edge that comes or goes; the table that is edited is in the memory.
     pub edge: (u32, u32),
     /// A seed, and the numbers of vertices, of edges out of each, and of priorities.
     pub seed: [u32; 4],
@@ -122,6 +130,11 @@ impl Case {
         Case { edge, ..Case::on_memory(call, &[], memory) }
     }
 
+    /// The preview of an edit of the table that begins `game`, in the memory's.
+    pub fn of_preview(call: Call, edge: (u32, u32), game: &[u16], memory: Memory) -> Case {
+        Case { edge, ..Case::on_memory(call, game, memory) }
+    }
+
     /// The drawing of a game into an output.
     pub fn of_seed(seed: [u32; 4], output: Vec<u16>) -> Case {
         let memory = Memory { output, ..Memory::default() };
@@ -146,6 +159,8 @@ impl Case {
             }
             Call::AddEdge => oracle.edit(Edit::Add, self.edge, &mut memory),
             Call::RemoveEdge => oracle.edit(Edit::Remove, self.edge, &mut memory),
+            Call::PreviewAdd => oracle.preview(Edit::Add, self.edge, game, &mut memory),
+            Call::PreviewRemove => oracle.preview(Edit::Remove, self.edge, game, &mut memory),
             Call::Seed => oracle.seed(self.seed, &mut memory),
         };
         Outcome { answer, memory }
@@ -177,6 +192,8 @@ impl Case {
             Call::CarryClass => exports::carry_class(game, player, plan, vertex, m, s, c, r, o),
             Call::AddEdge => exports::add_edge(t, from, to, m, s, c),
             Call::RemoveEdge => exports::remove_edge(t, from, to, m, s, c),
+            Call::PreviewAdd => exports::preview_add(game, from, to, t, m, s, c),
+            Call::PreviewRemove => exports::preview_remove(game, from, to, t, m, s, c),
             Call::Seed => exports::seed(seed, n, degree, priorities, o),
         };
         let memory = Memory {
@@ -247,6 +264,12 @@ impl Case {
             }
             Call::RemoveEdge => {
                 raskjomi::remove_edge(table, from, to, marks, spare, classes).map(of_edit)
+            }
+            Call::PreviewAdd => {
+                raskjomi::preview_add(game, from, to, table, marks, spare, classes).map(of_edit)
+            }
+            Call::PreviewRemove => {
+                raskjomi::preview_remove(game, from, to, table, marks, spare, classes).map(of_edit)
             }
             Call::Seed => {
                 let [seed, n, degree, priorities] = self.seed;

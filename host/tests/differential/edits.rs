@@ -7,7 +7,7 @@ use generator::{any_game, edge_to_edit, random, repeated, words_behind, Lcg, Tab
 use oracle::Memory;
 
 /// Memory of the exact lengths, and a buffer.
-fn memory(n: usize, table: Vec<u16>) -> Memory {
+pub fn memory(n: usize, table: Vec<u16>) -> Memory {
     let (marks, spare, classes) = (vec![9; n * n], vec![8; n * n], vec![7; n]);
     Memory { table, marks, spare, classes, ..Memory::default() }
 }
@@ -35,7 +35,7 @@ pub fn at_the_limit() -> [Case; 2] {
 }
 
 /// A pair of vertices that is no edge.
-fn absent_edge(table: &Table) -> (u16, u16) {
+pub fn absent_edge(table: &Table) -> (u16, u16) {
     let n = table.n() as u16;
     let mut pairs = (0..n).flat_map(|source| (0..n).map(move |target| (source, target)));
     pairs.find(|pair| !table.edges.contains(pair)).expect("some pair is no edge")

@@ -11,6 +11,7 @@ mod conversions;
 mod edits;
 mod families;
 mod limits;
+mod previews;
 mod repeats;
 mod samples;
 mod seeds;

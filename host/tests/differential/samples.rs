@@ -147,6 +147,20 @@ pub fn cases_of_edits(lcg: &mut Lcg, table: &Table) -> Vec<Case> {
     Call::EDITING.map(case).into()
 }
 
+/// An arrival and a leaving previewed, with a whole table or a damaged one at the start of the shared
+/// buffer, and a second table that is shorter, as long, or longer.
+pub fn cases_of_previews(lcg: &mut Lcg, table: &Table) -> Vec<Case> {
+    let case = |call| {
+        let edge = edge_to_edit(lcg, table, call == Call::PreviewRemove);
+        let words = if lcg.once_in(6) { damaged_table(lcg, table) } else { table.words() };
+        let game = [words, words_behind(lcg)].concat();
+        let more = if lcg.once_in(3) { 0 } else { 2 };
+        let second = old_words(lcg, table.words().len() + more);
+        Case::of_preview(call, edge, &game, Memory { table: second, ..memory(lcg, table) })
+    };
+    Call::PREVIEWING.map(case).into()
+}
+
 /// The drawing of a game of mostly at most `most` vertices into an output of several lengths.
 pub fn case_of_seed(lcg: &mut Lcg, most: usize) -> Case {
     let numbers = seed_numbers(lcg, most);
@@ -180,6 +194,7 @@ pub fn cases(lcg: &mut Lcg, most: usize) -> Vec<Case> {
         cases.push(case_of_crowd(lcg));
     }
     cases.extend(cases_of_edits(lcg, &table));
+    cases.extend(cases_of_previews(lcg, &table));
     cases.push(case_of_seed(lcg, most));
     cases.push(case_of_conversion(lcg, most));
     cases

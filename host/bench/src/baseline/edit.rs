@@ -30,6 +30,32 @@ pub fn remove_edge(
     edit(table, source, target, marks, spare, classes, false)
 }
 
+/// An edge added to a copy, as the library's call of this name.
+pub fn preview_add(
+    game: &[u16],
+    source: u32,
+    target: u32,
+    table: &mut [u16],
+    marks: &mut [u8],
+    spare: &mut [u8],
+    classes: &mut [u16],
+) -> RaskjomiAnswer {
+    preview(game, source, target, table, marks, spare, classes, true)
+}
+
+/// An edge removed from a copy, as the library's call of this name.
+pub fn preview_remove(
+    game: &[u16],
+    source: u32,
+    target: u32,
+    table: &mut [u16],
+    marks: &mut [u8],
+    spare: &mut [u8],
+    classes: &mut [u16],
+) -> RaskjomiAnswer {
+    preview(game, source, target, table, marks, spare, classes, false)
+}
+
 fn edit(
     table: &mut [u16],
     source: u32,
@@ -39,11 +65,7 @@ fn edit(
     classes: &mut [u16],
     add: bool,
 ) -> RaskjomiAnswer {
-    let needed = match table {
-        &mut [n, m, ..] => 2 + 2 * n as usize + 2 * m as usize,
-        _ => 0,
-    };
-    let (n, m) = match reader::read(&table[..needed.min(table.len())]) {
+    let (n, m) = match read_in(table) {
         Ok(sizes) => sizes,
         Err(refusal) => return refusal,
     };
@@ -52,10 +74,58 @@ fn edit(
         return refusal;
     }
     let edge = (source as usize, target as usize);
-    if let Err(refusal) = judge(table, n, m, edge, add) {
+    if let Err(refusal) = judge(table, table.len(), n, m, edge, add) {
         return refusal;
     }
-    let edge = (source as u16, target as u16);
+    make((table, n, m), (source as u16, target as u16), marks, spare, classes, add)
+}
+
+#[allow(clippy::too_many_arguments)]
+fn preview(
+    game: &[u16],
+    source: u32,
+    target: u32,
+    table: &mut [u16],
+    marks: &mut [u8],
+    spare: &mut [u8],
+    classes: &mut [u16],
+    add: bool,
+) -> RaskjomiAnswer {
+    let (n, m) = match read_in(game) {
+        Ok(sizes) => sizes,
+        Err(refusal) => return refusal,
+    };
+    let size = 2 + 2 * n + 2 * m;
+    let lent = [marks.len(), spare.len(), classes.len(), table.len()];
+    if let Err(refusal) = lengths(&lent, &[n * n, n * n, n, size]) {
+        return refusal;
+    }
+    let edge = (source as usize, target as usize);
+    if let Err(refusal) = judge(game, table.len(), n, m, edge, add) {
+        return refusal;
+    }
+    table[..size].copy_from_slice(&game[..size]);
+    make((table, n, m), (source as u16, target as u16), marks, spare, classes, add)
+}
+
+/// Reads the table that begins a buffer.
+fn read_in(buffer: &[u16]) -> Result<(usize, usize), RaskjomiAnswer> {
+    let needed = match buffer {
+        &[n, m, ..] => 2 + 2 * n as usize + 2 * m as usize,
+        _ => 0,
+    };
+    reader::read(&buffer[..needed.min(buffer.len())])
+}
+
+/// Makes an edit that was judged, and writes the order and the classes.
+fn make(
+    (table, n, m): (&mut [u16], usize, usize),
+    edge: (u16, u16),
+    marks: &mut [u8],
+    spare: &mut [u8],
+    classes: &mut [u16],
+    add: bool,
+) -> RaskjomiAnswer {
     let edges = if add { arrive(table, n, m, edge) } else { leave(table, n, m, edge) };
     let end = 2 + 2 * n + 2 * edges;
     let (mut starts, mut places) = ([0; 257], [0; 4096]);
@@ -66,9 +136,10 @@ fn edit(
     RaskjomiAnswer { classes, vertices, edges, ..RaskjomiAnswer::default() }
 }
 
-/// Refusals 37 to 39.
+/// Refusals 37 to 39, for an edit in a buffer of so many words.
 fn judge(
     table: &[u16],
+    room: usize,
     n: usize,
     m: usize,
     (source, target): (usize, usize),
@@ -85,7 +156,7 @@ fn judge(
     if !add && !some(&|to| to != target) {
         return Err(refused(38, source));
     }
-    if add && (m == 4096 || table.len() < 2 + 2 * n + 2 * m + 2) {
+    if add && (m == 4096 || room < 2 + 2 * n + 2 * m + 2) {
         return Err(refused(39, m));
     }
     Ok(())

@@ -10,7 +10,7 @@ use std::os::unix::process::ExitStatusExt;
 use std::process::{Command, ExitStatus, Stdio};
 use std::thread;
 
-const CALLS: [&str; 15] = [
+const CALLS: [&str; 17] = [
     "no call",
     "kind",
     "read",
@@ -26,6 +26,8 @@ const CALLS: [&str; 15] = [
     "convert",
     "add_edge",
     "remove_edge",
+    "preview_add",
+    "preview_remove",
 ];
 /// The sizes tried, in KiB: a page, the least that Rust gives a thread, and what it gives by default.
 const PAGE: usize = 4;
@@ -42,7 +44,9 @@ fn call(name: &str) -> impl FnOnce() -> u32 + Send + 'static {
     let (carry_game, carried, of_classes) = plans_to_carry();
     let mut written = vec![0; raskjomi::MOST_PLAN_WORDS];
     let (edited, absent) = game_to_edit();
+    let (source, target) = (edited.edges[0].0 as u32, edited.edges[0].1 as u32);
     let mut table = [edited.words(), vec![0; 2]].concat();
+    let edited = edited.words();
     move || {
         let (m, s, c, o) = (&mut marks, &mut spare, &mut classes, &mut output);
         let answer = match name.as_str() {
@@ -69,9 +73,10 @@ fn call(name: &str) -> impl FnOnce() -> u32 + Send + 'static {
             "seed" => exports::seed(1, 256, 16, 8, o),
             "convert" => exports::convert(&game, o),
             "add_edge" => exports::add_edge(&mut table, 0, absent, m, s, c),
-            "remove_edge" => {
-                let (source, target) = edited.edges[0];
-                exports::remove_edge(&mut table, source as u32, target as u32, m, s, c)
+            "remove_edge" => exports::remove_edge(&mut table, source, target, m, s, c),
+            "preview_add" => exports::preview_add(&edited, 0, absent, &mut table, m, s, c),
+            "preview_remove" => {
+                exports::preview_remove(&edited, source, target, &mut table, m, s, c)
             }
             _ => exports::reduce(&game, m, s, c, o),
         };

@@ -134,6 +134,21 @@ impl Game {
         Ok(Merged { classes, words })
     }
 
+    /// The same by previews: none writes the table that it reads, and each makes the one that the next
+    /// one reads.
+    pub fn previewed(&self, edits: &[Edit]) -> Result<Merged, (usize, Refusal)> {
+        let (mut marks, mut spare) = self.marks();
+        let (mut classes, mut words) = (vec![0; self.size.vertices], self.input.numbers.clone());
+        for (i, &Edit { add, source, target }) in edits.iter().enumerate() {
+            let preview = if add { raskjomi::preview_add } else { raskjomi::preview_remove };
+            let mut second = vec![0; words.len() + 2];
+            preview(&words, source, target, &mut second, &mut marks, &mut spare, &mut classes)
+                .map_err(|refusal| (i, refusal))?;
+            words = second;
+        }
+        Ok(Merged { classes, words })
+    }
+
     fn marks(&self) -> (Vec<u8>, Vec<u8>) {
         (vec![0; self.size.marks()], vec![0; self.size.marks()])
     }

@@ -215,10 +215,15 @@ pub fn edit(arguments: &Arguments) -> Written {
     let as_words = as_words(arguments, "edit", ", or hand the game on to raskjomi dot")?;
     let edits = edits(arguments)?;
     let game = Game::load(arguments.file(0))?;
-    let after = game.edited(&edits).map_err(|(i, refusal)| {
+    let preview = arguments.has("--preview");
+    let after = if preview { game.previewed(&edits) } else { game.edited(&edits) };
+    let after = after.map_err(|(i, refusal)| {
         let (option, edge) = &arguments.repeated()[i];
         edit_refused(refusal, &game, &format!("{option} {edge}"))
     })?;
+    if preview {
+        return Ok(text::preview(&game.classes()?, &after.classes).into());
+    }
     if arguments.has("--classes") {
         return Ok(text::changes(&game.classes()?, &after.classes).into());
     }

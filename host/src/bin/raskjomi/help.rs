@@ -167,7 +167,7 @@ pub const COMMANDS: [Command; 13] = [
     },
     Command {
         name: "edit",
-        usage: "edit GAME --add V:W --remove V:W .. [--classes] [--as text|words]",
+        usage: "edit GAME --add V:W --remove V:W .. [--preview] [--classes] [--as text|words]",
         summary: "the game after edges are added and removed, or what that does to its classes",
         details:
             "--add V:W adds the edge from V to W behind the others, --remove V:W removes every copy of \
@@ -175,12 +175,15 @@ pub const COMMANDS: [Command; 13] = [
                   edge out, and a table has at most 4,096 edges; where an edit is refused, nothing \
                   is written. The output is a game table, which every command reads; with --classes, \
                   it is the number of classes before and after, and each vertex that then shares its \
-                  class with others than before.",
+                  class with others than before. With --preview no game is written: the output is the \
+                  number of classes before and after, and a line for each class that would fall apart \
+                  or come from several, with the groups of vertices between bars.",
         example: "./raskjomi edit games/d.txt --add 5:3 --remove 5:2 --classes",
         files: 1..=1,
         options: &[
             Opt { name: "--add", value: Some("an edge, as 0:2") },
             Opt { name: "--remove", value: Some("an edge, as 0:2") },
+            Opt { name: "--preview", value: None },
             Opt { name: "--classes", value: None },
             Opt { name: "--as", value: Some("text or words") },
         ],

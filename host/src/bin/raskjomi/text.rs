@@ -99,6 +99,39 @@ pub fn changes(before: &[u16], after: &[u16]) -> String {
     text
 }
 
+/// The number of classes before and after, and the vertices that would part or merge: those of a class
+/// that falls apart, or of one that comes from several, in the groups that they have in the other.
+pub fn preview(before: &[u16], after: &[u16]) -> String {
+    let (old, new) = (members(before), members(after));
+    let mut text = format!("classes {} before, {} after\n", old.len(), new.len());
+    let lines = [("would part", &old, after), ("would merge", &new, before)];
+    for (name, classes, other) in lines {
+        for members in classes {
+            let groups = grouped(members, other);
+            if groups.len() > 1 {
+                let groups: Vec<String> = groups.iter().map(|group| listed(group)).collect();
+                writeln!(text, "{name}: {}", groups.join(" | ")).expect("a string takes all");
+            }
+        }
+    }
+    if text.lines().count() == 1 {
+        text += "no vertices would part or merge\n";
+    }
+    text
+}
+
+/// The vertices by their classes, each group where its first vertex stands.
+fn grouped(vertices: &[usize], classes: &[u16]) -> Vec<Vec<usize>> {
+    let mut groups: Vec<Vec<usize>> = Vec::new();
+    for &vertex in vertices {
+        match groups.iter_mut().find(|group| classes[group[0]] == classes[vertex]) {
+            Some(group) => group.push(vertex),
+            None => groups.push(vec![vertex]),
+        }
+    }
+    groups
+}
+
 /// Words as bytes, low byte first.
 pub fn bytes(words: &[u16]) -> Vec<u8> {
     words.iter().flat_map(|word| word.to_le_bytes()).collect()
