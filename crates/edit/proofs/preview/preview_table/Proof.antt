@@ -120,13 +120,13 @@ enum-known-judged c = search needs
 
 returns-3 : tie.Need-returns-3
 returns-3 c =
-    let j = c .before .before .before in
-    let t = else-at j .before in
+    let judge = c .before .before .before in
+    let t = else-at judge .before in
     let s = entry t in
     let a = s .args in
     call-judged _ (a .edit) _ _ _ _ _ _ _ (s .pre) (enough t) _
-    (ap acceptanceAnswer (sym (c .before .judged .given .1)) ∙ judged j
-    ∙ sym (table-long (a .game .now) (a .table .now) (s .pre) _ (long (else-at j))))
+    (ap acceptanceAnswer (sym (c .before .judged .given .1)) ∙ judged judge
+    ∙ sym (table-long (a .game .now) (a .table .now) (s .pre) _ (long (else-at judge))))
 
 enum-told-2 : tie.Need-enum-told-2
 enum-told-2 c = search needs
@@ -134,7 +134,7 @@ enum-told-2 c = search needs
 copy-requires : tie.Need-copy-requires
 copy-requires c κs =
     let e = else-at (c .before .before .before) in
-    (omega (arith, long e), room (entry (e .before)))
+    (omega (arith, long e), omega (arith, room (entry (e .before))))
 
 apply-edit-requires : tie.Need-apply-edit-requires
 apply-edit-requires c κs =
