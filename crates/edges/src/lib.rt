@@ -2,7 +2,7 @@
 // calls these.
 pub mod buffer;
 mod changes;
-mod listing;
+pub mod listing;
 
 use crate::listing::has_edge;
 use table::Acceptance;
