@@ -10,3 +10,6 @@ pub mod PreviewRules
 pub mod PreviewRulesLaws
 pub mod PreviewCallLaws
 pub mod PreviewEditLaws
+pub mod ReplayCall
+pub mod Replayed
+pub mod ReplayCallLaws

@@ -1,6 +1,8 @@
 // Edges that come and go: edits of a table that begins a buffer, with the order and the classes of the new table.
 pub mod preview;
 
+pub mod replay;
+
 use classes::Memory;
 use classes::fill_memory;
 use classes::judge_memory;
