@@ -5,3 +5,6 @@ pub mod TraceLaws
 pub mod PaddedLaws
 pub mod RunLaws
 pub mod RunningLaws
+pub mod TraceRules
+pub mod TraceRulesLaws
+pub mod ParityLaws

@@ -6,8 +6,8 @@ use Prim.Native.Nat.{ℕ, _+_, max}
 use lib.ListN.{length}
 use Rattle.theory.specs.Range.{anyBelow}
 use Rattle.table.specs.Table.{gameOf}
-use Rattle.table.specs.Verdict.{Row, refused, judge, Clean}
-use Rattle.table.specs.VerdictLaws.{not-both}
+use Rattle.table.specs.Verdict.{Row, Answer, accepted, refused, judge, Clean}
+use Rattle.table.specs.VerdictLaws.{judge-accepted, not-both}
 use Rattle.edges.specs.Edges.{misplaced}
 use Rattle.edges.specs.Making.{Formed, leads}
 use Rattle.edges.specs.SearchLaws.{there-edge}
@@ -68,3 +68,23 @@ pub run-ends : (size : ℕ) (g : List ℕ) (longest done : ℕ)
     → runFrom size [] g longest done ≡ record { table = g; longest = longest; done = done; stop = [] }
 unfolding runFrom
 run-ends size g longest done = refl
+
+-- the run as it goes: it ends, an entry is done, or an entry stops it
+pub data RunView (size : ℕ) : List (ℕ × ℕ) → List ℕ → ℕ → ℕ → Run → Type 0 where
+  ends : {g : List ℕ} {longest done : ℕ} → RunView size [] g longest done (record { table = g; longest = longest; done = done; stop = [] })
+  goes : {e : ℕ × ℕ} {es : List (ℕ × ℕ)} {g : List ℕ} {longest done : ℕ} {r : Run} → Clean (entryRows g size e)
+      → RunView size es (toggled g e) (max longest (length (toggled g e))) (done + 1) r → RunView size (e ∷ es) g longest done r
+  stops : {e : ℕ × ℕ} {es : List (ℕ × ℕ)} {g : List ℕ} {longest done k p : ℕ} → judge (entryRows g size e) [] ≡ refused k p
+      → RunView size (e ∷ es) g longest done (record { table = g; longest = longest; done = done; stop = entryRows g size e })
+
+pub run-view : (size : ℕ) (es : List (ℕ × ℕ)) (g : List ℕ) (longest done : ℕ) → RunView size es g longest done (runFrom size es g longest done)
+run-view size [] g longest done = rw (run-ends size g longest done) ends
+run-view size (e ∷ es) g longest done = go (judge (entryRows g size e) []) refl (run-view size es (toggled g e) (max longest (length (toggled g e))) (done + 1))
+  where
+    go : (a : Answer) → judge (entryRows g size e) [] ≡ a
+        → RunView size es (toggled g e) (max longest (length (toggled g e))) (done + 1) (runFrom size es (toggled g e) (max longest (length (toggled g e))) (done + 1))
+        → RunView size (e ∷ es) g longest done (runFrom size (e ∷ es) g longest done)
+    go (accepted counts) h view =
+        let c = judge-accepted (entryRows g size e) [] counts h .0 in
+        rw (run-next size e es g longest done c) (goes c view)
+    go (refused k p) h view = rw (run-stops size e es g longest done h) (stops h)
