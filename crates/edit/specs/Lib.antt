@@ -13,3 +13,6 @@ pub mod PreviewEditLaws
 pub mod ReplayCall
 pub mod Replayed
 pub mod ReplayCallLaws
+pub mod ReplayRules
+pub mod ReplayRulesLaws
+pub mod FinalTableLaws
