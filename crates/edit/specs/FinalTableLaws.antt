@@ -44,7 +44,7 @@ module _ {buffer trace marks spare classes : List ℕ} {answer : Answer} {entrie
     unfolding startRows
     start-well = clean-buffer buffer (clean-split (bufferRows buffer) _ begun-clean .0)
 
-    final-well : WellFormed final
+    pub final-well : WellFormed final
     final-well = run-well (length buffer) (entriesIn trace) (tableIn buffer) start-well
 
     final-words : buffer′ ≡ written (padded final longest) buffer

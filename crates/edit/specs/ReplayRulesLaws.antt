@@ -1,9 +1,10 @@
 -- Laws of the call that replays a trace: it refuses k at p exactly where a rule before the first entry says so, or where these are passed and the
 -- first refused entry is refused so; it accepts exactly otherwise. Refused before the first entry, it leaves all lent memory as it was.
-use mathlib.Core.Path.{_≡_, sym, ap, _∙_}
+use mathlib.Core.Path.{_≡_, refl, sym, _∙_}
 use mathlib.Core.Logic.{_⊎_, inl, inr, _↔_}
-use mathlib.Core.List.{List, _++_}
-use Prim.Native.Nat.{ℕ}
+use mathlib.Core.List.{List, [], _++_}
+use Prim.Native.Nat.{ℕ, _≤_}
+use native.Mathlib.Omega.{arith}
 use lib.ListN.{length}
 use Rattle.theory.specs.ListLaws.{length-tabulate}
 use Rattle.table.specs.Table.{vertexCount, tableIn}
@@ -13,12 +14,14 @@ use Rattle.table.specs.Rules.{FirstRule, NoRule, Rendered}
 use Rattle.table.specs.RulesLaws.{rendered-append, judge-refused, judge-refuses, clean-none, none-clean}
 use Rattle.table.specs.DecisionsLaws.{judge-split}
 use Rattle.order.specs.OrderCall.{orderBytes}
-use Rattle.classes.specs.ClassesCall.{classWords}
+use Rattle.classes.specs.ClassesCall.{memoryRows, classWords}
 use Rattle.classes.specs.ClassesRulesLaws.{memory-rows-render}
+use Rattle.edges.specs.Buffer.{bufferRows}
 use Rattle.edges.specs.BufferLaws.{buffer-render}
-use Rattle.trace.specs.Trace.{entryCount, entryAt, entriesIn}
+use Rattle.trace.specs.Trace.{entryLimit, entryCount, entryAt, entriesIn, traceRows}
+use Rattle.trace.specs.TraceLaws.{trace-few}
 use Rattle.trace.specs.Run.{padded}
-use Rattle.trace.specs.RunLaws.{passing-clean, passing-refused}
+use Rattle.trace.specs.RunLaws.{passing-clean, passing-refused, run-few}
 use Rattle.trace.specs.TraceRulesLaws.{trace-render, run-accepts, accepts-run, run-refuses, refuses-run}
 use Rattle.edit.specs.EditCall.{callCounts}
 use Rattle.edit.specs.ReplayCall.{startRows, replayed, ReplayCall}
@@ -80,6 +83,18 @@ module _ {buffer trace marks spare classes : List ℕ} {answer : Answer} {entrie
         call .spare-after ∙ after-refused rows (callCounts final) (orderBytes final) spare j,
         call .classes-after ∙ after-refused rows (callCounts final) (classWords final) classes j,
       )
+
+  -- no more entries are done than a trace may have
+  pub replay-few : entries ≤ entryLimit
+  unfolding startRows entriesIn
+  replay-few = go (judge rows []) refl
+    where
+      go : (a : Answer) → judge rows [] ≡ a → entries ≤ entryLimit
+      go (accepted counts) j =
+          let c = judge-accepted rows [] counts j .0 in
+          let t = clean-split (memoryRows (vertexCount buffer) (length marks) (length spare) (length classes)) (traceRows trace) (clean-split (bufferRows buffer) _ c .1) .1 in
+          omega (arith, entries-done c, run-few (length buffer) (entriesIn trace) (tableIn buffer), length-tabulate {A = ℕ × ℕ} (entryCount trace) (entryAt trace), trace-few trace t)
+      go (refused k p) j = omega (arith, call .done ∙ passing-refused (replayed buffer trace .done) 0 rows [] j)
 
   -- ---- accepted
 

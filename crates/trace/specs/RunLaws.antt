@@ -2,7 +2,8 @@
 use mathlib.Core.Path.{_≡_, refl, sym, ap, _∙_}
 use mathlib.Core.Bool.{Bool, true, false, not, cond, So}
 use mathlib.Core.List.{List, [], _∷_}
-use Prim.Native.Nat.{ℕ, _+_, max}
+use Prim.Native.Nat.{ℕ, _+_, _≤_, max}
+use native.Mathlib.Omega.{arith}
 use lib.ListN.{length}
 use Rattle.theory.specs.Range.{anyBelow}
 use Rattle.table.specs.Table.{gameOf}
@@ -13,7 +14,7 @@ use Rattle.edges.specs.Making.{Formed, leads}
 use Rattle.edges.specs.SearchLaws.{there-edge}
 use Rattle.edges.specs.declared.Edit.{Edit}
 use Rattle.edges.specs.declared.Edit.the-variants.{Arrival, Leaving}
-use Rattle.trace.specs.Run.{passing, toggle, toggled, entryRows, Run, runFrom}
+use Rattle.trace.specs.Run.{passing, toggle, toggled, entryRows, Run, runFrom, runOver}
 
 -- ---- rows that are passed, or one of which refuses
 
@@ -88,3 +89,12 @@ run-view size (e ∷ es) g longest done = go (judge (entryRows g size e) []) ref
         let c = judge-accepted (entryRows g size e) [] counts h .0 in
         rw (run-next size e es g longest done c) (goes c view)
     go (refused k p) h view = rw (run-stops size e es g longest done h) (stops h)
+
+-- no more entries are done than there are
+view-few : {size : ℕ} {es : List (ℕ × ℕ)} {g : List ℕ} {longest done : ℕ} {r : Run} → RunView size es g longest done r → r .done ≤ done + length es
+view-few ends = omega arith
+view-few (goes passed view) = omega (arith, view-few view)
+view-few (stops at) = omega arith
+
+pub run-few : (size : ℕ) (es : List (ℕ × ℕ)) (g : List ℕ) → runOver size es g .done ≤ length es
+run-few size es g = omega (arith, view-few (run-view size es g (length g) 0))
