@@ -7,6 +7,7 @@ use answer::of_classification;
 use answer::of_filling;
 use answer::of_ordering;
 use answer::of_reading;
+use answer::of_replaying;
 use answer::of_tabulation;
 ghost use mathlib.Core.Path.{_≡_};
 ghost use Rattle.theory.specs.Reduction.{quotient, reduced};
@@ -16,7 +17,7 @@ ghost use Rattle.relation.specs.RelationCall.{relationAnswer};
 ghost use Rattle.plan.specs.Acceptance.{planAnswer};
 ghost use Rattle.edges.specs.declared.Edit.the-variants.{Arrival, Leaving};
 ghost use Rattle.answer.specs.Fields.{readFields, acceptFields};
-ghost use Rattle.abi.specs.Exports.{OrderExport, ClassesExport, TableExport, SeedExport, ConvertExport, CarryExport, CarryClassExport, EditExport, PreviewExport};
+ghost use Rattle.abi.specs.Exports.{OrderExport, ClassesExport, TableExport, SeedExport, ConvertExport, CarryExport, CarryClassExport, EditExport, PreviewExport, ReplayExport};
 
 // The kind of a refusal number.
 #[no_mangle]
@@ -225,4 +226,18 @@ pub extern "C" fn raskjomi_preview_remove(
     ensures { λ r. ⌜ PreviewExport Leaving (now (game .entry)) source target (now (table .entry)) (now (marks .entry)) (now (spare .entry)) (now (classes .entry)) r (now (table .exit)) (now (marks .exit)) (now (spare .exit)) (now (classes .exit)) ⌝ }
 {
     of_tabulation(edit::preview::preview_remove(game, source, target, table, marks, spare, classes))
+}
+
+// A trace of edits replayed in the table that begins `table`; the entries done, and the classes and the order of the final table.
+#[no_mangle]
+pub extern "C" fn raskjomi_replay(
+    table: &mut [u16],
+    trace: &[u16],
+    marks: &mut [u8],
+    spare: &mut [u8],
+    classes: &mut [u16],
+) -> RaskjomiAnswer
+    ensures { λ r. ⌜ ReplayExport (now (table .entry)) (now (trace .entry)) (now (marks .entry)) (now (spare .entry)) (now (classes .entry)) r (now (table .exit)) (now (marks .exit)) (now (spare .exit)) (now (classes .exit)) ⌝ }
+{
+    of_replaying(edit::replay::replay(table, trace, marks, spare, classes))
 }

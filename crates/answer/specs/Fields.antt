@@ -8,6 +8,7 @@ use Rattle.table.specs.declared.Filling.{Filling}
 use Rattle.table.specs.declared.Reading.the-variants.{Accepted, Refused}
 use Rattle.classes.specs.declared.Classification.{Classification}
 use Rattle.reduction.specs.declared.Tabulation.{Tabulation}
+use Rattle.edit.specs.declared.replay.Replaying.{Replaying}
 use Rattle.arrival.specs.declared.Carrying.{Carrying}
 use Rattle.carry.specs.declared.ClassCarrying.{ClassCarrying}
 use Rattle.answer.specs.declared.RaskjomiAnswer.{RaskjomiAnswer}
@@ -24,6 +25,7 @@ counted passes classes vertices edges different positions links =
       different = different;
       positions = positions;
       links = links;
+      entries = 0;
       place = 0;
     }
 
@@ -39,6 +41,7 @@ turnedDown number place =
       different = 0;
       positions = 0;
       links = 0;
+      entries = 0;
       place = place;
     }
 
@@ -82,6 +85,26 @@ abbrev pub classCarryFields : Answer → RaskjomiAnswer
 classCarryFields (accepted counts) = counted 0 (getD counts 0 0) (getD counts 1 0) (getD counts 2 0) 0 (getD counts 3 0) (getD counts 4 0)
 classCarryFields (refused number place) = turnedDown number place
 
+-- the same answer with the entries done
+abbrev pub withEntries : ℕ → RaskjomiAnswer → RaskjomiAnswer
+withEntries entries answer =
+    record {
+      number = answer .number;
+      passes = answer .passes;
+      classes = answer .classes;
+      vertices = answer .vertices;
+      edges = answer .edges;
+      different = answer .different;
+      positions = answer .positions;
+      links = answer .links;
+      entries = entries;
+      place = answer .place;
+    }
+
+-- a trace that is replayed: the classes, the final table's vertices and edges, and the entries done, with a refusal too
+abbrev pub replayFields : Answer → ℕ → RaskjomiAnswer
+replayFields answer entries = withEntries entries (tableFields answer)
+
 -- a reading whose sizes fit the answer's fields
 abbrev pub SmallSizes : Reading → Type 0
 SmallSizes (Accepted sizes) = (sizes .vertices < 4294967296) × (sizes .edges < 4294967296) × (sizes .different < 4294967296)
@@ -110,3 +133,6 @@ abbrev pub SmallClassCarrying : ClassCarrying → Type 0
 SmallClassCarrying (ClassCarrying.Accepted found) =
     (found .classes < 4294967296) × (found .vertices < 4294967296) × (found .edges < 4294967296) × (found .positions < 4294967296) × (found .links < 4294967296)
 SmallClassCarrying (ClassCarrying.Refused refusal) = Unit
+
+abbrev pub SmallReplaying : Replaying → Type 0
+SmallReplaying replaying = SmallCounts (replaying .verdict) × (replaying .entries < 4294967296)

@@ -1,7 +1,7 @@
 -- What the library accepts is small, so its counts fit the answer's fields.
 use mathlib.Core.Path.{_≡_, refl, sym, ap}
 use mathlib.Core.List.{List, _∷_}
-use Prim.Native.Nat.{ℕ, _≤_}
+use Prim.Native.Nat.{ℕ, _≤_, _<_}
 use native.Mathlib.Omega.{arith}
 use lib.ListN.{getD, length}
 use borrow.Author.Tests.{ltb-false}
@@ -37,6 +37,9 @@ use Rattle.edit.specs.EditRulesLaws.{call-passed}
 use Rattle.edit.specs.NewTableLaws.{new-well}
 use Rattle.edit.specs.PreviewCall.{PreviewCall}
 use Rattle.edit.specs.PreviewEditLaws.{preview-edit}
+use Rattle.edit.specs.ReplayCall.{replayed, ReplayCall}
+use Rattle.edit.specs.ReplayRulesLaws.{replay-few, replay-accepted}
+use Rattle.edit.specs.FinalTableLaws.{final-well}
 use Rattle.seed.specs.SeedCall.{SeedCall}
 use Rattle.seed.specs.SeedRulesLaws.{seed-accepted}
 use Rattle.convert.specs.ConvertCall.{ConvertCall}
@@ -133,6 +136,25 @@ tabulation-small K size edges game marks spare classes output (Tabulation.Accept
       omega (arith, third-count (a .1), w .edges),
     )
 tabulation-small K size edges game marks spare classes output (Tabulation.Refused refusal) marks′ spare′ classes′ output′ call = tt
+
+-- ---- a replay's counts: its table is well formed, and a trace has few entries
+
+pub replaying-small : (buffer trace marks spare classes : List ℕ) (r : Tabulation) (entries : ℕ) (buffer′ marks′ spare′ classes′ : List ℕ)
+    → ReplayCall buffer trace marks spare classes (tabulationAnswer r) entries buffer′ marks′ spare′ classes′ → SmallCounts r × (entries < 4294967296)
+unfolding callCounts
+replaying-small buffer trace marks spare classes (Tabulation.Accepted counts) entries buffer′ marks′ spare′ classes′ call =
+    let p = replay-accepted call _ refl in
+    let w = final-well call (p .0) in
+    let c = p .2 in (
+      (
+        omega (arith, first-count c, total-le (replayed buffer trace .table), w .vertices),
+        omega (arith, second-count c, w .vertices),
+        omega (arith, third-count c, w .edges),
+      ),
+      omega (arith, replay-few call),
+    )
+replaying-small buffer trace marks spare classes (Tabulation.Refused refusal) entries buffer′ marks′ spare′ classes′ call =
+    (tt, omega (arith, replay-few call))
 
 -- ---- an edited table's counts: it is well formed
 

@@ -2,6 +2,7 @@
 use arrival::Carrying;
 use carry::ClassCarrying;
 use classes::Classification;
+use edit::replay::Replaying;
 use order::Ordering;
 use reduction::Tabulation;
 use table::Acceptance;
@@ -17,9 +18,10 @@ ghost use Rattle.classes.specs.ClassesCall.{classificationAnswer};
 ghost use Rattle.reduction.specs.TableCall.{tabulationAnswer};
 ghost use Rattle.arrival.specs.PlanWords.{carryingAnswer};
 ghost use Rattle.carry.specs.CarryCall.{classCarryingAnswer};
-ghost use Rattle.answer.specs.Fields.{counted, turnedDown, readFields, orderFields, acceptFields, classesFields, tableFields, fillFields, carryFields, classCarryFields, SmallSizes, SmallFilling, SmallCount, SmallCounts, SmallCarrying, SmallClassCarrying};
+ghost use Rattle.answer.specs.Fields.{counted, turnedDown, readFields, orderFields, acceptFields, classesFields, tableFields, fillFields, carryFields, classCarryFields, replayFields, SmallSizes, SmallFilling, SmallCount, SmallCounts, SmallCarrying, SmallClassCarrying, SmallReplaying};
 
-// Number 0 for accepted, with the counts of the call; otherwise the refusal. All other fields are 0.
+// Number 0 for accepted, with the counts of the call; otherwise the refusal. All other fields are 0, but that a replay tells its entries with a
+// refusal too.
 #[repr(C)]
 pub struct RaskjomiAnswer {
     pub number: u32,
@@ -30,6 +32,7 @@ pub struct RaskjomiAnswer {
     pub different: u32,
     pub positions: u32,
     pub links: u32,
+    pub entries: u32,
     pub place: usize,
 }
 
@@ -53,6 +56,7 @@ fn accepted(
         different,
         positions,
         links,
+        entries: 0,
         place: 0,
     }
 }
@@ -69,6 +73,7 @@ fn refused(refusal: Refusal) -> RaskjomiAnswer
         different: 0,
         positions: 0,
         links: 0,
+        entries: 0,
         place: refusal.place,
     }
 }
@@ -182,5 +187,25 @@ pub fn of_class_carrying(carrying: ClassCarrying) -> RaskjomiAnswer
             found.links as u32,
         ),
         ClassCarrying::Refused(refusal) => refused(refusal),
+    }
+}
+
+pub fn of_replaying(replaying: Replaying) -> RaskjomiAnswer
+    requires { ⌜ SmallReplaying replaying ⌝ }
+    ensures { λ r. ⌜ r ≡ replayFields (tabulationAnswer (replaying .verdict)) (replaying .entries) ⌝ }
+{
+    let verdict = replaying.verdict;
+    let answer = of_tabulation(verdict);
+    RaskjomiAnswer {
+        number: answer.number,
+        passes: answer.passes,
+        classes: answer.classes,
+        vertices: answer.vertices,
+        edges: answer.edges,
+        different: answer.different,
+        positions: answer.positions,
+        links: answer.links,
+        entries: replaying.entries as u32,
+        place: answer.place,
     }
 }

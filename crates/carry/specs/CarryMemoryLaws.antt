@@ -26,11 +26,11 @@ use Rattle.carry.specs.CarryRulesLaws.{carry-refused-output, carry-class
 
 -- ---- the numbers of rows
 
-abbrev Numbers : (ℕ → Type 0) → List Row → Type 0
+abbrev pub Numbers : (ℕ → Type 0) → List Row → Type 0
 Numbers Q [] = Unit
 Numbers Q (r ∷ rs) = Q (r .number) × Numbers Q rs
 
-numbers-append : (Q : ℕ → Type 0) (rs ss : List Row) → Numbers Q rs → Numbers Q ss → Numbers Q (rs ++ ss)
+pub numbers-append : (Q : ℕ → Type 0) (rs ss : List Row) → Numbers Q rs → Numbers Q ss → Numbers Q (rs ++ ss)
 numbers-append Q [] ss a b = b
 numbers-append Q (r ∷ rs) ss a b = (a .0, numbers-append Q rs ss (a .1) b)
 
@@ -45,9 +45,9 @@ judge-number Q (r ∷ rs) counts k p a e = go (r .condition) e (judge-number Q r
     go false e ih = ih e
 
 module _ (Q : ℕ → Type 0) where
-  game-numbers : ((k : ℕ) → k ≤ 8 → Q k) → (game : List ℕ) → Numbers Q (gameRows game)
+  pub game-numbers : ((k : ℕ) → k ≤ 8 → Q k) → (unfit : ℕ → ℕ → Bool) (game : List ℕ) → Numbers Q (gameRowsBy unfit game)
   unfolding gameRowsBy
-  game-numbers q game = (q 1 (omega arith), (q 2 (omega arith), (q 3 (omega arith), (q 4 (omega arith), (q 5 (omega arith), (q 6 (omega arith), (q 8 (omega arith), tt)))))))
+  game-numbers q unfit game = (q 1 (omega arith), (q 2 (omega arith), (q 3 (omega arith), (q 4 (omega arith), (q 5 (omega arith), (q 6 (omega arith), (q 8 (omega arith), tt)))))))
 
   plan-numbers : ((k : ℕ) → 11 ≤ k → k ≤ 16 → Q k) → (g : List ℕ) (player : ℕ) (plan : List ℕ) → Numbers Q (planRows g player plan)
   unfolding planRows
@@ -73,7 +73,7 @@ module _ (Q : ℕ → Type 0) (rs ss : List Row) (first : Numbers Q rs) (rest : 
       go (inl a) = a
       go (inr b) = absurd (judge-number (λ k. ¬ Q k) ss counts k p rest (b .1) q)
 
-  passed-first : ¬ Q k → Clean rs
+  pub passed-first : ¬ Q k → Clean rs
   passed-first n = go (judge-split rs ss counts k p e)
     where
       go : (judge rs counts ≡ refused k p) ⊎ (Clean rs × (judge ss counts ≡ refused k p)) → Clean rs
@@ -91,7 +91,7 @@ module _ {game : List ℕ} {player : ℕ} {plan : List ℕ} {vertex : ℕ} {mark
   unfolding judgedRows orderRows
   early =
       numbers-append (λ k. k ≤ 24) (orderRows game marks spare) _
-      (numbers-append (λ k. k ≤ 24) (gameRows game) _ (game-numbers (λ k. k ≤ 24) (λ k h. omega arith) game) (omega arith, (omega arith, tt)))
+      (numbers-append (λ k. k ≤ 24) (gameRows game) _ (game-numbers (λ k. k ≤ 24) (λ k h. omega arith) _ game) (omega arith, (omega arith, tt)))
       (plan-numbers (λ k. k ≤ 24) (λ k h l. omega arith) game player plan)
 
   late : (K : Rel) (x : ℕ) (C : Plan) → Numbers (λ k. ¬ (k ≤ 24)) (carriedRows (vertexCount game) K x vertex C output)
@@ -127,7 +127,7 @@ module _ {game : List ℕ} {player : ℕ} {plan : List ℕ} {vertex : ℕ} {mark
   unfolding tableRows classRows
   table-numbers =
       numbers-append OfTable (classRows game marks spare classes) _
-      (numbers-append OfTable (gameRows game) _ (game-numbers OfTable (λ k h. inl h) game) (inr (omega arith, omega arith), (inr (omega arith, omega arith), (inr (omega arith, omega arith), tt))))
+      (numbers-append OfTable (gameRows game) _ (game-numbers OfTable (λ k h. inl h) _ game) (inr (omega arith, omega arith), (inr (omega arith, omega arith), (inr (omega arith, omega arith), tt))))
       (inr (omega arith, omega arith), tt)
 
   not-table : (k : ℕ) → ((11 ≤ k) × (k ≤ 16)) ⊎ (33 ≤ k) → ¬ OfTable k
