@@ -21,6 +21,7 @@ use Rattle.carry.specs.WrittenPlanLaws.{writtenPlan, PlanFrom}
 use Rattle.edges.specs.declared.Edit.{Edit}
 use Rattle.edit.specs.EditCall.{EditCall}
 use Rattle.edit.specs.PreviewCall.{PreviewCall}
+use Rattle.edit.specs.ReplayCall.{ReplayCall}
 use Rattle.claims.specs.Written.{writtenTable}
 use Rattle.claims.specs.declared.Containment.{Containment}
 
@@ -125,6 +126,20 @@ pub record Previews (e : Edit) (game : List ℕ) (s t : ℕ) (table marks spare 
     (table′ marks′ spare′ classes′ : List ℕ) : Type 0 where
   pub call : PreviewCall e game s t table marks spare classes answer table′ marks′ spare′ classes′
   pub sentences : EditSentences answer table′ marks′ spare′ classes′
+
+-- 37 to 39: an entry was refused, after the order and the classes were written
+abbrev pub AfterEntry : ℕ → Type 0
+AfterEntry k = (37 ≤ k) × (k ≤ 39)
+
+-- the call that replays a trace: the sentences are about the table that begins the buffer after it, whether or not an entry was refused
+pub record Replays (buffer trace marks spare classes : List ℕ) (answer : Answer) (entries : ℕ)
+    (buffer′ marks′ spare′ classes′ : List ℕ) : Type 0 where
+  pub call : ReplayCall buffer trace marks spare classes answer entries buffer′ marks′ spare′ classes′
+  -- the reader accepts it, with the n and m of the verdict
+  pub read : (c v e : ℕ) → answer ≡ accepted (c ∷ v ∷ e ∷ []) → readAnswer (tableIn buffer′) ≡ accepted (v ∷ e ∷ edgeCount (gameOf (tableIn buffer′)) ∷ [])
+  pub marks-order : OnceWritten AfterEntry answer (OrderSentences (tableIn buffer′) marks′)
+  pub spare-order : OnceWritten AfterEntry answer (OrderSentences (tableIn buffer′) spare′)
+  pub classes-words : OnceWritten AfterEntry answer (ClassSentence (tableIn buffer′) classes′)
 
 -- the relation acceptor and then the order call, with the verdicts of both
 pub record Contains (game relation marks spare : List ℕ) (r : Containment) (marks′ spare′ : List ℕ) : Type 0 where

@@ -1,29 +1,42 @@
 -- The sentences follow from what the calls promise.
 use mathlib.Core.Path.{_≡_, refl, sym, _∙_, subst}
+use mathlib.Core.Logic.{_⊎_, inl, inr}
 use mathlib.Core.List.{List}
-use Prim.Native.Nat.{ℕ}
+use Prim.Native.Nat.{ℕ, _≤_}
+use native.Mathlib.Omega.{arith}
+use lib.Dec.{ltb}
+use lib.ListN.{length}
 use Rattle.theory.specs.Game.{Game}
 use Rattle.theory.specs.Reduction.{reduced}
 use Rattle.table.specs.Table.{tableIn}
 use Rattle.table.specs.Verdict.{Row, Answer, accepted, judge, Clean}
 use Rattle.table.specs.VerdictLaws.{judge-clean, judge-accepted, clean-split}
+use Rattle.table.specs.RulesLaws.{clean-none}
 use Rattle.table.specs.Acceptance.{acceptanceAnswer}
 use Rattle.order.specs.OrderCall.{orderRows, orderAnswer, orderingAnswer, OrderCall}
 use Rattle.relation.specs.RelationCall.{relationAnswer}
 use Rattle.classes.specs.ClassesCall.{classRows, classesAnswer, ClassesCall}
 use Rattle.reduction.specs.TableCall.{tableRows, tableCounts, TableCall}
 use Rattle.carry.specs.CarryCall.{judgedRows, carryRows, CarryCall, carryClassRows, CarryClassCall}
-use Rattle.carry.specs.CarryMemoryLaws.{carry-passed, carry-class-passed}
+use Rattle.carry.specs.CarryMemoryLaws.{Numbers, numbers-append, game-numbers, passed-first, carry-passed, carry-class-passed}
 use Rattle.carry.specs.WrittenPlanLaws.{carry-wins, carry-class-wins}
-use Rattle.edges.specs.Edges.{edited}
+use Rattle.edges.specs.Buffer.{bufferRows}
+use Rattle.edges.specs.Edges.{edited, changeRows, editRows}
 use Rattle.edges.specs.declared.Edit.{Edit}
-use Rattle.edit.specs.EditCall.{callRows, EditCall}
+use Rattle.edges.specs.declared.Edit.the-variants.{Arrival, Leaving}
+use Rattle.trace.specs.Trace.{entriesIn, traceRows}
+use Rattle.trace.specs.Run.{toggle, Run}
+use Rattle.trace.specs.RunLaws.{RunView, ends, goes, stops, run-view}
+use Rattle.edit.specs.EditCall.{callRows, callCounts, EditCall}
 use Rattle.edit.specs.NewTableLaws.{call-table, call-read}
 use Rattle.edit.specs.PreviewCall.{PreviewCall}
 use Rattle.edit.specs.PreviewEditLaws.{preview-edit}
+use Rattle.edit.specs.ReplayCall.{startRows, replayed, ReplayCall}
+use Rattle.edit.specs.ReplayRulesLaws.{start-render, replay-passed}
+use Rattle.edit.specs.FinalTableLaws.{replay-table, replay-read}
 use Rattle.claims.specs.Written.{LeavesOrder, Faithful}
 use Rattle.claims.specs.Demands as demands
-use Rattle.claims.specs.Sentences.{OnAcceptance, OrderSentences, ClassSentence, Orders, Classifies, Tabulates, Contains, OnceWritten, AfterOrder, AfterReduction, Carries, CarriesClass, EditSentences, Edits, Previews}
+use Rattle.claims.specs.Sentences.{OnAcceptance, OrderSentences, ClassSentence, Orders, Classifies, Tabulates, Contains, OnceWritten, AfterOrder, AfterReduction, Carries, CarriesClass, EditSentences, Edits, Previews, AfterEntry, Replays}
 use Rattle.claims.specs.declared.Containment.{Containment}
 
 -- a call that accepts has passed its rows
@@ -167,6 +180,62 @@ previews game {answer} {table′} {marks′} {spare′} {classes′} call =
         classes-words = λ counts a. edit counts a .classes-words counts a;
       };
     }
+
+-- ---- the call that replays a trace
+
+-- the numbers of the rows before the first entry; those of an entry are others
+abbrev Early : ℕ → Type 0
+Early k = (k ≤ 23) ⊎ (k ≡ 40)
+
+late : (k : ℕ) → 37 ≤ k → k ≤ 39 → ¬ Early k
+late k h l (inl e) = omega arith
+late k h l (inr e) = omega arith
+
+edit-late : (d : Edit) (g : List ℕ) (size s t : ℕ) → Numbers (λ k. ¬ Early k) (editRows d g size s t)
+unfolding editRows changeRows
+edit-late Arrival g size s t = (late 37 (omega arith) (omega arith), (late 39 (omega arith) (omega arith), tt))
+edit-late Leaving g size s t = (late 37 (omega arith) (omega arith), (late 38 (omega arith) (omega arith), tt))
+
+stop-late : {size : ℕ} {es : List (ℕ × ℕ)} {g : List ℕ} {longest done : ℕ} {r : Run} → RunView size es g longest done r → Numbers (λ k. ¬ Early k) (r .stop)
+stop-late ends = tt
+stop-late (goes passed view) = stop-late view
+stop-late {size} (stops {e = e} {g = g} at) = edit-late (toggle g e) g size (e .0) (e .1)
+
+module _ {buffer trace marks spare classes : List ℕ} {answer : Answer} {entries : ℕ} {buffer′ marks′ spare′ classes′ : List ℕ}
+    (call : ReplayCall buffer trace marks spare classes answer entries buffer′ marks′ spare′ classes′) where
+  abbrev begin : List Row
+  begin = startRows buffer trace marks spare classes
+
+  abbrev final : List ℕ
+  final = replayed buffer trace .table
+
+  early : Numbers Early begin
+  unfolding startRows traceRows
+  early =
+      numbers-append Early (bufferRows buffer) _ (game-numbers Early (λ k h. inl (omega arith)) ltb buffer)
+      (inl (omega arith), (inl (omega arith), (inl (omega arith), (inr refl, tt))))
+
+  entry-late : Numbers (λ k. ¬ Early k) (replayed buffer trace .stop)
+  entry-late = stop-late (run-view (length buffer) (entriesIn trace) (tableIn buffer) (length (tableIn buffer)) 0)
+
+  begun : OnceWritten AfterEntry answer (Clean begin)
+  begun = record {
+    accepts = λ counts a. replay-passed call counts a .0;
+    refuses = λ k p a h.
+        passed-first Early begin (replayed buffer trace .stop) early entry-late (callCounts final) k p (sym (call .verdict) ∙ a) (late k (h .0) (h .1));
+  }
+
+  table-is : Clean begin → final ≡ tableIn buffer′
+  table-is c = sym (replay-table call (clean-none (start-render buffer trace marks spare classes) c))
+
+  pub replays : Replays buffer trace marks spare classes answer entries buffer′ marks′ spare′ classes′
+  replays = record {
+    call = call;
+    read = λ k n m a. replay-read (rw a at call) refl;
+    marks-order = once-map begun (λ c. subst (λ (g : List ℕ). OrderSentences g marks′) (table-is c) (order-sentences (record { buffer = call .marks-after }) c));
+    spare-order = once-map begun (λ c. subst (λ (g : List ℕ). OrderSentences g spare′) (table-is c) (order-sentences (record { buffer = call .spare-after }) c));
+    classes-words = once-map begun (λ c. subst (λ (g : List ℕ). ClassSentence g classes′) (table-is c) (demands.class-word (record { words = call .classes-after }) c));
+  }
 
 pub contains : {game relation marks spare : List ℕ} {r : Containment} {marks′ spare′ : List ℕ}
     → acceptanceAnswer (r .relation) ≡ relationAnswer game relation

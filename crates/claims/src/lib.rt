@@ -3,6 +3,7 @@
 use arrival::Carrying;
 use carry::ClassCarrying;
 use classes::Classification;
+use edit::replay::Replaying;
 use order::Ordering;
 use reduction::Tabulation;
 use table::Acceptance;
@@ -13,7 +14,7 @@ ghost use Rattle.reduction.specs.TableCall.{tabulationAnswer};
 ghost use Rattle.arrival.specs.PlanWords.{carryingAnswer};
 ghost use Rattle.carry.specs.CarryCall.{classCarryingAnswer};
 ghost use Rattle.edges.specs.declared.Edit.the-variants.{Arrival, Leaving};
-ghost use Rattle.claims.specs.Sentences.{Orders, Classifies, Tabulates, Contains, Carries, CarriesClass, Edits, Previews};
+ghost use Rattle.claims.specs.Sentences.{Orders, Classifies, Tabulates, Contains, Carries, CarriesClass, Edits, Previews, Replays};
 
 // The verdicts of the two calls.
 pub struct Containment {
@@ -176,4 +177,17 @@ pub fn previews_remove(
     ensures { λ r. ⌜ Previews Leaving (now (game .entry)) source target (now (table .entry)) (now (marks .entry)) (now (spare .entry)) (now (classes .entry)) (tabulationAnswer r) (now (table .exit)) (now (marks .exit)) (now (spare .exit)) (now (classes .exit)) ⌝ }
 {
     edit::preview::preview_remove(game, source, target, table, marks, spare, classes)
+}
+
+// Replays a trace.
+pub fn replays(
+    buffer: &mut [u16],
+    trace: &[u16],
+    marks: &mut [u8],
+    spare: &mut [u8],
+    classes: &mut [u16],
+) -> Replaying
+    ensures { λ r. ⌜ Replays (now (buffer .entry)) (now (trace .entry)) (now (marks .entry)) (now (spare .entry)) (now (classes .entry)) (tabulationAnswer (r .verdict)) (r .entries) (now (buffer .exit)) (now (marks .exit)) (now (spare .exit)) (now (classes .exit)) ⌝ }
+{
+    edit::replay::replay(buffer, trace, marks, spare, classes)
 }
