@@ -6,7 +6,8 @@
 #![allow(unsafe_code)]
 
 /// An export's answer. Number 0 is "accepted", with the counts that belong to the call; any other
-/// number is a refusal with its place. All other fields are 0.
+/// number is a refusal with its place. All other fields are 0, but that [`replay`] tells its entries with
+/// a refusal too.
 #[repr(C)]
 #[derive(Clone, Copy, Debug, Default, PartialEq, Eq)]
 pub struct RaskjomiAnswer {
@@ -18,6 +19,7 @@ pub struct RaskjomiAnswer {
     pub different: u32,
     pub positions: u32,
     pub links: u32,
+    pub entries: u32,
     pub place: usize,
 }
 
@@ -112,6 +114,13 @@ extern "C" {
         game: *const u16, game_len: usize,
         source: u32, target: u32,
         table: *mut u16, table_len: usize,
+        marks: *mut u8, marks_len: usize,
+        spare: *mut u8, spare_len: usize,
+        classes: *mut u16, classes_len: usize,
+    ) -> RaskjomiAnswer;
+    fn raskjomi_replay(
+        table: *mut u16, table_len: usize,
+        trace: *const u16, trace_len: usize,
         marks: *mut u8, marks_len: usize,
         spare: *mut u8, spare_len: usize,
         classes: *mut u16, classes_len: usize,
@@ -296,6 +305,18 @@ pub fn preview_remove(
         raskjomi_preview_remove; shared game then source and target;
         lent table, marks, spare, classes
     )
+}
+
+/// A trace of edits replayed in the table that begins a buffer.
+pub fn replay(
+    table: &mut [u16],
+    trace: &[u16],
+    marks: &mut [u8],
+    spare: &mut [u8],
+    classes: &mut [u16],
+) -> RaskjomiAnswer {
+    let (words, count) = (trace.as_ptr(), trace.len());
+    call!(raskjomi_replay; shared; lent table then words and count, marks, spare, classes)
 }
 
 /// The kind of a refusal number.

@@ -8,7 +8,8 @@
 //! several times; it counts as one, though m and all lengths count it each time. The library judges
 //! such tables, writes their direct simulation order, classes, quotient and reduced game, judges
 //! foreign relations and winning plans, carries a plan to another vertex, draws games by a seed,
-//! converts games where the highest priority decides, adds and removes edges, and previews that.
+//! converts games where the highest priority decides, adds and removes edges, previews that, and replays
+//! traces of such edits.
 //! Every call works in memory that the caller lends, of any length and content. docs/CONTRACT.md in
 //! the repository has the definitions, each call's checks in order, every refusal, and what each buffer
 //! holds afterwards.
@@ -99,6 +100,16 @@ impl Edited {
     pub fn words(&self) -> usize {
         2 + 2 * self.vertices + 2 * self.edges
     }
+}
+
+/// What a replay answers: the sizes of the final table and the number of its classes, or the first
+/// refusal; and how many entries were done, in either case.
+#[derive(Clone, Copy, Debug, PartialEq, Eq)]
+pub struct Replay {
+    /// Whether every entry was accepted.
+    pub verdict: Result<Edited, Refusal>,
+    /// The number of entries done; 0 where the replay didn't begin.
+    pub entries: usize,
 }
 
 /// The answer if it accepts, else its refusal.
@@ -496,4 +507,39 @@ pub fn preview_remove(
     classes: &mut [u16],
 ) -> Result<Edited, Refusal> {
     verdict(exports::preview_remove(game, source, target, table, marks, spare, classes)).map(edited)
+}
+
+/// Replays a trace in the table that begins `table`, which may be longer: the trace has its count (at most
+/// 4,096), then as many sources, then as many targets. An entry's edge arrives as [`add_edge`] has it if
+/// it is absent, and leaves as [`remove_edge`] has it if it is present. Writes the order and the classes of
+/// the final table as [`classes()`] does. The first entry that is refused ends the replay, and memory is then
+/// as after the entries before it. Words from the end of the final table to the end of the longest table
+/// reached are 0.
+///
+/// ```
+/// // Priorities 0, 1, 0, and an edge from each vertex to 1; two words are kept free.
+/// let mut table = [3, 3, 0, 1, 0, 0, 0, 1, 0, 1, 2, 1, 1, 1, 9, 9];
+/// let (mut marks, mut spare, mut classes) = ([0; 9], [0; 9], [0; 3]);
+/// // The edge from 0 to 2 comes, the one from 0 to 1 goes.
+/// let trace = [2, 0, 0, 2, 1];
+/// let replay = raskjomi::replay(&mut table, &trace, &mut marks, &mut spare, &mut classes);
+/// let edited = raskjomi::Edited { classes: 3, vertices: 3, edges: 3 };
+/// assert_eq!(replay, raskjomi::Replay { verdict: Ok(edited), entries: 2 });
+/// assert_eq!(table, [3, 3, 0, 1, 0, 0, 0, 1, 1, 2, 0, 1, 1, 2, 0, 0]);
+/// // Vertex 0 keeps its last edge: the first entry is done, and the second is refused.
+/// let trace = [2, 1, 0, 2, 2];
+/// let replay = raskjomi::replay(&mut table, &trace, &mut marks, &mut spare, &mut classes);
+/// let refusal = raskjomi::Refusal { number: 38, place: 0 };
+/// assert_eq!(replay, raskjomi::Replay { verdict: Err(refusal), entries: 1 });
+/// assert_eq!(table, [3, 4, 0, 1, 0, 0, 0, 1, 1, 2, 0, 1, 1, 1, 2, 2]);
+/// ```
+pub fn replay(
+    table: &mut [u16],
+    trace: &[u16],
+    marks: &mut [u8],
+    spare: &mut [u8],
+    classes: &mut [u16],
+) -> Replay {
+    let answer = exports::replay(table, trace, marks, spare, classes);
+    Replay { verdict: verdict(answer).map(edited), entries: answer.entries as usize }
 }

@@ -129,6 +129,7 @@ pub fn explain(number: u32) -> Option<Explanation> {
         33..=35 => &CARRY[number as usize - 33],
         36 => &OVERSIZE,
         37..=39 => &EDIT[number as usize - 37],
+        40 => &TRACE,
         _ => return None,
     };
     Some(*row)
@@ -284,3 +285,9 @@ const EDIT: [Explanation; 3] = [
         "remove an edge first, or lend a buffer, or second table, two words longer than the table",
     ),
 ];
+
+const TRACE: Explanation = row(
+    "the trace has no words, or more than 4,096 entries, or a length that isn't 1 + 2 times its count",
+    "0",
+    "begin the trace with its count, at most 4,096; then write as many sources, then as many targets",
+);

@@ -92,7 +92,7 @@ fn functions_are_those_of_the_exports() {
     let block = between(&declarations, "extern \"C\" {", "}");
     let declared = functions(block, "fn ");
     assert_eq!(declared, exports_in_rattle());
-    assert_eq!(declared.len(), 16);
+    assert_eq!(declared.len(), 17);
 }
 
 #[test]
@@ -103,5 +103,5 @@ fn answer_has_the_fields_of_the_exports() {
     let declarations = declarations_in_rust();
     let fields = parts(between(&declarations, head, "}"));
     assert_eq!(fields, parts(between(&source, head, "}")));
-    assert_eq!(fields.len(), 9);
+    assert_eq!(fields.len(), 10);
 }

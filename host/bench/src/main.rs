@@ -192,6 +192,7 @@ fn show(Row { name, game, work }: &Row) -> (f64, Option<f64>) {
         Work::PreviewRemove(source, target) => {
             edits::preview_figures(&edits::PREVIEW_REMOVE, game, *source, *target)
         }
+        Work::Replay(trace) => edits::replay_figures(game, trace),
     };
     let micros = |time: Duration| format!("{:.1}", time.as_secs_f64() * 1e6);
     let ratio_to = |time: Duration| library.as_secs_f64() / time.as_secs_f64();

@@ -1,7 +1,8 @@
 //! The benchmark's games.
 
 use generator::{
-    chain, largest_plan, random, rings, round_complete, round_of_loops, watched_rings, Lcg,
+    chain, largest_plan, random, rings, round_complete, round_of_loops, trace_words, watched_rings,
+    Lcg,
 };
 
 /// How the names of the rows begin that are compared with plain passes at the end.
@@ -28,6 +29,8 @@ pub enum Work {
     /// The same two on a copy.
     PreviewAdd(u32, u32),
     PreviewRemove(u32, u32),
+    /// A trace replayed in it.
+    Replay(Vec<u16>),
 }
 
 /// A row of the table.
@@ -78,8 +81,23 @@ fn edited(lcg: &mut Lcg, n: usize, m: usize) -> [Row; 4] {
     ]
 }
 
+/// As many entries as there may be, on a table of as many edges: an edge goes and comes back, and so the next.
+fn replayed(lcg: &mut Lcg) -> Row {
+    let game = random(lcg, 256, 4096, 8);
+    let stays = |edge: &&(u16, u16)| {
+        let others = game.edges.iter().filter(|other| other.0 == edge.0);
+        others.filter(|other| other.1 != edge.1).count() > 0
+    };
+    let once = |edge: &&(u16, u16)| game.edges.iter().filter(|other| other == edge).count() == 1;
+    let edges: Vec<(u16, u16)> = game.edges.iter().filter(stays).filter(once).copied().collect();
+    let entries: Vec<(u16, u16)> = (0..4096).map(|i| edges[i / 2 % edges.len()]).collect();
+    let work = Work::Replay(trace_words(&entries));
+    Row { name: "replay, 4,096 entries".into(), game: game.words(), work }
+}
+
 /// All rows: random games, a chain, the largest plan, plans carried to the limits, the largest game by a
-/// seed, the largest game converted, edits of one below the limit and their previews, and rings of coprime lengths.
+/// seed, the largest game converted, edits of one below the limit and their previews, a trace replayed at the
+/// limits, and rings of coprime lengths.
 pub fn rows() -> Vec<Row> {
     let mut lcg = Lcg::new(2024);
     let mut rows = Vec::new();
@@ -98,6 +116,7 @@ pub fn rows() -> Vec<Row> {
     let game = random(&mut lcg, 256, 4096, 8).words();
     rows.push(Row { name: "convert".into(), game, work: Work::Convert });
     rows.extend(edited(&mut lcg, 256, 4095));
+    rows.push(replayed(&mut Lcg::new(9)));
     rows.push(Row::reduce("two rings", rings(&[127, 128])));
     rows.push(Row::reduce("four rings", rings(&[59, 61, 62, 63])));
     for (player, owner) in [(0, "Even"), (1, "Odd")] {

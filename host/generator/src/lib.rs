@@ -17,7 +17,7 @@ mod table;
 
 pub use carries::{branching, crowded, opponents, round_complete, round_of_loops, round_plan};
 pub use damage::{damaged, damaged_often, REFUSALS};
-pub use edits::{edge_to_edit, words_behind};
+pub use edits::{damaged_trace, edge_to_edit, trace, trace_words, words_behind};
 pub use families::{chain, complete, copies, fans, forced_ring, random, rings, watched_rings};
 pub use lcg::Lcg;
 pub use plans::{largest_plan, strategy_plan, unfolded, Plan};

@@ -15,6 +15,7 @@ pub struct Answer {
     pub different: u32,
     pub positions: u32,
     pub links: u32,
+    pub entries: u32,
     pub place: usize,
 }
 

@@ -107,7 +107,7 @@ impl Oracle {
     }
 
     /// The game of the table that begins a buffer: refusals 1 to 8, where 4 means "shorter".
-    fn beginning(&self, buffer: &[u16]) -> Result<Game, Refusal> {
+    pub(crate) fn beginning(&self, buffer: &[u16]) -> Result<Game, Refusal> {
         let needed = match buffer {
             &[n, m, ..] => 2 + 2 * n as usize + 2 * m as usize,
             _ => 0,
@@ -134,7 +134,7 @@ impl Oracle {
     }
 
     /// Whether the vertex has one different edge.
-    fn is_last(&self, game: &Game, source: usize) -> bool {
+    pub(crate) fn is_last(&self, game: &Game, source: usize) -> bool {
         if self.falls_for(Trap::LastEdgeByWords) {
             return game.listed.iter().filter(|edge| edge.0 == source).count() == 1;
         }
@@ -142,12 +142,12 @@ impl Oracle {
     }
 
     /// Refusal 39.
-    fn room(&self, game: &Game, buffer: usize) -> Result<(), Refusal> {
+    pub(crate) fn room(&self, game: &Game, buffer: usize) -> Result<(), Refusal> {
         refuse_if(game.m() == MOST_EDGES || buffer < game.words() + 2, 39, game.m())
     }
 
     /// The edges after the edit, in sequence.
-    fn listed_after(
+    pub(crate) fn listed_after(
         &self,
         edit: Edit,
         edge: (usize, usize),

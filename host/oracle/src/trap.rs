@@ -172,6 +172,27 @@ pub enum Trap {
     /// A preview copies the words behind the first table too.
     BeyondFromFirst,
 
+    /// The refused entry counts as done.
+    RefusedEntryCounted,
+    /// The entries are told with acceptance alone.
+    EntriesOnAcceptance,
+    /// A refused entry takes those before it back.
+    RefusedEntryUndoesAll,
+    /// The order and the classes stay those of the start table.
+    OrderOfTheStart,
+    /// A doubled edge leaves copy by copy.
+    ToggledByCopy,
+    /// Zeros go to the end of the start table alone.
+    ZerosToTheStart,
+    /// A trace is judged before the lengths of the memory.
+    TraceBeforeLengths,
+    /// The order and the classes of the start table are written before the trace is judged.
+    ClassesBeforeTrace,
+    /// Words behind the entries of a trace are passed over.
+    LongTraceAccepted,
+    /// The target of an entry stands behind its source.
+    EntriesInPairs,
+
     /// Numbers between two ranges have the kind of the range below.
     KindsWithoutGaps,
     /// The report drops a last half word.
@@ -184,7 +205,7 @@ pub enum Trap {
 
 impl Trap {
     /// Every trap, those of document 01 first.
-    pub const ALL: [Trap; 83] = [
+    pub const ALL: [Trap; 93] = [
         Trap::SomeMemberHasEdge,
         Trap::LittleBrothersByProse,
         Trap::MixedRowsExchanged,
@@ -264,6 +285,16 @@ impl Trap {
         Trap::CopiedBeforeEdge,
         Trap::RoomOfTheFirst,
         Trap::BeyondFromFirst,
+        Trap::RefusedEntryCounted,
+        Trap::EntriesOnAcceptance,
+        Trap::RefusedEntryUndoesAll,
+        Trap::OrderOfTheStart,
+        Trap::ToggledByCopy,
+        Trap::ZerosToTheStart,
+        Trap::TraceBeforeLengths,
+        Trap::ClassesBeforeTrace,
+        Trap::LongTraceAccepted,
+        Trap::EntriesInPairs,
         Trap::KindsWithoutGaps,
         Trap::HalfWordDropped,
         Trap::ReportUnlimited,

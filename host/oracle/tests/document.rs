@@ -326,3 +326,21 @@ fn previews_of_game_b() {
         assert_eq!(memory, Memory { table: vec![9; words], ..memory_for(b) });
     }
 }
+
+/// The worked replays of docs/CONTRACT.md, by answer and words.
+#[test]
+fn replays_on_game_b() {
+    let b: &[u16] = &[3, 3, 0, 1, 0, 0, 0, 1, 0, 1, 2, 1, 1, 1];
+    let mut memory = Memory { table: [b, &[9; 3]].concat(), ..memory_for(b) };
+    // 0 to 2 comes, and 0 to 1 goes.
+    let edited = Answer { classes: 3, vertices: 3, edges: 3, entries: 2, ..Answer::default() };
+    assert_eq!(Oracle::exact().replay(&[2, 0, 0, 2, 1], &mut memory), edited);
+    assert_eq!(memory.table, [3, 3, 0, 1, 0, 0, 0, 1, 1, 2, 0, 1, 1, 2, 0, 0, 9]);
+    // 1 to 2 comes, and 0 keeps its last edge.
+    let stopped = Answer { entries: 1, ..refused(38, 0) };
+    assert_eq!(Oracle::exact().replay(&[2, 1, 0, 2, 2], &mut memory), stopped);
+    assert_eq!(memory.table, [3, 4, 0, 1, 0, 0, 0, 1, 1, 2, 0, 1, 1, 1, 2, 2, 9]);
+    for trace in [&[][..], &[1], &[1, 0], &[0, 0], &[4097]] {
+        assert_eq!(Oracle::exact().replay(trace, &mut memory), refused(40, 0));
+    }
+}

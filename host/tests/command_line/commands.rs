@@ -266,6 +266,27 @@ fn previews_of_edits() {
 }
 
 #[test]
+fn replays() {
+    // The shipped trace is two edits.
+    let edits = ["edit", "games/d.txt", "--add", "5:3", "--remove", "5:2"];
+    let replay = |options: &[&str]| {
+        run(&[&["replay", "games/d.txt", "games/d.trace.txt"], options].concat())
+    };
+    let text = replay(&[]).text();
+    let title = "# games/d.txt after 2 entries of games/d.trace.txt\n";
+    assert!(text.starts_with(title), "{text}");
+    assert_eq!(numbers(&text), numbers(&run(&edits).text()));
+    assert_eq!(words(&replay(&["--as", "words"]).bytes()), numbers(&text));
+    let classes = run(&[&edits[..], &["--classes"]].concat()).text();
+    assert_eq!(replay(&["--classes"]).text(), classes);
+    // From standard input, as text and as words; none, and an edge that comes and goes.
+    let on_b = |trace: &[u8]| numbers(&run_on(&["replay", "games/b.txt", "-"], trace).text());
+    assert_eq!(on_b(b"0"), shipped("b.txt"));
+    assert_eq!(on_b(b"2 / 0 0 / 2 2"), shipped("b.txt"));
+    assert_eq!(on_b(&bytes(&[1, 0, 2])), [3, 4, 0, 1, 0, 0, 0, 1, 0, 1, 2, 0, 1, 1, 1, 2]);
+}
+
+#[test]
 fn shipped_plans_win() {
     for (game, plan) in [("c.txt", "c.plan.txt"), ("lift-doors.txt", "lift-doors.plan.txt")] {
         let words = ["check-plan", &path(game), &path(plan), "--player", "even"];
@@ -321,7 +342,7 @@ fn carried_plans_from_standard_input() {
 
 #[test]
 fn explain_each_number() {
-    for number in (1..=16).chain(21..=24).chain(31..=39) {
+    for number in (1..=16).chain(21..=24).chain(31..=40) {
         let text = run(&["explain", &number.to_string()]).text();
         let about = if number < 31 { "the " } else { "a later addition\n" };
         assert!(text.starts_with(&format!("refusal {number}, about {about}")), "{text}");
@@ -349,7 +370,7 @@ fn help_of_each_command_has_an_example_that_runs() {
     assert_eq!(run(&["help"]).text(), overview);
     let listed: Vec<&str> =
         overview.lines().filter_map(|line| line.strip_prefix("  ")?.split(' ').next()).collect();
-    assert_eq!(listed.len(), 13, "{listed:?}");
+    assert_eq!(listed.len(), 14, "{listed:?}");
     for command in listed {
         let help = run(&[command, "--help"]).text();
         assert_eq!(run(&["help", command]).text(), help);

@@ -36,10 +36,10 @@ fn commands_and_options() {
 fn numbers() {
     bad(&["explain"], &["arguments: 0 instead of 1"]);
     bad(&["explain", "-1"], &["no option -1"]);
-    for word in ["17", "0", "40", "x", "+8", "65544"] {
+    for word in ["17", "0", "41", "x", "+8", "65544"] {
         bad(
             &["explain", word],
-            &[&format!("`{word}` is no refusal number"), "1 to 16, 21 to 24 and 31 to 39"],
+            &[&format!("`{word}` is no refusal number"), "1 to 16, 21 to 24 and 31 to 40"],
         );
     }
     for vertex in ["3", "x", "-1", "+1", ""] {
@@ -84,6 +84,14 @@ fn edges_to_edit() {
             bad(&["edit", "games/b.txt", option, edge], &parts);
         }
     }
+}
+
+#[test]
+fn traces_to_replay() {
+    let usage = "usage: raskjomi replay GAME TRACE";
+    bad(&["replay", "games/b.txt"], &["arguments: 1 instead of 2", usage]);
+    bad(&["replay", "games/d.txt", "games/d.trace.txt", "--as=dot"], &["replay: no form `dot`"]);
+    bad(&["replay", "games/d.txt", "games/none.txt"], &["games/none.txt: ", "name a file"]);
 }
 
 #[test]

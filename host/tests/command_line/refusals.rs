@@ -172,6 +172,42 @@ fn edits() {
 }
 
 #[test]
+fn traces() {
+    let rows: [(&[u8], &str, &str); 9] = [
+        (b"", "40 at 0", "no number in it (a trace begins with its count)"),
+        (b"1", "40 at 0", "line 1, word 1 (its count is 1, and it has 1 words)"),
+        (b"1 0 2 2", "40 at 0", "line 1, word 1 (its count is 1, and it has 4 words)"),
+        (b"4097", "40 at 0", "line 1, word 1 (its count is 4097, and it has 1 words)"),
+        (b"1 / 3 / 0", "37 at 3", "line 1, word 2 (entry 0 from 0, edge 3 to 0; "),
+        (b"2 / 0 0 / 2 3", "37 at 0", "line 1, word 3 (entry 1 from 0, edge 0 to 3; "),
+        (b"2\n0 0\n2 65535", "37 at 0", "line 2, word 2 (entry 1 from 0, edge 0 to 65535; "),
+        (
+            b"1 / 0 / 1",
+            "38 at 0",
+            "edge 0 to 1; the vertices of games/b.txt are 0 to 2; 0 of 1 entries done)",
+        ),
+        (
+            b"3 / 0 0 0 / 2 1 2",
+            "38 at 0",
+            "edge 0 to 2; the vertices of games/b.txt are 0 to 2; 2 of 3 entries done)",
+        ),
+    ];
+    for (trace, verdict, place) in rows {
+        let verdict = format!(": refused {verdict}: ");
+        let out = run_on(&["replay", "games/b.txt", "-"], trace)
+            .fails(1, &["standard input: ", place, &verdict]);
+        assert_eq!(out, "", "nothing is written");
+    }
+    let mut lcg = generator::Lcg::new(1);
+    let most = generator::random(&mut lcg, 256, 4096, 2);
+    let absent = (0..256).find(|w| !most.edges.contains(&(0, *w))).expect("a vertex");
+    let most = file("most-replay.bin", &bytes(&most.words()));
+    let parts = [": refused 39 at 4096: ", "; remove an edge first"];
+    let trace = format!("1 0 {absent}");
+    assert_eq!(run_on(&["replay", &most, "-"], trace.as_bytes()).fails(1, &parts), "");
+}
+
+#[test]
 fn games_by_the_seed() {
     for numbers in [["0", "2", "4"], ["257", "2", "4"], ["3", "17", "4"], ["3", "2", "65536"]] {
         let [n, degree, priorities] = numbers;

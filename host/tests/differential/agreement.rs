@@ -72,10 +72,10 @@ fn kinds_agree() {
 #[test]
 fn every_refusal_is_explained() {
     for number in 0..1000 {
-        let given = matches!(number, 1..=16 | 21..=24 | 31..=39);
+        let given = matches!(number, 1..=16 | 21..=24 | 31..=40);
         assert_eq!(raskjomi::explain(number).is_some(), given, "{number}");
         let kind = Oracle::exact().kind(number);
-        let known = (1..=4).contains(&kind) || kind == 5 && number <= 39;
+        let known = (1..=4).contains(&kind) || kind == 5 && number <= 40;
         assert_eq!(given, known, "{number}");
     }
 }

@@ -22,6 +22,7 @@ pub enum Call {
     RemoveEdge,
     PreviewAdd,
     PreviewRemove,
+    Replay,
     Seed,
 }
 
@@ -48,7 +49,7 @@ impl Call {
 
     /// Every call with an answer.
     pub fn all() -> impl Iterator<Item = Call> {
-        let others = [Call::AcceptPlan, Call::Seed];
+        let others = [Call::AcceptPlan, Call::Replay, Call::Seed];
         let edits = Call::EDITING.into_iter().chain(Call::PREVIEWING);
         Call::ON_MEMORY.into_iter().chain(Call::CARRYING).chain(edits).chain(others)
     }
@@ -70,6 +71,7 @@ impl Call {
             Call::RemoveEdge => &[21..=23, 37..=38],
             Call::PreviewAdd => &[21..=24, 37..=37, 39..=39],
             Call::PreviewRemove => &[21..=24, 37..=38],
+            Call::Replay => &[21..=23, 37..=40],
         };
         generator::REFUSALS.into_iter().chain(own.iter().cloned().flatten()).collect()
     }
@@ -87,6 +89,8 @@ pub struct Case {
     pub vertex: u32,
     /// The edge that comes or goes; the table that is edited is in the memory.
     pub edge: (u32, u32),
+    /// The trace that is replayed in that table.
+    pub trace: Vec<u16>,
     /// A seed, and the numbers of vertices, of edges out of each, and of priorities.
     pub seed: [u32; 4],
 }
@@ -102,8 +106,8 @@ impl Case {
     /// A call on a game and memory.
     pub fn on_memory(call: Call, game: &[u16], memory: Memory) -> Case {
         let game = game.to_vec();
-        let (plan, edge) = (vec![], (0, 0));
-        Case { call, game, memory, player: 0, plan, vertex: 0, edge, seed: [0; 4] }
+        let (plan, edge, trace) = (vec![], (0, 0), vec![]);
+        Case { call, game, memory, player: 0, plan, vertex: 0, edge, trace, seed: [0; 4] }
     }
 
     /// The judgement of a plan.
@@ -135,6 +139,11 @@ impl Case {
         Case { edge, ..Case::on_memory(call, game, memory) }
     }
 
+    /// The replay of a trace in the table that begins the memory's.
+    pub fn of_replay(trace: Vec<u16>, memory: Memory) -> Case {
+        Case { trace, ..Case::on_memory(Call::Replay, &[], memory) }
+    }
+
     /// The drawing of a game into an output.
     pub fn of_seed(seed: [u32; 4], output: Vec<u16>) -> Case {
         let memory = Memory { output, ..Memory::default() };
@@ -161,6 +170,7 @@ impl Case {
             Call::RemoveEdge => oracle.edit(Edit::Remove, self.edge, &mut memory),
             Call::PreviewAdd => oracle.preview(Edit::Add, self.edge, game, &mut memory),
             Call::PreviewRemove => oracle.preview(Edit::Remove, self.edge, game, &mut memory),
+            Call::Replay => oracle.replay(&self.trace, &mut memory),
             Call::Seed => oracle.seed(self.seed, &mut memory),
         };
         Outcome { answer, memory }
@@ -194,6 +204,7 @@ impl Case {
             Call::RemoveEdge => exports::remove_edge(t, from, to, m, s, c),
             Call::PreviewAdd => exports::preview_add(game, from, to, t, m, s, c),
             Call::PreviewRemove => exports::preview_remove(game, from, to, t, m, s, c),
+            Call::Replay => exports::replay(t, &self.trace, m, s, c),
             Call::Seed => exports::seed(seed, n, degree, priorities, o),
         };
         let memory = Memory {
@@ -271,6 +282,13 @@ impl Case {
             Call::PreviewRemove => {
                 raskjomi::preview_remove(game, from, to, table, marks, spare, classes).map(of_edit)
             }
+            Call::Replay => {
+                let replay = raskjomi::replay(table, &self.trace, marks, spare, classes);
+                let refused =
+                    |Refusal { number, place }| Answer { number, place, ..Answer::default() };
+                let answer = replay.verdict.map_or_else(refused, of_edit);
+                Ok(Answer { entries: replay.entries as u32, ..answer })
+            }
             Call::Seed => {
                 let [seed, n, degree, priorities] = self.seed;
                 raskjomi::seed(seed, n, degree, priorities, output).map(of_filled)
@@ -291,9 +309,10 @@ fn plain(answer: RaskjomiAnswer) -> Answer {
         different,
         positions,
         links,
+        entries,
         place,
     } = answer;
-    Answer { number, passes, classes, vertices, edges, different, positions, links, place }
+    Answer { number, passes, classes, vertices, edges, different, positions, links, entries, place }
 }
 
 /// A buffer inside a larger one whose ends must stay as they are.

@@ -2,7 +2,7 @@
 
 use crate::calls::{Call, Case};
 use crate::carries::{room, round};
-use crate::{edits, previews};
+use crate::{edits, previews, replays};
 use generator::{chain, complete, largest_plan, opponents, random, Lcg, Table};
 use oracle::{Memory, Oracle};
 
@@ -52,6 +52,7 @@ pub fn largest_cases() -> Vec<Case> {
     cases.push(Case::of_seed([7, 256, 16, 65_535], vec![6; 8706]));
     cases.extend(edits::at_the_limit());
     cases.extend(previews::at_the_limit());
+    cases.push(replays::at_the_limit());
     cases
 }
 

@@ -13,6 +13,7 @@ mod families;
 mod limits;
 mod previews;
 mod repeats;
+mod replays;
 mod samples;
 mod seeds;
 mod tables;

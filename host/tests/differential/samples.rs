@@ -3,9 +3,9 @@
 use crate::calls::{Call, Case};
 use crate::carries::{of_both, plan_words, room, round, Origin};
 use generator::{
-    any_game, bent_plan, branching, crowded, damaged, damaged_often, edge_to_edit, old_bytes,
-    old_words, relation, seed_numbers, solve, strategy_plan, unfolded, words_behind, Lcg, Plan,
-    Solution, Table, REFUSALS,
+    any_game, bent_plan, branching, crowded, damaged, damaged_often, damaged_trace, edge_to_edit,
+    old_bytes, old_words, relation, seed_numbers, solve, strategy_plan, trace, trace_words,
+    unfolded, words_behind, Lcg, Plan, Solution, Table, REFUSALS,
 };
 use oracle::{Memory, Oracle};
 
@@ -161,6 +161,15 @@ pub fn cases_of_previews(lcg: &mut Lcg, table: &Table) -> Vec<Case> {
     Call::PREVIEWING.map(case).into()
 }
 
+/// A trace replayed, with a whole table or a damaged one at the start of a buffer.
+pub fn case_of_replay(lcg: &mut Lcg, table: &Table) -> Case {
+    let entries = trace(lcg, table);
+    let trace = if lcg.once_in(6) { damaged_trace(lcg, &entries) } else { trace_words(&entries) };
+    let words = if lcg.once_in(8) { damaged_table(lcg, table) } else { table.words() };
+    let buffer = [words, words_behind(lcg)].concat();
+    Case::of_replay(trace, Memory { table: buffer, ..memory(lcg, table) })
+}
+
 /// The drawing of a game of mostly at most `most` vertices into an output of several lengths.
 pub fn case_of_seed(lcg: &mut Lcg, most: usize) -> Case {
     let numbers = seed_numbers(lcg, most);
@@ -195,6 +204,7 @@ pub fn cases(lcg: &mut Lcg, most: usize) -> Vec<Case> {
     }
     cases.extend(cases_of_edits(lcg, &table));
     cases.extend(cases_of_previews(lcg, &table));
+    cases.push(case_of_replay(lcg, &table));
     cases.push(case_of_seed(lcg, most));
     cases.push(case_of_conversion(lcg, most));
     cases

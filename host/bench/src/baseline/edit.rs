@@ -136,6 +136,106 @@ fn make(
     RaskjomiAnswer { classes, vertices, edges, ..RaskjomiAnswer::default() }
 }
 
+/// A trace replayed, as the library's call of this name: the order of the start table, one scan of the edges for
+/// each entry, and the order of the final table.
+pub fn replay(
+    table: &mut [u16],
+    trace: &[u16],
+    marks: &mut [u8],
+    spare: &mut [u8],
+    classes: &mut [u16],
+) -> RaskjomiAnswer {
+    let needed = match table {
+        &mut [n, m, ..] => 2 + 2 * n as usize + 2 * m as usize,
+        _ => 0,
+    };
+    let (n, mut m) = match reader::read(&table[..needed.min(table.len())]) {
+        Ok(sizes) => sizes,
+        Err(refusal) => return refusal,
+    };
+    let lent = [marks.len(), spare.len(), classes.len()];
+    if let Err(refusal) = lengths(&lent, &[n * n, n * n, n]) {
+        return refusal;
+    }
+    let count = trace.first().map_or(0, |&count| count as usize);
+    if trace.len() != 1 + 2 * count || count > 4096 {
+        return refused(40, 0);
+    }
+    fill(table, n, m, marks, spare, classes);
+    let mut verdict = RaskjomiAnswer::default();
+    let mut done = 0;
+    while done < count {
+        match enter(table, n, m, (trace[1 + done], trace[1 + count + done])) {
+            Ok(edges) => m = edges,
+            Err(refusal) => {
+                verdict = refusal;
+                break;
+            }
+        }
+        done += 1;
+    }
+    let k = fill(table, n, m, marks, spare, classes);
+    let entries = done as u32;
+    if verdict.number != 0 {
+        return RaskjomiAnswer { entries, ..verdict };
+    }
+    let (classes, vertices, edges) = (k as u32, n as u32, m as u32);
+    RaskjomiAnswer { classes, vertices, edges, entries, ..RaskjomiAnswer::default() }
+}
+
+/// Writes the order and the classes of the table that begins the buffer; the number of classes.
+fn fill(
+    table: &[u16],
+    n: usize,
+    m: usize,
+    marks: &mut [u8],
+    spare: &mut [u8],
+    classes: &mut [u16],
+) -> usize {
+    let (mut starts, mut places) = ([0; 257], [0; 4096]);
+    let game = Game::new(&table[..2 + 2 * n + 2 * m], n, m, &mut starts, &mut places);
+    write_order(&game, &mut marks[..n * n], &mut spare[..n * n]);
+    write_classes(&marks[..n * n], &mut classes[..n], &mut [0; 256])
+}
+
+/// One scan tells how often the edge is there, where it stands first, and whether its source has another; then
+/// it comes or goes. The number of edges then.
+fn enter(table: &mut [u16], n: usize, m: usize, edge: (u16, u16)) -> Result<usize, RaskjomiAnswer> {
+    let (source, target) = edge;
+    if source as usize >= n || target as usize >= n {
+        return Err(refused(37, source as usize));
+    }
+    let (sources, targets) = table[2 + 2 * n..2 + 2 * n + 2 * m].split_at(m);
+    let (mut copies, mut first, mut others) = (0, 0, 0);
+    for (j, (&from, &to)) in sources.iter().zip(targets).enumerate() {
+        if from == source {
+            if to == target {
+                first = if copies == 0 { j } else { first };
+                copies += 1;
+            } else {
+                others += 1;
+            }
+        }
+    }
+    match copies {
+        0 if m == 4096 || table.len() < 2 + 2 * n + 2 * m + 2 => Err(refused(39, m)),
+        0 => Ok(arrive(table, n, m, edge)),
+        _ if others == 0 => Err(refused(38, source as usize)),
+        1 => Ok(leave_one(table, n, m, first)),
+        _ => Ok(leave(table, n, m, edge)),
+    }
+}
+
+/// Removes the edge at a place by moving what stands behind it; the number of edges then.
+fn leave_one(table: &mut [u16], n: usize, m: usize, at: usize) -> usize {
+    let (first, end) = (2 + 2 * n, 2 + 2 * n + 2 * m);
+    table.copy_within(first + at + 1..first + m + at, first + at);
+    table.copy_within(first + m + at + 1..end, first + m + at - 1);
+    table[end - 2..end].fill(0);
+    table[1] = m as u16 - 1;
+    m - 1
+}
+
 /// Refusals 37 to 39, for an edit in a buffer of so many words.
 fn judge(
     table: &[u16],

@@ -16,7 +16,7 @@ mod seed;
 
 pub use carry::{carry, carry_class};
 pub use convert::convert;
-pub use edit::{add_edge, preview_add, preview_remove, remove_edge};
+pub use edit::{add_edge, preview_add, preview_remove, remove_edge, replay};
 pub use passes::write_order as by_passes;
 pub use plan::accept_plan;
 pub use reduction::reduce;

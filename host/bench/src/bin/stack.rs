@@ -10,7 +10,7 @@ use std::os::unix::process::ExitStatusExt;
 use std::process::{Command, ExitStatus, Stdio};
 use std::thread;
 
-const CALLS: [&str; 17] = [
+const CALLS: [&str; 18] = [
     "no call",
     "kind",
     "read",
@@ -28,6 +28,7 @@ const CALLS: [&str; 17] = [
     "remove_edge",
     "preview_add",
     "preview_remove",
+    "replay",
 ];
 /// The sizes tried, in KiB: a page, the least that Rust gives a thread, and what it gives by default.
 const PAGE: usize = 4;
@@ -77,6 +78,10 @@ fn call(name: &str) -> impl FnOnce() -> u32 + Send + 'static {
             "preview_add" => exports::preview_add(&edited, 0, absent, &mut table, m, s, c),
             "preview_remove" => {
                 exports::preview_remove(&edited, source, target, &mut table, m, s, c)
+            }
+            "replay" => {
+                let (source, target) = edited.edges[0];
+                exports::replay(&mut table, &[2, source, 0, target, absent as u16], m, s, c)
             }
             _ => exports::reduce(&game, m, s, c, o),
         };

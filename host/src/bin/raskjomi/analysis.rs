@@ -4,7 +4,7 @@ use crate::failure::Failure;
 use crate::input::{Input, Unit};
 use crate::locate::game_refused;
 use crate::table::Table;
-use raskjomi::{PlanSize, Refusal, Size, MOST_PLAN_WORDS};
+use raskjomi::{PlanSize, Refusal, Replay, Size, MOST_PLAN_WORDS};
 
 /// A game that the reader accepts.
 pub struct Game {
@@ -146,6 +146,18 @@ impl Game {
                 .map_err(|refusal| (i, refusal))?;
             words = second;
         }
+        Ok(Merged { classes, words })
+    }
+
+    /// The words of the table after the entries of a trace, and its classes; or the first refusal, with
+    /// the entries done.
+    pub fn replayed(&self, trace: &[u16]) -> Result<Merged, (usize, Refusal)> {
+        let (mut marks, mut spare) = self.marks();
+        let (mut classes, mut words) = (vec![0; self.size.vertices], self.input.numbers.clone());
+        words.resize(words.len() + trace.len(), 0);
+        let Replay { verdict, entries } =
+            raskjomi::replay(&mut words, trace, &mut marks, &mut spare, &mut classes);
+        verdict.map_err(|refusal| (entries, refusal))?;
         Ok(Merged { classes, words })
     }
 

@@ -5,7 +5,9 @@ use crate::arguments::{name_of, Arguments, Form};
 use crate::failure::Failure;
 use crate::help::{self, Command, COMMANDS};
 use crate::input::{self, number, Input, Unit};
-use crate::locate::{carry_refused, edit_refused, plan_refused, relation_refused, seed_refused};
+use crate::locate::{
+    carry_refused, edit_refused, plan_refused, relation_refused, replay_refused, seed_refused,
+};
 use crate::table::Table;
 use crate::{dot as picture, tell, text};
 use raskjomi::Kind;
@@ -249,6 +251,23 @@ fn edits(arguments: &Arguments) -> Result<Vec<Edit>, Failure> {
         Ok(Edit { add: option == "--add", source, target })
     };
     given.iter().map(edit).collect()
+}
+
+/// `replay`.
+pub fn replay(arguments: &Arguments) -> Written {
+    let as_words = as_words(arguments, "replay", ", or hand the game on to raskjomi dot")?;
+    let game = Game::load(arguments.file(0))?;
+    let trace = Input::read(arguments.file(1), Unit::Word)?;
+    let after = game
+        .replayed(&trace.numbers)
+        .map_err(|(done, refusal)| replay_refused(refusal, &game, &trace, done))?;
+    if arguments.has("--classes") {
+        return Ok(text::changes(&game.classes()?, &after.classes).into());
+    }
+    let entries = trace.numbers[0];
+    let title = format!("{} after {entries} entries of {}", game.input.name, trace.name);
+    let table = after.table();
+    Ok(if as_words { text::bytes(table.words()) } else { text::table(&title, &table).into() })
 }
 
 /// How many edges come and go.

@@ -24,7 +24,7 @@ pub struct Command {
 }
 
 /// The refusal numbers that `explain` knows.
-pub const NUMBERS: &str = "1 to 16, 21 to 24 and 31 to 39";
+pub const NUMBERS: &str = "1 to 16, 21 to 24 and 31 to 40";
 
 /// What `seed` takes, in the sequence of its usage.
 pub const SEED_NUMBERS: [&str; 4] = ["SEED", "VERTICES", "DEGREE", "PRIORITIES"];
@@ -59,7 +59,7 @@ const TABLES: &str = "Text and words are game tables, which every command reads.
                       the game, with the members of each class.";
 
 /// The commands, in the sequence of the help.
-pub const COMMANDS: [Command; 13] = [
+pub const COMMANDS: [Command; 14] = [
     Command {
         name: "report",
         usage: "report [GAME] [--vertex V]",
@@ -190,11 +190,30 @@ pub const COMMANDS: [Command; 13] = [
         run: commands::edit,
     },
     Command {
+        name: "replay",
+        usage: "replay GAME TRACE [--classes] [--as text|words]",
+        summary: "the game after a recorded list of edits, or what that does to its classes",
+        details: "A trace has its count, at most 4,096, then as many sources, then as many targets. Its \
+                  entries are done in sequence: an edge that the game doesn't have is added behind \
+                  the others, and one that it has is removed with every copy. Where an entry is \
+                  refused, nothing is written, and the message tells how many were done before it. \
+                  The output is a game table, which every command reads; with --classes, it is the \
+                  number of classes before and after, and each vertex that then shares its class with \
+                  others than before.",
+        example: "./raskjomi replay games/d.txt games/d.trace.txt --classes",
+        files: 2..=2,
+        options: &[
+            Opt { name: "--classes", value: None },
+            Opt { name: "--as", value: Some("text or words") },
+        ],
+        run: commands::replay,
+    },
+    Command {
         name: "explain",
         usage: "explain NUMBER",
         summary: "what a refusal number means, what its place counts, and what to do",
         details:
-            "A refused input gets one of the numbers 1 to 16, 21 to 24 and 31 to 39; 7 no longer occurs.",
+            "A refused input gets one of the numbers 1 to 16, 21 to 24 and 31 to 40; 7 no longer occurs.",
         example: "./raskjomi explain 8",
         files: 1..=1,
         options: &[],

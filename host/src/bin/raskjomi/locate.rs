@@ -106,6 +106,28 @@ pub fn edit_refused(refusal: Refusal, game: &Game, edit: &str) -> Failure {
     tell(refusal, format!("{}: {edit} (its vertices are 0 to {last})", game.input.name))
 }
 
+/// A refusal of a trace, told with its words, or with the entry that it ends at and the entries done.
+pub fn replay_refused(refusal: Refusal, game: &Game, trace: &Input, done: usize) -> Failure {
+    if refusal.number == 40 {
+        let words = trace.numbers.len();
+        let detail = match trace.numbers.first() {
+            Some(&count) => format!("its count is {count}, and it has {words} words"),
+            None => "a trace begins with its count".into(),
+        };
+        return tell(refusal, trace.at(0, &detail));
+    }
+    let count = trace.numbers[0] as usize;
+    let ends = [1 + done, 1 + count + done].map(|word| trace.numbers[word]);
+    let [source, target] = ends;
+    let last = game.size.vertices - 1;
+    let detail = format!(
+        "entry {done} from 0, edge {source} to {target}; the vertices of {} are 0 to {last}; {done} of {count} \
+         entries done",
+        game.input.name
+    );
+    tell(refusal, trace.at(1 + done, &detail))
+}
+
 /// A refusal of the numbers of a game by the seed.
 pub fn seed_refused(refusal: Refusal, [_, n, degree, priorities]: [u32; 4]) -> Failure {
     tell(refusal, format!("{n} vertices, degree {degree}, {priorities} priorities"))
