@@ -75,10 +75,10 @@ module _ (K : Game → Game) (game marks spare classes output : List ℕ) where
       judge-past (classRows game marks spare classes) (memoryRow 24 needed output ∷ []) counts (classes-clean game marks spare classes f)
       ∙ judge-hit _ _ _ (lt-ltb (length output) needed (rw e at h))))
 
-  pub table-written : TableFits game marks spare classes output → (c : TableCounts) (marks′ spare′ classes′ output′ : List ℕ)
-      → TableDone K game marks spare classes output c marks′ spare′ classes′ output′
+  pub table-written : TableFits game marks spare classes output → (passes : ℕ) (c : TableCounts) (marks′ spare′ classes′ output′ : List ℕ)
+      → TableDone K game marks spare classes output passes c marks′ spare′ classes′ output′
       → TableCall K game marks spare classes output (accepted (c .classes ∷ c .vertices ∷ c .edges ∷ [])) marks′ spare′ classes′ output′
-  table-written f c marks′ spare′ classes′ output′ d =
+  table-written f passes c marks′ spare′ classes′ output′ d =
       let clean = table-clean game marks spare classes output f in
       let t = d .table in record {
         verdict = rw (t .class-count, t .vertex-count, t .edge-count) (sym (judge-clean rows counts clean));

@@ -30,7 +30,6 @@ pub record TableFilled (K : Game → Game) (game classes output : List ℕ) (cou
   pub output-after : output′ ≡ written (classTable K game) output
 
 -- and the order
-pub record TableDone (K : Game → Game) (game marks spare classes output : List ℕ) (counts : TableCounts) (marks′ spare′ classes′ output′ : List ℕ) : Type 0 where
-  pub passes : ℕ
+pub record TableDone (K : Game → Game) (game marks spare classes output : List ℕ) (passes : ℕ) (counts : TableCounts) (marks′ spare′ classes′ output′ : List ℕ) : Type 0 where
   pub order : OrderDone game marks spare passes marks′ spare′
   pub table : TableFilled K game classes output counts classes′ output′

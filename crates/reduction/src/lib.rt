@@ -1,5 +1,5 @@
 // Quotient game and reduced game of a game table.
-mod tables;
+pub mod tables;
 
 use classes::Memory;
 use classes::judge_memory;
@@ -49,7 +49,8 @@ pub fn tabulate_classes(
             place: needed,
         });
     }
-    let counts = tables::fill_memory(game, marks, spare, classes, output, drop);
+    let filled = tables::fill_memory(game, marks, spare, classes, output, drop);
+    let counts = filled.counts;
     Tabulation::Accepted(counts)
 }
 

@@ -22,6 +22,12 @@ ghost use Rattle.class_edges.specs.Rows.{gameBy};
 ghost use Rattle.reduction.specs.TableRules.{TableFits};
 ghost use Rattle.reduction.specs.Tables.{tableBy, TableFilled, TableDone};
 
+// The pass count of the order, and the counts of the classes and the table.
+pub struct Filled {
+    pub passes: u32,
+    pub counts: TableCounts,
+}
+
 // Writes the table of the k classes and the first e edges: sizes, priorities and owners of the representatives, sources, targets.
 fn write_table(
     game: &[u16],
@@ -85,7 +91,8 @@ fn fill_table(
     }
 }
 
-// Writes all lent memory: the order, the classes and the table, over an index of the edges in local arrays of 8,706 bytes.
+// Writes all lent memory: the order, the classes and the table, over an index of the edges in local arrays of 8,706 bytes. Of all calls
+// that write such a table and of the report, which alone tells the passes.
 pub fn fill_memory(
     game: &[u16],
     marks: &mut [u8],
@@ -93,13 +100,14 @@ pub fn fill_memory(
     classes: &mut [u16],
     output: &mut [u16],
     drop: bool,
-) -> TableCounts
+) -> Filled
     requires { ⌜ TableFits (now game) (now marks) (now spare) (now classes) (now output) ⌝ }
-    ensures { λ r. ⌜ TableDone (gameBy drop) (now (game .entry)) (now (marks .entry)) (now (spare .entry)) (now (classes .entry)) (now (output .entry)) r (now (marks .exit)) (now (spare .exit)) (now (classes .exit)) (now (output .exit)) ⌝ }
+    ensures { λ r. ⌜ TableDone (gameBy drop) (now (game .entry)) (now (marks .entry)) (now (spare .entry)) (now (classes .entry)) (now (output .entry)) (r .passes) (r .counts) (now (marks .exit)) (now (spare .exit)) (now (classes .exit)) (now (output .exit)) ⌝ }
 {
-    fill_order(game, marks, spare);
+    let passes = fill_order(game, marks, spare);
     let mut starts = [0u16; VERTEX_STARTS];
     let mut targets = [0u16; EDGES];
     index::of_edges(game, &mut starts, &mut targets);
-    fill_table(game, &starts, &targets, marks, classes, output, drop)
+    let counts = fill_table(game, &starts, &targets, marks, classes, output, drop);
+    Filled { passes, counts }
 }

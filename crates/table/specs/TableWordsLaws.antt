@@ -4,15 +4,20 @@ use mathlib.Core.Logic.{_↔_}
 use mathlib.Core.Bool.{So}
 use mathlib.Core.List.{List, map}
 use Prim.Native.Nat.{ℕ, _*_, _≤_, _<_}
+use native.Mathlib.Nat.{le-antisymm}
+use native.Mathlib.Decide.{decLt}
 use native.Mathlib.Omega.{arith}
+use lib.Dec.{eqb}
 use lib.ListN.{length, getD, length-map, List·getD-map}
 use borrow.Author.Tests.{eqb-true, eq-eqb}
 use Rattle.theory.specs.BoolsLaws.{So-ext, and-in, and-out}
-use Rattle.theory.specs.Range.{tabulate, pairsOf, Before}
+use Rattle.theory.specs.Range.{count, tabulate, pairsOf, Before}
 use Rattle.theory.specs.RangeLaws.{any-in, any-out}
+use Rattle.theory.specs.CountLaws.{count-inject}
 use Rattle.theory.specs.ListLaws.{length-tabulate, getD-tabulate, tabulate-ext}
 use Rattle.theory.specs.Game.{Player, even, odd, Game, Succ, Total, edgeCount}
-use Rattle.theory.specs.LinkLaws.{linked-at, linked-find, pairsOf-in, pairsOf-out, pairsOf-single, pairsOf-ascend, length-pairsBelow}
+use Rattle.theory.specs.LinkLaws.{pair-is, linked-at, linked-find, pairsOf-in, pairsOf-out, pairsOf-single, pairsOf-ascend, length-pairsBelow}
+use Rattle.theory.specs.Totals.{outDegree}
 use Rattle.theory.specs.Agreement.{Agree}
 use Rattle.table.specs.Limits.{vertexLimit, edgeLimit}
 use Rattle.table.specs.Table.{vertexCount, tableEdges, priorityAt, ownerAt, sourceAt, targetAt, tableLength, playerOf, isEdge, gameOf}
@@ -130,6 +135,31 @@ module _ (K : Game) (es : List (ℕ × ℕ)) where
           (λ t. tableWords-edge v w .0 t .1 .along)
           (λ t. tableWords-edge v w .1 (rw vertices-is at h, record { inside = rw vertices-is at k; along = t }));
     }
+
+    -- as many of them have the source c as edges leave c in K
+    pub tableWords-degree : (c : ℕ) → c < K .n → count (length es) (λ j. eqb (sourceAt table j) c) ≡ outDegree K c
+    unfolding outDegree
+    tableWords-degree c h = le-antisymm
+        (count-inject (length es) (K .n) _ _ Partner
+        (λ j l t.
+        let e = sym (source-is j l) ∙ eqb-true _ _ t in
+        let s = ends j l .1 in
+        (getD es j (0, 0) .1, s .inside, rw e at (s .along), pair-is e refl))
+        (λ i j d hi hj hd p q. one i j hi hj (p ∙ sym q)))
+        (count-inject (K .n) (length es) _ _ (λ d j. Partner j d)
+        (λ d l t.
+        let (j, hj, e) = linked-find es c d (lists .edges c d .1 (h, record { inside = l; along = t })) in
+        (j, hj, eq-eqb _ _ (source-is j hj ∙ ap (λ (x : ℕ × ℕ). x .0) e), e))
+        (λ d d′ j hd hd′ hj p q. ap (λ (x : ℕ × ℕ). x .1) (sym p ∙ q)))
+      where
+        Partner : ℕ → ℕ → Type 0
+        Partner j d = getD es j (0, 0) ≡ (c, d)
+
+        one : (i j : ℕ) → i < length es → j < length es → getD es i (0, 0) ≡ getD es j (0, 0) → i ≡ j
+        one i j hi hj e = elim (decLt i j) [
+          | yes l ↦ absurd (lists .single i j l hj e)
+          | no m ↦ elim (decLt j i) [ yes l ↦ absurd (lists .single j i l hi (sym e)) | no m′ ↦ omega arith ]
+        ]
 
 -- the ascending list is one, and it ascends
 pub edgesOf-lists : (K : Game) → Lists K (edgesOf K)

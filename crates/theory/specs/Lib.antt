@@ -34,6 +34,8 @@ pub mod ClassLaws
 pub mod QuotientLaws
 pub mod ReductionLaws
 pub mod SizeLaws
+pub mod Totals
+pub mod TotalsLaws
 pub mod MixedLaws
 pub mod BreadthFirst
 pub mod BreadthFirstLaws

@@ -83,8 +83,8 @@ same-length-4 c = search needs
 
 returns-3 : tie.Need-returns-3
 returns-3 c =
-    let x = c .before .before .before .before .before .before .before .before in
-    table-written _ _ _ _ _ _ (all-fits (x .before .before .before .before .before)) _ _ _ _ _ (x .fill-memory .ensures)
+    let x = c .before .before .before .before .before .before .before .before .before in
+    table-written _ _ _ _ _ _ (all-fits (x .before .before .before .before .before)) _ _ _ _ _ _ (x .fill-memory .ensures)
 
 pub tabulate-classes-spec : {M : Type 1} → statement M
 tabulate-classes-spec =

@@ -54,7 +54,7 @@ same-length-4 c = search needs
 
 returns : tie.Need-returns
 returns c = let t = c .before .before .before .before in
-    record { passes = _; order = ordered-at (t .before .before .before .before .before .before .before .before) .fill-order .ensures; table = t .fill-table .ensures }
+    record { order = ordered-at (t .before .before .before .before .before .before .before .before) .fill-order .ensures; table = t .fill-table .ensures }
 
 pub fill-memory-spec : {M : Type 1} → statement M
 fill-memory-spec =
