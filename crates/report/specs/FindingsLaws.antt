@@ -1,37 +1,33 @@
--- Neither call refuses memory that is enough, so that the report is that of both calls.
-use mathlib.Core.Path.{_≡_, sym, ap, _∙_}
-use mathlib.Core.List.{List, [], _∷_}
-use Prim.Native.Nat.{ℕ, _*_, _≤_}
+-- The memory is enough, so that the report of an accepted game is what is filled in and counted.
+use mathlib.Core.Path.{_≡_, refl, sym, ap, _∙_}
+use mathlib.Core.List.{List}
+use Prim.Native.Nat.{ℕ, _≤_}
 use native.Mathlib.Omega.{arith}
 use native.Mathlib.Nat.{mul-le-mul}
-use Rattle.theory.specs.Order.{orderPasses}
 use Rattle.theory.specs.Reduction.{reduced}
 use Rattle.table.specs.Limits.{vertexLimit}
-use Rattle.table.specs.Table.{vertexCount, gameOf}
+use Rattle.table.specs.Table.{vertexCount}
 use Rattle.table.specs.Verdict.{Answer, accepted, refused}
-use Rattle.table.specs.VerdictLaws.{after-clean, after-refused, not-both}
+use Rattle.table.specs.VerdictLaws.{after-clean, after-refused}
 use Rattle.table.specs.Reading.{gameRows, readAnswer, readingAnswer}
-use Rattle.table.specs.ReadingLaws.{reading-accepted, well-clean}
-use Rattle.table.specs.WellFormed.{WellFormed}
+use Rattle.table.specs.ReadingLaws.{read-accepted, reading-accepted, well-clean}
+use Rattle.table.specs.WellFormed.{WellFormed, WellSized}
 use Rattle.table.specs.declared.Sizes.{Sizes}
 use Rattle.table.specs.declared.Refusal.{Refusal}
 use Rattle.table.specs.declared.Reading.{Reading}
 use Rattle.pairs.specs.Marks.{marksLength}
-use Rattle.order.specs.OrderCall.{orderingAnswer, OrderCall}
-use Rattle.order.specs.OrderRules.{OrderFits}
-use Rattle.order.specs.OrderRulesLaws.{order-accepts}
-use Rattle.order.specs.declared.Ordering.{Ordering}
-use Rattle.classes.specs.ClassesCall.{classWords}
-use Rattle.reduction.specs.TableCall.{tableRows, tabulationAnswer, TableCall}
+use Rattle.classes.specs.ClassesCall.{classTotal, classWords}
 use Rattle.reduction.specs.TableRules.{TableFits}
-use Rattle.reduction.specs.TableRulesLaws.{table-accepts, table-clean}
+use Rattle.reduction.specs.Tables.{TableDone}
 use Rattle.reduction.specs.declared.TableCounts.{TableCounts}
-use Rattle.reduction.specs.declared.Tabulation.{Tabulation}
+use Rattle.totals.specs.Totals.{memberWords, edgeWords, Reduced, Totalled}
+use Rattle.totals.specs.CountingLaws.{few-classes}
+use Rattle.totals.specs.declared.Totals.{Totals}
 use Rattle.report.specs.declared.Report.{Report}
 use Rattle.report.specs.Findings.{number, Reported}
-use Rattle.report.specs.Verdicts.{passesOf, countsOf, Enough, AtMost}
+use Rattle.report.specs.Verdicts.{Enough, AtMost}
 
-number-accepted : {a : Answer} {counts : List ℕ} (x : ℕ) → a ≡ accepted counts → number a x ≡ x
+pub number-accepted : {a : Answer} {counts : List ℕ} (x : ℕ) → a ≡ accepted counts → number a x ≡ x
 unfolding number
 number-accepted x e = rw e
 
@@ -42,82 +38,85 @@ number-refused x e = rw e
 marks-fit : (g : List ℕ) → WellFormed g → marksLength (vertexCount g) ≤ marksLength vertexLimit
 marks-fit g w = mul-le-mul (w .vertices) (w .vertices)
 
--- the parts of an accepted verdict
-passes-given : (o : Ordering) (k : ℕ) → orderingAnswer o ≡ accepted (k ∷ []) → passesOf o ≡ k
-passes-given (Ordering.Accepted p) k e = cc
-passes-given (Ordering.Refused f) k e = absurd (not-both e)
+-- the reader accepted
+pub sized : {g : List ℕ} {v : Reading} {c : Sizes} → v ≡ Reading.Accepted c → readingAnswer v ≡ readAnswer g → WellSized g c
+sized {g} h e = reading-accepted g _ (rw h at e)
 
--- the counts are those of k classes, n vertices and m edges
-pub record Given (c : TableCounts) (k n m : ℕ) : Type 0 where
-  pub classes : c .classes ≡ k
-  pub vertices : c .vertices ≡ n
-  pub edges : c .edges ≡ m
+pub table-fits : {g marks spare output classes members edges : List ℕ} → Enough marks spare output classes members edges → WellFormed g
+    → TableFits g marks spare classes output
+table-fits {g} enough w = record {
+  classesFit = record {
+    orderFits = record { game = w; marksFit = omega (arith, marks-fit g w, enough .marksFit); spareFit = omega (arith, marks-fit g w, enough .spareFit) };
+    wordsFit = omega (arith, w .vertices, enough .classesFit);
+  };
+  outputFit = omega (arith, w .vertices, w .edges, enough .outputFit);
+}
 
-counts-given : (t : Tabulation) (k n m : ℕ) → tabulationAnswer t ≡ accepted (k ∷ n ∷ m ∷ []) → Given (countsOf t) k n m
-counts-given (Tabulation.Accepted c) k n m e = record { classes = cc; vertices = cc; edges = cc }
-counts-given (Tabulation.Refused f) k n m e = absurd (not-both e)
-
-module _ (g marks spare classes output : List ℕ) (enough : Enough marks spare classes output) (w : WellFormed g) where
-  order-fits : OrderFits g marks spare
-  order-fits = record { game = w; marksFit = omega (arith, marks-fit g w, enough .marksFit); spareFit = omega (arith, marks-fit g w, enough .spareFit) }
-
-  -- the order call accepts
-  order-passes : (marks′ spare′ : List ℕ) (o : Ordering) → OrderCall g marks spare (orderingAnswer o) marks′ spare′
-      → passesOf o ≡ orderPasses (gameOf g)
-  order-passes marks′ spare′ o d = passes-given o _ (d .verdict ∙ order-accepts g marks spare order-fits)
-
-  -- and so does a call that writes a game of classes
-  table-fits : TableFits g marks spare classes output
-  table-fits = record {
-    classesFit = record { orderFits = order-fits; wordsFit = omega (arith, w .vertices, enough .classesFit) };
-    outputFit = omega (arith, w .vertices, w .edges, enough .outputFit);
-  }
+-- a word for each class fits
+pub classes-fit : (g : List ℕ) → WellFormed g → (n : ℕ) → vertexLimit ≤ n → classTotal g ≤ n
+classes-fit g w n h = omega (arith, few-classes g, w .vertices)
 
 -- the reader refuses
-pub reported-refused : (g classes : List ℕ) (v : Reading) (f : Refusal) → v ≡ Reading.Refused f → readingAnswer v ≡ readAnswer g
-    → Reported g classes classes (record { verdict = v; passes = 0; classes = 0; vertices = 0; edges = 0 })
+pub reported-refused : (g classes members edges : List ℕ) (v : Reading) (f : Refusal) → v ≡ Reading.Refused f → readingAnswer v ≡ readAnswer g
+    → Reported g classes members edges (record { verdict = v; passes = 0; classes = 0; totals = record { members = 0; edges = 0 }; vertices = 0; edges = 0 })
+    classes members edges
 unfolding readAnswer
-reported-refused g classes v f h e =
+reported-refused g classes members edges v f h e =
     let a : readAnswer g ≡ refused (f .number) (f .place) = sym e ∙ ap readingAnswer h in
     record {
       verdict = e;
       passes = sym (number-refused _ a);
-      classes = sym (number-refused _ a);
-      vertices = sym (number-refused _ a);
-      edges = sym (number-refused _ a);
-      class-words = sym (after-refused (gameRows g) _ (classWords g) classes a);
+      class-count = sym (number-refused _ a);
+      member-total = sym (number-refused _ a);
+      edge-total = sym (number-refused _ a);
+      vertex-count = sym (number-refused _ a);
+      edge-count = sym (number-refused _ a);
+      classes-after = sym (after-refused (gameRows g) _ (classWords g) classes a);
+      members-after = sym (after-refused (gameRows g) _ (memberWords g) members a);
+      edges-after = sym (after-refused (gameRows g) _ (edgeWords g) edges a);
     }
 
--- the reader accepts: the order first, then the reduced game over the same buffers
-module _ (g marks marks′ marks″ spare spare′ spare″ classes classes′ output output′ : List ℕ) (v : Reading) (o : Ordering) (t : Tabulation)
-    (enough : Enough marks spare classes output) (again : Enough marks′ spare′ classes output)
-    (ordered : OrderCall g marks spare (orderingAnswer o) marks′ spare′)
-    (made : TableCall reduced g marks′ spare′ classes output (tabulationAnswer t) marks″ spare″ classes′ output′) where
-  pub reported-accepted : (c : Sizes) → v ≡ Reading.Accepted c → readingAnswer v ≡ readAnswer g
-      → (passes : ℕ) → passes ≡ passesOf o → (counts : TableCounts) → counts ≡ countsOf t
-      → Reported g classes classes′
-      (record { verdict = v; passes = passes; classes = counts .classes; vertices = counts .vertices; edges = counts .edges })
-  reported-accepted c h e passes p counts q =
+-- the reader accepts: the memory is filled, and the classes are counted
+module _ {g marks spare classes output : List ℕ} {passes : ℕ} {counts : TableCounts} {marks′ spare′ classes′ output′ : List ℕ}
+    (made : TableDone reduced g marks spare classes output passes counts marks′ spare′ classes′ output′) where
+  pub reduced-there : WellFormed g → Reduced g classes′ output′
+  reduced-there w = record { well = w; old-classes = classes; classes-are = made .table .classes-after; old-table = output; table-is = made .table .output-after }
+
+  pub reported-accepted : {members members′ edges edges′ : List ℕ} {totals : Totals} → Totalled g members edges totals members′ edges′
+      → (v : Reading) (c : Sizes) → v ≡ Reading.Accepted c → readingAnswer v ≡ readAnswer g
+      → Reported g classes members edges
+      (record { verdict = v; passes = passes; classes = counts .classes; totals = totals; vertices = counts .vertices; edges = counts .edges })
+      classes′ members′ edges′
+  reported-accepted summed v c h e =
       let a : readAnswer g ≡ readingAnswer (Reading.Accepted c) = sym e ∙ ap readingAnswer h in
-      let w = reading-accepted g c (sym a) .well in
-      let b = table-accepts made (table-fits g marks′ spare′ classes output again w) in
-      let k = counts-given t _ _ _ b in
+      let clean = well-clean g (sized h e .well) in
+      let t = made .table in
       record {
         verdict = e;
-        passes = p ∙ order-passes g marks spare classes output enough w marks′ spare′ o ordered ∙ sym (number-accepted _ a);
-        classes = ap (λ (x : TableCounts). x .classes) q ∙ k .classes ∙ sym (number-accepted _ a);
-        vertices = ap (λ (x : TableCounts). x .vertices) q ∙ k .vertices ∙ sym (number-accepted _ a);
-        edges = ap (λ (x : TableCounts). x .edges) q ∙ k .edges ∙ sym (number-accepted _ a);
-        class-words =
-            made .classes-after
-            ∙ after-clean (tableRows g marks′ spare′ classes output) (classWords g) classes (table-clean g marks′ spare′ classes output (table-fits g marks′ spare′ classes output again w))
-            ∙ sym (after-clean (gameRows g) (classWords g) classes (well-clean g w));
+        passes = made .order .count ∙ sym (number-accepted _ a);
+        class-count = t .class-count ∙ sym (number-accepted _ a);
+        member-total = summed .member-total ∙ sym (number-accepted _ a);
+        edge-total = summed .edge-total ∙ sym (number-accepted _ a);
+        vertex-count = t .vertex-count ∙ sym (number-accepted _ a);
+        edge-count = t .edge-count ∙ sym (number-accepted _ a);
+        classes-after = t .classes-after ∙ sym (after-clean (gameRows g) (classWords g) _ clean);
+        members-after = summed .members-after ∙ sym (after-clean (gameRows g) (memberWords g) _ clean);
+        edges-after = summed .edges-after ∙ sym (after-clean (gameRows g) (edgeWords g) _ clean);
       }
 
-pub reported-same : {g h old new : List ℕ} {r : Report} → g ≡ h → Reported g old new r → Reported h old new r
+pub reported-same : {g h classes members edges classes′ members′ edges′ : List ℕ} {r : Report} → g ≡ h
+    → Reported g classes members edges r classes′ members′ edges′ → Reported h classes members edges r classes′ members′ edges′
 reported-same e d = rw e at d
 
--- class words for the largest game are enough to print
-pub reported-small : (g old new : List ℕ) (r : Report) → Reported g old new r → (n : ℕ) → vertexLimit ≤ n → AtMost n (r .verdict)
-reported-small g old new r d n h =
-    record { fits = λ c e. let s = reading-accepted g c (rw e at (d .verdict)) in omega (arith, s .vertices, s .well .vertices) }
+-- words for the largest game are enough to print
+module _ {g classes members edges classes′ members′ edges′ : List ℕ} {r : Report} (d : Reported g classes members edges r classes′ members′ edges′) where
+  pub reported-small : (n : ℕ) → vertexLimit ≤ n → AtMost n (r .verdict)
+  reported-small n h = record { fits = λ c e. let s = sized e (d .verdict) in omega (arith, s .vertices, s .well .vertices) }
+
+  pub reported-classes : r .classes ≤ vertexLimit
+  unfolding number
+  reported-classes = go (readAnswer g) refl (d .class-count)
+    where
+      go : (a : Answer) → readAnswer g ≡ a → r .classes ≡ number a (classTotal g) → r .classes ≤ vertexLimit
+      go (accepted counts) e q = omega (arith, classes-fit g (read-accepted g counts e .0) vertexLimit (omega arith))
+      go (refused k p) e q = omega arith

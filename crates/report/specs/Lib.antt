@@ -3,3 +3,4 @@ pub mod WordsLaws
 pub mod Findings
 pub mod Verdicts
 pub mod FindingsLaws
+pub mod LinesLaws

@@ -36,3 +36,15 @@ pub fn vertices(classes: &[u16], n: usize)
         v += 1;
     }
 }
+
+// A line for each of the first k classes.
+pub fn classes(members: &[u16], edges: &[u16], k: usize)
+    requires { ⌜ (k ≤ length (now members)) × (k ≤ length (now edges)) ⌝ }
+{
+    let mut c = 0;
+    while c < k {
+        labelled(b"class ", c as u64);
+        two(b" members ", members[c] as u64, b" edges ", edges[c] as u64);
+        c += 1;
+    }
+}

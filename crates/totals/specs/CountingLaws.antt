@@ -36,11 +36,11 @@ unfolding written
 length-written-ge new old = omega (arith, length-append new (drop (length new) old))
 
 -- words of a buffer that are f 0, .., f (k - 1), and their sum
-sum-written : (k : ℕ) (f : ℕ → ℕ) (old new : List ℕ) → new ≡ written (tabulate k f) old → sum k (λ c. getD new c 0) ≡ sum k f
+pub sum-written : (k : ℕ) (f : ℕ → ℕ) (old new : List ℕ) → new ≡ written (tabulate k f) old → sum k (λ c. getD new c 0) ≡ sum k f
 sum-written k f old new e = sum-ext k _ f (λ c h.
     rw e (getD-written (tabulate k f) old c 0 (rw (length-tabulate k f) h) ∙ getD-tabulate k f 0 c h))
 
-few-classes : (game : List ℕ) → classTotal game ≤ vertexCount game
+pub few-classes : (game : List ℕ) → classTotal game ≤ vertexCount game
 unfolding classTotal gameOf
 few-classes game = classCount-le (vertexCount game) (order (gameOf game)) (order-preorder (gameOf game))
 

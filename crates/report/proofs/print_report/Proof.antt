@@ -1,4 +1,4 @@
--- An accepted game has no more vertices than there are class words.
+-- An accepted game has no more vertices and no more classes than there are words for them.
 use borrow.Author.Needs.{needs}
 use Rattle.report.proofs.print_report.Statement.{statement}
 use Rattle.report.proofs.print_report.Tie as tie
@@ -48,7 +48,10 @@ one-requires-2 c κs = search needs
 vertices-requires : tie.Need-vertices-requires
 vertices-requires c κs =
     let v = c .before .before .before .before .before .before .before .before .before in
-    v .before .before .before .pre .fits (v .verdict2 .given .0 .0) (v .verdict2 .given .1)
+    v .before .before .before .before .before .before .pre .0 .fits (v .verdict2 .given .0 .0) (v .verdict2 .given .1)
+
+classes-requires : tie.Need-classes-requires
+classes-requires c κs = search needs
 
 slice-aggregate-two-5 : tie.Need-slice-aggregate-two-5
 slice-aggregate-two-5 c = search needs
@@ -58,6 +61,15 @@ slice-aggregate-two-6 c = search needs
 
 two-requires-3 : tie.Need-two-requires-3
 two-requires-3 c κs = search needs
+
+slice-aggregate-two-7 : tie.Need-slice-aggregate-two-7
+slice-aggregate-two-7 c = search needs
+
+slice-aggregate-two-8 : tie.Need-slice-aggregate-two-8
+slice-aggregate-two-8 c = search needs
+
+two-requires-4 : tie.Need-two-requires-4
+two-requires-4 c κs = search needs
 
 returns : tie.Need-returns
 returns c = search needs
@@ -84,8 +96,12 @@ print-report-spec =
     slice-aggregate-one-2
     one-requires-2
     vertices-requires
+    classes-requires
     slice-aggregate-two-5
     slice-aggregate-two-6
     two-requires-3
+    slice-aggregate-two-7
+    slice-aggregate-two-8
+    two-requires-4
     returns
     returns-2)

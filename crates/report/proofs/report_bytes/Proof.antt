@@ -1,6 +1,6 @@
--- The arrays are enough for any accepted game, and its vertices are few enough to print.
+-- The arrays are enough for any accepted game, and its vertices and classes are few enough to print.
 use native.Mathlib.Omega.{arith}
-use Rattle.report.specs.FindingsLaws.{reported-small}
+use Rattle.report.specs.FindingsLaws.{reported-small, reported-classes}
 use borrow.Author.Needs.{needs}
 use Rattle.report.proofs.report_bytes.Statement.{statement}
 use Rattle.report.proofs.report_bytes.Tie as tie
@@ -20,15 +20,28 @@ slice-aggregate-find-from-bytes-4 c = search needs
 slice-aggregate-find-from-bytes-5 : tie.Need-slice-aggregate-find-from-bytes-5
 slice-aggregate-find-from-bytes-5 c = search needs
 
+slice-aggregate-find-from-bytes-6 : tie.Need-slice-aggregate-find-from-bytes-6
+slice-aggregate-find-from-bytes-6 c = search needs
+
+slice-aggregate-find-from-bytes-7 : tie.Need-slice-aggregate-find-from-bytes-7
+slice-aggregate-find-from-bytes-7 c = search needs
+
 find-from-bytes-requires : tie.Need-find-from-bytes-requires
 find-from-bytes-requires c κs = search needs
 
 slice-aggregate-print-report : tie.Need-slice-aggregate-print-report
 slice-aggregate-print-report c = search needs
 
+slice-aggregate-print-report-2 : tie.Need-slice-aggregate-print-report-2
+slice-aggregate-print-report-2 c = search needs
+
+slice-aggregate-print-report-3 : tie.Need-slice-aggregate-print-report-3
+slice-aggregate-print-report-3 c = search needs
+
 print-report-requires : tie.Need-print-report-requires
 print-report-requires c κs =
-    reported-small _ _ _ _ (c .before .before .before .before .before .before .find-from-bytes .ensures) _ (omega arith)
+    let d = c .before .before .before .before .before .before .before .before .before .before .find-from-bytes .ensures in
+    (reported-small d _ (omega arith), (omega (arith, reported-classes d), omega (arith, reported-classes d)))
 
 returns : tie.Need-returns
 returns c = search needs
@@ -42,7 +55,11 @@ report-bytes-spec =
     slice-aggregate-find-from-bytes-3
     slice-aggregate-find-from-bytes-4
     slice-aggregate-find-from-bytes-5
+    slice-aggregate-find-from-bytes-6
+    slice-aggregate-find-from-bytes-7
     find-from-bytes-requires
     slice-aggregate-print-report
+    slice-aggregate-print-report-2
+    slice-aggregate-print-report-3
     print-report-requires
     returns)

@@ -1,19 +1,20 @@
--- The reader refuses, or both calls accept, since their memory is enough.
-use native.Mathlib.Omega.{arith}
-use Rattle.report.specs.FindingsLaws.{reported-refused, reported-accepted}
+-- The reader refuses, or the memory is filled, since it is enough, and the classes are counted.
+use Rattle.table.specs.WellFormed.{WellFormed}
+use Rattle.class_edges.specs.Rows.{gameBy}
+use Rattle.report.specs.FindingsLaws.{sized, table-fits, classes-fit, reported-refused, reduced-there, reported-accepted}
 use borrow.Author.Needs.{needs}
 use Rattle.report.proofs.findings.find.Statement.{statement}
 use Rattle.report.proofs.findings.find.Tie as tie
 
--- the places after the calls
-abbrev reduced-made : tie.After-counts-of → tie.After-write-reduced
-reduced-made c = c .before .before .before .before .before .before .before .before .before
+-- the entry, from where the reader has accepted, and what is known then
+abbrev start : tie.After-enum-told → tie.Start
+start c = c .before .before .before .before .before .before .before .before .before .before
 
-abbrev passes-counted : tie.After-write-reduced → tie.After-passes-of
-passes-counted c = c .before .before .before .before .before
+well : (c : tie.After-enum-told) → WellFormed (start c .args .game .now)
+well c = sized (c .enum-told .given .1) (c .before .before .read .ensures) .well
 
-abbrev order-made : tie.After-passes-of → tie.After-write-order
-order-made c = c .before .before .before .before .before
+abbrev told : tie.After-fill-memory → tie.After-enum-told
+told c = c .before .before .before .before .before
 
 read-requires : tie.Need-read-requires
 read-requires c κs = search needs
@@ -27,19 +28,18 @@ enum-told-2 c = search needs
 returns : tie.Need-returns
 returns c =
     let t = c .enum-told2 .given in
-    reported-refused _ _ _ (t .0 .0) (t .1) (c .before .before .read .ensures)
+    reported-refused _ _ _ _ _ (t .0 .0) (t .1) (c .before .before .read .ensures)
 
-write-order-requires : tie.Need-write-order-requires
-write-order-requires c κs = search needs
+fill-memory-requires : tie.Need-fill-memory-requires
+fill-memory-requires c κs = let t = c .before .before .before .before in table-fits (start t .pre) (well t)
 
-passes-of-requires : tie.Need-passes-of-requires
-passes-of-requires c κs = search needs
-
-write-reduced-requires : tie.Need-write-reduced-requires
-write-reduced-requires c κs = search needs
-
-counts-of-requires : tie.Need-counts-of-requires
-counts-of-requires c κs = search needs
+write-totals-requires : tie.Need-write-totals-requires
+unfolding gameBy
+write-totals-requires c κs =
+    let f = c .before .before .before .before .before .before .before .before .before .before .before .before .before in
+    let w = well (told f) in
+    let enough = start (told f) .pre in
+    (reduced-there (f .fill-memory .ensures) w, (classes-fit _ w _ (enough .membersFit), classes-fit _ w _ (enough .edgesFit)))
 
 same-length : tie.Need-same-length
 same-length c = search needs
@@ -53,25 +53,19 @@ same-length-3 c = search needs
 same-length-4 : tie.Need-same-length-4
 same-length-4 c = search needs
 
+same-length-5 : tie.Need-same-length-5
+same-length-5 c = search needs
+
+same-length-6 : tie.Need-same-length-6
+same-length-6 c = search needs
+
 returns-2 : tie.Need-returns-2
+unfolding gameBy
 returns-2 c =
-    let w = reduced-made c in
-    let p = passes-counted w in
-    let o = order-made p in
-    let t = o .before .before .before .enum-told .given in
-    let r = o .before .before .before .before .before in
-    let enough = r .before .before .before .before .before .before .pre in
-    reported-accepted _ _ _ _ _ _ _ _ _ _ _ _ (o .write-order .result) (w .write-reduced .result) enough
-    (record { marksFit = omega (arith, enough .marksFit); spareFit = omega (arith, enough .spareFit); classesFit = enough .classesFit; outputFit = enough .outputFit })
-    (o .write-order .ensures)
-    (w .write-reduced .ensures)
-    (t .0 .0)
-    (t .1)
-    (r .read .ensures)
-    _
-    (p .passes-of .ensures)
-    _
-    (c .counts-of .ensures)
+    let d = c .before .before .before .before in
+    let f = d .before .before .before .before .before .before .before .before .before .before .before .before .before .before in
+    let t = told f in
+    reported-accepted (f .fill-memory .ensures) (d .write-totals .ensures) _ _ (t .enum-told .given .1) (t .before .before .read .ensures)
 
 pub find-spec : {M : Type 1} → statement M
 find-spec =
@@ -81,12 +75,12 @@ find-spec =
     enum-told
     enum-told-2
     returns
-    write-order-requires
-    passes-of-requires
-    write-reduced-requires
-    counts-of-requires
+    fill-memory-requires
+    write-totals-requires
     same-length
     same-length-2
     same-length-3
     same-length-4
+    same-length-5
+    same-length-6
     returns-2)

@@ -39,10 +39,16 @@ same-length-4 c = search needs
 same-length-5 : tie.Need-same-length-5
 same-length-5 c = search needs
 
+same-length-6 : tie.Need-same-length-6
+same-length-6 c = search needs
+
+same-length-7 : tie.Need-same-length-7
+same-length-7 c = search needs
+
 returns : tie.Need-returns
 returns c =
-    let f = c .before .before .before .before .before .before .before .before in
-    let d = f .before .before .before .before .before .before .before .before .decode .ensures in
+    let f = c .before .before .before .before .before .before .before .before .before .before .before .before in
+    let d = f .before .before .before .before .before .before .before .before .before .before .decode .ensures in
     reported-same (decoded-words _ _ _ _ (d .0) (d .1)) (f .find .ensures)
 
 pub find-from-bytes-spec : {M : Type 1} → statement M
@@ -58,4 +64,6 @@ find-from-bytes-spec =
     same-length-3
     same-length-4
     same-length-5
+    same-length-6
+    same-length-7
     returns)
