@@ -91,11 +91,33 @@ fn report_program_and_oracle_agree() {
     let given: Vec<u32> = counts.keys().copied().collect();
     assert_eq!(given, [&[0], &REFUSALS[..]].concat());
     assert!(counts.values().all(|&count| count >= 8), "{counts:?}");
-    for trap in [Trap::HalfWordDropped, Trap::ReportUnlimited, Trap::ReportByTable] {
+    for trap in Trap::OF_REPORT {
         let misled = Oracle::with(trap);
         let differs = |(input, text): (&Vec<u8>, &String)| misled.report(input) != *text;
         let needed = inputs.iter().zip(&texts).position(differs);
         let needed = needed.unwrap_or_else(|| panic!("{trap:?} goes unnoticed")) + 1;
         say(format!("{trap:?}: reports needed {needed}"));
+    }
+}
+
+/// The numbers of each line that starts with the word.
+fn lines<'a>(text: &'a str, word: &'a str) -> impl Iterator<Item = Vec<usize>> + 'a {
+    let of_word = text.lines().filter(move |line| line.split(' ').next() == Some(word));
+    of_word.map(|line| line.split(' ').filter_map(|part| part.parse().ok()).collect())
+}
+
+#[test]
+fn totals_agree_with_the_other_lines() {
+    let program = rattle::built(root(), "bin/report", &["check", "report"]);
+    let mut lcg = Lcg::new(10);
+    for most in [1, 3, 8, 20, 60, 256].repeat(10) {
+        let text = report(&program, &bytes(&any_game(&mut lcg, most).words()));
+        let one = |word| lines(&text, word).next().expect("a line");
+        let classes: Vec<Vec<usize>> = lines(&text, "class").collect();
+        let sum = |place: usize| classes.iter().map(|line| line[place]).sum::<usize>();
+        assert!(classes.iter().enumerate().all(|(class, line)| line[0] == class), "{text}");
+        assert_eq!([classes.len()], one("classes")[..], "{text}");
+        assert_eq!(one("total"), [sum(1), sum(2)], "{text}");
+        assert_eq!(one("total"), [one("game")[0], one("reduced")[1]], "{text}");
     }
 }

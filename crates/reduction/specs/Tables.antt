@@ -2,7 +2,7 @@
 use mathlib.Core.Path.{_≡_}
 use mathlib.Core.List.{List, _∷_, _++_}
 use Prim.Native.Nat.{ℕ, _+_}
-use lib.ListN.{length, getD}
+use lib.ListN.{getD}
 use Rattle.theory.specs.Range.{tabulate}
 use Rattle.theory.specs.Game.{Game, edgeCount}
 use Rattle.table.specs.Table.{vertexCount, gameOf}

@@ -1,4 +1,4 @@
-// A part of this crate's calls; no host calls it.
+// A part of this crate's calls and of the report; no host calls it.
 // The table of a game of classes.
 use crate::TableCounts;
 use class_edges::listing::list_edges;
@@ -91,8 +91,7 @@ fn fill_table(
     }
 }
 
-// Writes all lent memory: the order, the classes and the table, over an index of the edges in local arrays of 8,706 bytes. Of all calls
-// that write such a table and of the report, which alone tells the passes.
+// Writes all lent memory: the order, the classes and the table, over an index of the edges in local arrays of 8,706 bytes.
 pub fn fill_memory(
     game: &[u16],
     marks: &mut [u8],

@@ -10,22 +10,24 @@ use Rattle.table.specs.Table.{vertexCount}
 use Rattle.table.specs.Verdict.{Answer, accepted, refused}
 use Rattle.table.specs.VerdictLaws.{after-clean, after-refused}
 use Rattle.table.specs.Reading.{gameRows, readAnswer, readingAnswer}
-use Rattle.table.specs.ReadingLaws.{read-accepted, reading-accepted, well-clean}
-use Rattle.table.specs.WellFormed.{WellFormed, WellSized}
+use Rattle.table.specs.ReadingLaws.{read-accepted, well-clean}
+use Rattle.table.specs.WellFormed.{WellFormed}
 use Rattle.table.specs.declared.Sizes.{Sizes}
 use Rattle.table.specs.declared.Refusal.{Refusal}
 use Rattle.table.specs.declared.Reading.{Reading}
 use Rattle.pairs.specs.Marks.{marksLength}
 use Rattle.classes.specs.ClassesCall.{classTotal, classWords}
 use Rattle.reduction.specs.TableRules.{TableFits}
+use Rattle.reduction.specs.TableCallLaws.{sized}
 use Rattle.reduction.specs.Tables.{TableDone}
 use Rattle.reduction.specs.declared.TableCounts.{TableCounts}
-use Rattle.totals.specs.Totals.{memberWords, edgeWords, Reduced, Totalled}
+use Rattle.totals.specs.Totals.{memberWords, edgeWords}
+use Rattle.totals.specs.Counting.{Tabulated, Totalled}
 use Rattle.totals.specs.CountingLaws.{few-classes}
 use Rattle.totals.specs.declared.Totals.{Totals}
 use Rattle.report.specs.declared.Report.{Report}
 use Rattle.report.specs.Findings.{number, Reported}
-use Rattle.report.specs.Verdicts.{Enough, AtMost}
+use Rattle.report.specs.Room.{Enough, AtMost}
 
 pub number-accepted : {a : Answer} {counts : List ℕ} (x : ℕ) → a ≡ accepted counts → number a x ≡ x
 unfolding number
@@ -37,10 +39,6 @@ number-refused x e = rw e
 
 marks-fit : (g : List ℕ) → WellFormed g → marksLength (vertexCount g) ≤ marksLength vertexLimit
 marks-fit g w = mul-le-mul (w .vertices) (w .vertices)
-
--- the reader accepted
-pub sized : {g : List ℕ} {v : Reading} {c : Sizes} → v ≡ Reading.Accepted c → readingAnswer v ≡ readAnswer g → WellSized g c
-sized {g} h e = reading-accepted g _ (rw h at e)
 
 pub table-fits : {g marks spare output classes members edges : List ℕ} → Enough marks spare output classes members edges → WellFormed g
     → TableFits g marks spare classes output
@@ -79,8 +77,8 @@ reported-refused g classes members edges v f h e =
 -- the reader accepts: the memory is filled, and the classes are counted
 module _ {g marks spare classes output : List ℕ} {passes : ℕ} {counts : TableCounts} {marks′ spare′ classes′ output′ : List ℕ}
     (made : TableDone reduced g marks spare classes output passes counts marks′ spare′ classes′ output′) where
-  pub reduced-there : WellFormed g → Reduced g classes′ output′
-  reduced-there w = record { well = w; old-classes = classes; classes-are = made .table .classes-after; old-table = output; table-is = made .table .output-after }
+  pub tabulated : WellFormed g → Tabulated g classes′ output′
+  tabulated w = record { well = w; old-classes = classes; classes-are = made .table .classes-after; old-table = output; table-is = made .table .output-after }
 
   pub reported-accepted : {members members′ edges edges′ : List ℕ} {totals : Totals} → Totalled g members edges totals members′ edges′
       → (v : Reading) (c : Sizes) → v ≡ Reading.Accepted c → readingAnswer v ≡ readAnswer g

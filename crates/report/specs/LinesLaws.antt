@@ -15,12 +15,13 @@ use Rattle.table.specs.ReadingLaws.{well-clean}
 use Rattle.table.specs.declared.Sizes.{Sizes}
 use Rattle.table.specs.declared.Reading.{Reading}
 use Rattle.classes.specs.ClassesCall.{classTotal}
+use Rattle.reduction.specs.TableCallLaws.{sized}
 use Rattle.totals.specs.Totals.{memberWords, edgeWords, memberTotal, edgeTotal}
 use Rattle.totals.specs.TotalsLaws.{member-total-all, edge-total-all}
 use Rattle.totals.specs.CountingLaws.{sum-written}
 use Rattle.report.specs.declared.Report.{Report}
 use Rattle.report.specs.Findings.{number, Reported}
-use Rattle.report.specs.FindingsLaws.{number-accepted, sized}
+use Rattle.report.specs.FindingsLaws.{number-accepted}
 
 module _ {g classes members edges classes′ members′ edges′ : List ℕ} {r : Report} (d : Reported g classes members edges r classes′ members′ edges′) where
   -- the edges of `total` are those of `reduced`, whatever the verdict

@@ -5,12 +5,11 @@ use reduction::tables::fill_memory;
 use table::Reading;
 use totals::Totals;
 use totals::write_totals;
-ghost use mathlib.Core.Path.{_≡_};
 ghost use Prim.Native.Nat.{_*_, _≤_};
 ghost use lib.ListN.{length};
 ghost use Rattle.report.specs.Words.{readLimit, wordsOf};
 ghost use Rattle.report.specs.Findings.{Reported};
-ghost use Rattle.report.specs.Verdicts.{Enough};
+ghost use Rattle.report.specs.Room.{Enough};
 
 // Judges the game, counts the passes, classes and the reduced game's vertices and edges, writes the class of each vertex and the members
 // and edges of each class, and sums these up. The other buffers are working memory. All are enough for any game that the reader accepts.

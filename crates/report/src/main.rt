@@ -12,7 +12,7 @@ use totals::Totals;
 ghost use Prim.Native.Nat.{_*_, _≤_};
 ghost use lib.ListN.{length};
 ghost use Rattle.report.specs.Words.{readLimit};
-ghost use Rattle.report.specs.Verdicts.{AtMost};
+ghost use Rattle.report.specs.Room.{AtMost};
 
 // Reading stops after a word more than the longest table has.
 const READ_WORDS: usize = TABLE_WORDS + 1;

@@ -1,6 +1,6 @@
 -- The members of all classes are the game's vertices, and the edges of all vertices the game's edges.
 use mathlib.Core.Path.{_≡_, sym, _∙_}
-use Prim.Native.Nat.{ℕ, _/_, _%_}
+use Prim.Native.Nat.{_/_, _%_}
 use lib.Arith.{digits-div, digits-mod}
 use Rattle.theory.specs.Range.{sum}
 use Rattle.theory.specs.CountLaws.{count-ext}

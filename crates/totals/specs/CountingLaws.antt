@@ -18,7 +18,7 @@ use Rattle.theory.specs.ClassLaws.{classCount-le, classNumber-lt}
 use Rattle.theory.specs.QuotientLaws.{order-preorder}
 use Rattle.theory.specs.SizeLaws.{reduced-edges}
 use Rattle.theory.specs.Totals.{memberCount, outDegree}
-use Rattle.table.specs.Limits.{vertexLimit, linkLimit}
+use Rattle.table.specs.Limits.{vertexLimit}
 use Rattle.table.specs.Table.{vertexCount, tableEdges, sourceAt, gameOf}
 use Rattle.table.specs.TableLaws.{edges-listed}
 use Rattle.table.specs.Verdict.{written}
@@ -28,7 +28,8 @@ use Rattle.table.specs.TableWordsLaws.{length-tableWords, length-edgesOf, edges
 use Rattle.index.specs.Index.{from, sourceCount, Column}
 use Rattle.classes.specs.ClassesCall.{classTotal, classWords}
 use Rattle.reduction.specs.TableCall.{classTable}
-use Rattle.totals.specs.Totals.{memberWords, edgeWords, memberTotal, edgeTotal, Reduced, Totalled}
+use Rattle.totals.specs.Totals.{memberWords, edgeWords, memberTotal, edgeTotal}
+use Rattle.totals.specs.Counting.{Tabulated, Totalled}
 
 -- the first words of a buffer, and how many there are at least
 length-written-ge : (new old : List ℕ) → length new ≤ length (written new old)
@@ -44,7 +45,7 @@ pub few-classes : (game : List ℕ) → classTotal game ≤ vertexCount game
 unfolding classTotal gameOf
 few-classes game = classCount-le (vertexCount game) (order (gameOf game)) (order-preorder (gameOf game))
 
-module _ {game classes table : List ℕ} (r : Reduced game classes table) where
+module _ {game classes table : List ℕ} (r : Tabulated game classes table) where
   abbrev K : Game
   K = reduced (gameOf game)
 

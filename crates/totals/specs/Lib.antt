@@ -1,3 +1,4 @@
 pub mod Totals
 pub mod TotalsLaws
+pub mod Counting
 pub mod CountingLaws

@@ -10,7 +10,7 @@ ghost use Rattle.table.specs.Limits.{vertexLimit};
 ghost use Rattle.table.specs.Verdict.{written};
 ghost use Rattle.index.specs.Index.{from, sourceCount, Column};
 ghost use Rattle.classes.specs.ClassesCall.{classTotal};
-ghost use Rattle.totals.specs.Totals.{Reduced, Totalled};
+ghost use Rattle.totals.specs.Counting.{Tabulated, Totalled};
 
 // The sums over all classes.
 pub struct Totals {
@@ -52,7 +52,7 @@ pub fn write_totals(
     members: &mut [u16],
     edges: &mut [u16],
 ) -> Totals
-    requires { ⌜ Reduced (now game) (now classes) (now reduced) ⌝ }
+    requires { ⌜ Tabulated (now game) (now classes) (now reduced) ⌝ }
     requires { ⌜ (classTotal (now game) ≤ length (now members)) × (classTotal (now game) ≤ length (now edges)) ⌝ }
     ensures { λ r. ⌜ Totalled (now (game .entry)) (now (members .entry)) (now (edges .entry)) r (now (members .exit)) (now (edges .exit)) ⌝ }
 {

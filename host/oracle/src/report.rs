@@ -1,6 +1,6 @@
 //! What the report program prints.
 
-use crate::{Game, Oracle, Refusal, Trap};
+use crate::{Classes, Game, Oracle, Refusal, Trap};
 use std::fmt::Write;
 
 const MOST_WORDS: usize = 8707;
@@ -25,7 +25,8 @@ impl Oracle {
     fn report_on(&self, game: &Game) -> String {
         let (order, passes) = self.order_of(game);
         let classes = self.classes_of(game, &order);
-        let reduced = self.reduced_of(&self.quotient_of(game, &classes), &classes, &order);
+        let quotient = self.quotient_of(game, &classes);
+        let reduced = self.reduced_of(&quotient, &classes, &order);
         let by_m = self.falls_for(Trap::ReportByTable);
         let edges = if by_m { game.m() } else { self.different(game) };
         let mut text = format!("game {} {edges}\n", game.n());
@@ -34,7 +35,31 @@ impl Oracle {
         for (vertex, class) in classes.of.iter().enumerate() {
             writeln!(text, "vertex {vertex} class {class}").unwrap();
         }
+        let lines = self.class_lines(&classes, &quotient, &reduced);
+        for (class, (members, edges)) in lines.iter().enumerate() {
+            writeln!(text, "class {class} members {members} edges {edges}").unwrap();
+        }
+        let summed = lines.len() - self.falls_for(Trap::ClassLeftOut) as usize;
+        let members: usize = lines[..summed].iter().map(|line| line.0).sum();
+        let edges: usize = lines[..summed].iter().map(|line| line.1).sum();
+        writeln!(text, "total {members} {edges}").unwrap();
         writeln!(text, "reduced {} {}", reduced.n(), reduced.m()).unwrap();
         text
+    }
+
+    /// The members of each class, and its edges in the reduced game.
+    fn class_lines(
+        &self,
+        classes: &Classes,
+        quotient: &Game,
+        reduced: &Game,
+    ) -> Vec<(usize, usize)> {
+        let game = if self.falls_for(Trap::QuotientEdgesOfClass) { quotient } else { reduced };
+        let into = self.falls_for(Trap::EdgesToClass);
+        let leaves = |edge: &&(usize, usize), c| if into { edge.1 == c } else { edge.0 == c };
+        let alone = self.falls_for(Trap::LowestMemberCounted);
+        let members = |c: usize| if alone { 1 } else { classes.members[c].len() };
+        let edges = |c: usize| game.edges.iter().filter(|edge| leaves(edge, c)).count();
+        (0..classes.count()).map(|c| (members(c), edges(c))).collect()
     }
 }

@@ -201,11 +201,19 @@ pub enum Trap {
     ReportUnlimited,
     /// The report's first line counts the edges in the table.
     ReportByTable,
+    /// The report's classes have their edges in the quotient.
+    QuotientEdgesOfClass,
+    /// The report's classes have the edges that lead to them.
+    EdgesToClass,
+    /// The report's classes have their lowest member alone.
+    LowestMemberCounted,
+    /// The report's totals leave the last class out.
+    ClassLeftOut,
 }
 
 impl Trap {
-    /// Every trap, those of document 01 first.
-    pub const ALL: [Trap; 93] = [
+    /// The traps of the calls, those of document 01 first.
+    pub const OF_CALLS: [Trap; 90] = [
         Trap::SomeMemberHasEdge,
         Trap::LittleBrothersByProse,
         Trap::MixedRowsExchanged,
@@ -296,8 +304,16 @@ impl Trap {
         Trap::LongTraceAccepted,
         Trap::EntriesInPairs,
         Trap::KindsWithoutGaps,
+    ];
+
+    /// The traps of the report program, which its own test tries.
+    pub const OF_REPORT: [Trap; 7] = [
         Trap::HalfWordDropped,
         Trap::ReportUnlimited,
         Trap::ReportByTable,
+        Trap::QuotientEdgesOfClass,
+        Trap::EdgesToClass,
+        Trap::LowestMemberCounted,
+        Trap::ClassLeftOut,
     ];
 }

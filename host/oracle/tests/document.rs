@@ -273,7 +273,8 @@ fn refusals_to_carry() {
 fn report_of_b() {
     let bytes: Vec<u8> = B.iter().flat_map(|word| word.to_le_bytes()).collect();
     let text = "game 3 3\npasses 1\nclasses 2\n\
-                vertex 0 class 0\nvertex 1 class 1\nvertex 2 class 0\nreduced 2 2\n";
+                vertex 0 class 0\nvertex 1 class 1\nvertex 2 class 0\n\
+                class 0 members 2 edges 1\nclass 1 members 1 edges 1\ntotal 3 2\nreduced 2 2\n";
     assert_eq!(Oracle::exact().report(&bytes), text);
     assert_eq!(Oracle::exact().report(&bytes[..27]), text, "a last half word gets high byte 0");
     assert_eq!(Oracle::exact().report(&[1, 0, 0, 0, 0, 0, 0, 0]), "refused 8 at 0\n");

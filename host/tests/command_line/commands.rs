@@ -3,6 +3,7 @@
 use crate::common::root;
 use crate::games::{B, C, CARRIED, D, TABLES};
 use crate::run::{bytes, file, numbers, run, run_on, shipped, words};
+use generator::{any_game, Lcg};
 use oracle::{Memory, Oracle};
 use std::process::Command;
 
@@ -41,6 +42,11 @@ fn report_is_the_report_programs() {
         assert_eq!(run(&["report", &path(name)]).text(), text);
         assert_eq!(run_on(&["report"], &words).text(), text, "from standard input");
         assert_eq!(run_on(&["report", "-"], &words[..words.len() - 1]).text(), text, "half a word");
+    }
+    let mut lcg = Lcg::new(10);
+    for most in [3, 8, 20, 60, 256].repeat(8) {
+        let words = bytes(&any_game(&mut lcg, most).words());
+        assert_eq!(run_on(&["report"], &words).text(), Oracle::exact().report(&words));
     }
 }
 

@@ -8,10 +8,6 @@ use oracle::{Oracle, Trap};
 /// A misreading that so many games don't show would go unnoticed.
 const MOST_GAMES: usize = 3000;
 
-/// The misreadings of the report program, which its own test tries.
-const OF_THE_REPORT: [Trap; 3] =
-    [Trap::HalfWordDropped, Trap::ReportUnlimited, Trap::ReportByTable];
-
 /// The number of games, from the first of a seed, until the library differs from an oracle that
 /// falls for the trap.
 fn games_needed(trap: Trap) -> Option<usize> {
@@ -28,7 +24,7 @@ fn numbers_needed(trap: Trap) -> Option<usize> {
 
 #[test]
 fn each_trap_is_noticed() {
-    for trap in Trap::ALL.into_iter().filter(|trap| !OF_THE_REPORT.contains(trap)) {
+    for trap in Trap::OF_CALLS {
         let (needed, unit) = match trap {
             Trap::KindsWithoutGaps => (numbers_needed(trap), "numbers"),
             _ => (games_needed(trap), "games"),

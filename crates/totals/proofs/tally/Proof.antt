@@ -1,7 +1,5 @@
 -- The local array holds a count for as many classes as there can be vertices.
 use mathlib.Core.Path.{_∙_}
-use lib.ListN.{getD}
-use native.Mathlib.Omega.{arith}
 use Rattle.theory.specs.ListLaws.{zeros, tabulate-ext}
 use Rattle.table.specs.Limits.{vertexLimit}
 use Rattle.table.specs.PlacingLaws.{placed-written}

@@ -50,6 +50,14 @@ pub fn report(arguments: &Arguments) -> Written {
     for (vertex, class) in classes.iter().enumerate() {
         report += &format!("vertex {vertex} class {class}\n");
     }
+    let (mut all_members, mut all_edges) = (0, 0);
+    for (class, members) in members(classes).iter().map(Vec::len).enumerate() {
+        let sources = reduced.table().ends().0.iter();
+        let edges = sources.filter(|&&source| source as usize == class).count();
+        report += &format!("class {class} members {members} edges {edges}\n");
+        (all_members, all_edges) = (all_members + members, all_edges + edges);
+    }
+    report += &format!("total {all_members} {all_edges}\n");
     report += &format!("reduced {} {}\n", reduced.table().n(), reduced.table().m());
     Ok(report.into())
 }

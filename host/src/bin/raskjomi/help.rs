@@ -63,11 +63,12 @@ pub const COMMANDS: [Command; 14] = [
     Command {
         name: "report",
         usage: "report [GAME] [--vertex V]",
-        summary: "sizes, passes, the class of each vertex and the reduced game's sizes",
+        summary: "sizes, passes, the class of each vertex, the classes and the totals",
         details:
-            "The first line has the number of vertices and the number of different edges. With \
-                  --vertex, one sentence on the vertex instead: its class, who else is in it, and \
-                  what that means for a win.",
+            "The first line has the number of vertices and the number of different edges. A line \
+                  for each class has its members and its edges in the reduced game, and `total` \
+                  their sums. With --vertex, one sentence on the vertex instead: its class, who \
+                  else is in it, and what that means for a win.",
         example: "./raskjomi report games/b.txt --vertex 2",
         files: 0..=1,
         options: &[Opt { name: "--vertex", value: Some("a vertex") }],

@@ -1,7 +1,8 @@
 -- The reader refuses, or the memory is filled, since it is enough, and the classes are counted.
 use Rattle.table.specs.WellFormed.{WellFormed}
 use Rattle.class_edges.specs.Rows.{gameBy}
-use Rattle.report.specs.FindingsLaws.{sized, table-fits, classes-fit, reported-refused, reduced-there, reported-accepted}
+use Rattle.reduction.specs.TableCallLaws.{sized}
+use Rattle.report.specs.FindingsLaws.{table-fits, classes-fit, reported-refused, tabulated, reported-accepted}
 use borrow.Author.Needs.{needs}
 use Rattle.report.proofs.findings.find.Statement.{statement}
 use Rattle.report.proofs.findings.find.Tie as tie
@@ -39,7 +40,7 @@ write-totals-requires c κs =
     let f = c .before .before .before .before .before .before .before .before .before .before .before .before .before in
     let w = well (told f) in
     let enough = start (told f) .pre in
-    (reduced-there (f .fill-memory .ensures) w, (classes-fit _ w _ (enough .membersFit), classes-fit _ w _ (enough .edgesFit)))
+    (tabulated (f .fill-memory .ensures) w, (classes-fit _ w _ (enough .membersFit), classes-fit _ w _ (enough .edgesFit)))
 
 same-length : tie.Need-same-length
 same-length c = search needs
