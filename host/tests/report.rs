@@ -10,13 +10,20 @@ use generator::{any_game, damaged, random, Lcg, Table, REFUSALS};
 use oracle::{Oracle, Trap};
 use std::collections::BTreeMap;
 use std::io::Write;
-use std::path::Path;
+use std::path::{Path, PathBuf};
 use std::process::{Command, Stdio};
+use std::sync::OnceLock;
 use std::thread;
 
+/// The program, built once for all tests.
+fn program() -> &'static Path {
+    static PROGRAM: OnceLock<PathBuf> = OnceLock::new();
+    PROGRAM.get_or_init(|| rattle::built(root(), "bin/report", &["check", "report"]))
+}
+
 /// What the program prints for the input. It may stop reading before the input ends.
-fn report(program: &Path, input: &[u8]) -> String {
-    let mut child = Command::new(program)
+fn report(input: &[u8]) -> String {
+    let mut child = Command::new(program())
         .stdin(Stdio::piped())
         .stdout(Stdio::piped())
         .spawn()
@@ -79,9 +86,8 @@ fn number(text: &str) -> u32 {
 
 #[test]
 fn report_program_and_oracle_agree() {
-    let program = rattle::built(root(), "bin/report", &["check", "report"]);
     let inputs = inputs();
-    let texts: Vec<String> = inputs.iter().map(|input| report(&program, input)).collect();
+    let texts: Vec<String> = inputs.iter().map(|input| report(input)).collect();
     let mut counts = BTreeMap::new();
     for (input, text) in inputs.iter().zip(&texts) {
         assert_eq!(*text, Oracle::exact().report(input), "on {} bytes", input.len());
@@ -108,10 +114,9 @@ fn lines<'a>(text: &'a str, word: &'a str) -> impl Iterator<Item = Vec<usize>> +
 
 #[test]
 fn totals_agree_with_the_other_lines() {
-    let program = rattle::built(root(), "bin/report", &["check", "report"]);
     let mut lcg = Lcg::new(10);
     for most in [1, 3, 8, 20, 60, 256].repeat(10) {
-        let text = report(&program, &bytes(&any_game(&mut lcg, most).words()));
+        let text = report(&bytes(&any_game(&mut lcg, most).words()));
         let one = |word| lines(&text, word).next().expect("a line");
         let classes: Vec<Vec<usize>> = lines(&text, "class").collect();
         let sum = |place: usize| classes.iter().map(|line| line[place]).sum::<usize>();
