@@ -1,6 +1,6 @@
 -- Games that agree but for their priorities have the same order, passes, classes and edges between classes; where the map of the
 -- priorities keeps parity, they have the same winners. Games that agree in all are one game as far as vertices go.
-use mathlib.Core.Path.{_≡_, refl, sym, ap, ap₂, _∙_}
+use mathlib.Core.Path.{_≡_, refl, sym, ap, ap₂, _∙_, subst}
 use mathlib.Core.Logic.{_↔_}
 use mathlib.Core.Bool.{Bool, true, false, not, So}
 use mathlib.Core.List.{List}
@@ -18,6 +18,7 @@ use Rattle.theory.specs.LinkLaws.{pairsOf-ext}
 use Rattle.theory.specs.Passes.{Marks, marked, Rel, relOf, pairStart, pairTest}
 use Rattle.theory.specs.PassesLaws.{passCount-ext, finalMarks-ext}
 use Rattle.theory.specs.Game.{Player, even, same, parity, Game, own, Succ, edgeCount}
+use Rattle.theory.specs.Simulation.{Moves, PassesTest, Simulation}
 use Rattle.theory.specs.Order.{allNext, anyNext, moves, equalPriority, test, orderMarks, order, orderPasses, marksBetween}
 use Rattle.theory.specs.Plan.{Plan, linked, Walk, seen, WinsBy, Wins, Won}
 use Rattle.theory.specs.ParityMap.{ParityMap}
@@ -108,6 +109,17 @@ agree-wins a G K e P v = agreeBy-wins e (parity-same min) (λ v h. tt) a P v .0
 
 pub agree-winner : (a : Player) (G K : Game) → Agree G K → (v : ℕ) → Won a G v ↔ Won a K v
 agree-winner a G K e v = (λ (P, win). (P, agree-wins a G K e P v win), λ (P, win). (P, agree-wins a K G (agree-sym e) P v win))
+
+-- ---- games that agree in all simulate each other, each vertex itself
+
+pub agree-simulation : (a : Player) {G K : Game} → Agree G K → Simulation a G K (λ v w. v ≡ w)
+unfolding Moves
+agree-simulation a {G} {K} e v w hv hw q =
+    subst (λ (x : ℕ). PassesTest a G K (λ v w. v ≡ w) v x) q (record { equal = e .priority v hv; moves = rw (← e .owner v hv) (go (own G a v)) })
+  where
+    go : (o : Bool) → Moves o o (Succ G v) (Succ K v) (λ v w. v ≡ w)
+    go true = λ x s. (x, graph-succ (graph e) v x hv s, refl)
+    go false = λ x s. (x, graph-succ (graph-sym (graph e)) v x (rw (← e .size) hv) s, refl)
 
 -- ---- edges, as a count and as a list
 

@@ -47,8 +47,11 @@ pub mod ParityMap
 pub mod ParityMapLaws
 pub mod Agreement
 pub mod AgreementLaws
+pub mod Minimal
+pub mod MinimalLaws
 pub mod PlanTest
 pub mod PlanTestLaws
 pub mod Compute
 pub mod Examples
 pub mod CarryExamples
+pub mod MinimalExamples
