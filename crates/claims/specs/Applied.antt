@@ -1,15 +1,19 @@
 -- The theorems of `Demands` applied to game D, whose vertices 0 and 5 are class 0, and to a game of Odd's: games that a reader can follow.
 use mathlib.Core.Path.{refl, sym}
+use mathlib.Core.Bool.{So}
 use mathlib.Core.List.{List, [], _∷_}
 use Prim.Native.Nat.{ℕ}
 use native.Mathlib.Omega.{arith}
 use lib.ListN.{replicate}
-use Rattle.theory.specs.Game.{even, odd}
+use Rattle.theory.specs.Game.{even, odd, Game}
 use Rattle.theory.specs.Plan.{Plan, Wins, Won}
 use Rattle.theory.specs.PlanTestLaws.{surely-wins}
 use Rattle.theory.specs.Reduction.{reduced}
 use Rattle.theory.specs.Compute.{compute}
-use Rattle.theory.specs.Examples.{classPlan}
+use Rattle.theory.specs.Examples.{classPlan, gameC}
+use Rattle.theory.specs.Minimal.{represents, AtLeast}
+use Rattle.theory.specs.MinimalLaws.{represents-out}
+use Rattle.theory.specs.MinimalExamples.{turned}
 use Rattle.table.specs.Table.{gameOf, playerOf, isEdge}
 use Rattle.table.specs.Verdict.{Answer, accepted, judge, Clean, written, after}
 use Rattle.table.specs.VerdictLaws.{judge-accepted}
@@ -21,6 +25,7 @@ use Rattle.classes.specs.ClassesCall.{classRows, classTotal, classWords}
 use Rattle.reduction.specs.TableCall.{tableRows, TableCall}
 use Rattle.claims.specs.Written.{LeavesOrder}
 use Rattle.claims.specs.Demands.{table-leaves-marks, even-up, odd-down, reduced-faithful, table-winner}
+use Rattle.claims.specs.SmallestLaws.{table-least}
 
 -- D: C with vertex 5, priority 2, Even's, edge to 2
 abbrev pub gameD : List ℕ
@@ -113,3 +118,21 @@ plan-1 = surely-wins odd _ oddPlan 1 refl
 
 pub down-0 : Won odd (gameOf gameO) 0
 down-0 = odd-down leftO passedO 0 1 (omega arith) (omega arith) refl (oddPlan, plan-1)
+
+-- ---- CR 11: the 5 vertices and 6 edges of D's verdict are at most those of D itself, of C, which has an edge more, and of a game with a
+-- vertex more that has no edge
+
+pub D-least : (H : Game) → So (represents H (gameOf gameD)) → AtLeast 5 6 H
+D-least H t = table-least callD 5 5 6 refl H (represents-out H (gameOf gameD) t)
+
+pub least-itself : AtLeast 5 6 (gameOf gameD)
+unfolding compute gameOf playerOf isEdge
+least-itself = D-least (gameOf gameD) refl
+
+pub least-C : AtLeast 5 6 (gameC even)
+unfolding compute gameOf playerOf isEdge gameC
+least-C = D-least (gameC even) refl
+
+pub least-turned : AtLeast 5 6 turned
+unfolding compute gameOf playerOf isEdge turned
+least-turned = D-least turned refl

@@ -126,14 +126,15 @@ module _ {K : Game → Game} (faithful : Faithful K)
   abbrev G : Game
   G = gameOf game
 
-  record Counts : Type 0 where
-    vertices : K G .n ≡ n
-    edges : edgeCount (K G) ≡ e
+  -- the verdict's counts
+  pub record Counts : Type 0 where
+    pub vertices : K G .n ≡ n
+    pub edges : edgeCount (K G) ≡ e
 
   abbrev es : List (ℕ × ℕ)
   es = edgesOf (K G)
 
-  counts : Counts
+  pub counts : Counts
   counts =
       let a = judge-accepted (tableRows game marks spare classes output) _ _ (sym (call .verdict) ∙ accepts) in
       record { vertices = cc (a .1); edges = cc (a .1) }
@@ -147,7 +148,7 @@ module _ {K : Game → Game} (faithful : Faithful K)
   well : WellFormed game
   well = table-accepted call _ accepts .0 .classesFit .orderFits .game
 
-  table-is : writtenTable n e output′ ≡ tableWords (K G) es
+  pub table-is : writtenTable n e output′ ≡ tableWords (K G) es
   unfolding written
   table-is =
       rw (call .output-after, after-clean (tableRows game marks spare classes output) (tableWords (K G) es) output passed)

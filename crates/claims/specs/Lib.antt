@@ -4,4 +4,6 @@ pub mod Written
 pub mod Demands
 pub mod Sentences
 pub mod SentencesLaws
+pub mod Smallest
+pub mod SmallestLaws
 pub mod Applied
