@@ -27,5 +27,5 @@ pub record AtLeast (n e : ℕ) (H : Game) : Type 0 where
 
 -- K represents g, and every game that does is at least as large
 pub record Smallest (g K : Game) : Type 1 where
-  pub represents-it : Represents K g
+  pub itself : Represents K g
   pub least : (H : Game) → Represents H g → AtLeast (K .n) (edgeCount K) H

@@ -209,7 +209,7 @@ module _ (g : Game) where
   -- as small as can be
   pub reduced-smallest : Smallest g (reduced g)
   reduced-smallest = record {
-    represents-it = reduced-represents;
+    itself = reduced-represents;
     least = λ H f.
         lean-least (reduced g) H (record { apart = reduced-apart; kept = reduced-kept })
         (represents-trans {G₁ = reduced g} {G₂ = g} {G₃ = H} reduced-represented f);
