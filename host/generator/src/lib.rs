@@ -12,6 +12,7 @@ mod relations;
 mod repeats;
 mod sample;
 mod seeds;
+mod small;
 mod solver;
 mod table;
 
@@ -25,5 +26,6 @@ pub use relations::relation;
 pub use repeats::{repeated, same_game};
 pub use sample::{any_game, bent_plan, old_bytes, old_words};
 pub use seeds::{seed_numbers, SEED_LIMITS};
+pub use small::small_games;
 pub use solver::{solve, Solution};
 pub use table::Table;

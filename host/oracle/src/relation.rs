@@ -65,13 +65,18 @@ impl Oracle {
 
     /// The order and the number of its passes.
     pub fn order_of(&self, game: &Game) -> (Relation, u32) {
+        self.order_between(game, game)
+    }
+
+    /// The same between two games: v of `left` is below w of `right`.
+    pub fn order_between(&self, left: &Game, right: &Game) -> (Relation, u32) {
         let all = self.falls_for(Trap::PassZeroMarksAll);
-        let alike = |v: usize, w: usize| all || game.priority[v] == game.priority[w];
-        let mut marks = Relation::of(game.n(), game.n(), alike);
+        let alike = |v: usize, w: usize| all || left.priority[v] == right.priority[w];
+        let mut marks = Relation::of(left.n(), right.n(), alike);
         let mut passes = 0;
         loop {
             passes += 1;
-            let next = self.pass(game, &marks);
+            let next = self.pass(left, right, &marks);
             if next == marks {
                 let last = self.falls_for(Trap::LastPassUncounted) as u32;
                 return (marks, passes - last);
@@ -80,13 +85,23 @@ impl Oracle {
         }
     }
 
+    /// Whether each vertex of `game` has a vertex of `other` that is below it and that it is below.
+    pub fn represents(&self, other: &Game, game: &Game) -> bool {
+        let up = self.order_between(game, other).0;
+        let all_below_some = (0..game.n()).all(|v| (0..other.n()).any(|x| up.has(v, x)));
+        all_below_some && {
+            let down = self.order_between(other, game).0;
+            (0..game.n()).all(|v| (0..other.n()).any(|x| up.has(v, x) && down.has(x, v)))
+        }
+    }
+
     /// The marks without those pairs that fail the test under them.
-    fn pass(&self, game: &Game, marks: &Relation) -> Relation {
+    fn pass(&self, left: &Game, right: &Game, marks: &Relation) -> Relation {
         let mut next = marks.clone();
         for (v, w) in marks.pairs() {
             let at_once = self.falls_for(Trap::UnmarkDuringPass);
             let before = if at_once { &next } else { marks };
-            if !self.test(game, game, v, w, before) {
+            if !self.test(left, right, v, w, before) {
                 next.unmark(v, w);
             }
         }

@@ -14,27 +14,49 @@ fn game(table: &Table) -> Game {
     exact().game(&table.words()).expect("the generator's games are accepted")
 }
 
-/// The union of all direct simulations, by trying each relation.
-fn below_by_enumeration(game: &Game) -> Relation {
-    let n = game.n();
-    let mut union = vec![false; n * n];
-    for set in 0..1u32 << (n * n) {
-        let h = Relation::of(n, n, |v, w| set >> (v * n + w) & 1 == 1);
-        if exact().simulation(game, game, &h) {
-            h.pairs().for_each(|(v, w)| union[v * n + w] = true);
+/// The union of all direct simulations between two games, by trying each relation.
+fn below_by_enumeration(left: &Game, right: &Game) -> Relation {
+    let (n, k) = (left.n(), right.n());
+    let mut union = vec![false; n * k];
+    for set in 0..1u32 << (n * k) {
+        let h = Relation::of(n, k, |v, w| set >> (v * k + w) & 1 == 1);
+        if exact().simulation(left, right, &h) {
+            h.pairs().for_each(|(v, w)| union[v * k + w] = true);
         }
     }
-    Relation::of(n, n, |v, w| union[v * n + w])
+    Relation::of(n, k, |v, w| union[v * k + w])
+}
+
+/// A game of up to 3 vertices and 2 priorities.
+fn small(lcg: &mut Lcg) -> Game {
+    let n = lcg.between(1, 3);
+    let m = lcg.between(n, n * n);
+    game(&random(lcg, n, m, 2))
+}
+
+/// Such a game without some of its edges, so that it need not be total.
+fn without_some_edges(lcg: &mut Lcg) -> Game {
+    let game = small(lcg);
+    let edges = game.listed.iter().copied().filter(|_| lcg.below(3) > 0).collect();
+    Game::new(game.priority, game.owner, edges)
 }
 
 #[test]
 fn order_is_the_union_of_all_direct_simulations() {
     let mut lcg = Lcg::new(1);
     for _ in 0..1500 {
-        let n = lcg.between(1, 3);
-        let m = lcg.between(n, n * n);
-        let game = game(&random(&mut lcg, n, m, 2));
-        assert_eq!(exact().order_of(&game).0, below_by_enumeration(&game), "{game:?}");
+        let game = small(&mut lcg);
+        assert_eq!(exact().order_of(&game).0, below_by_enumeration(&game, &game), "{game:?}");
+    }
+}
+
+#[test]
+fn order_between_two_games_is_the_union_of_all_direct_simulations() {
+    let mut lcg = Lcg::new(11);
+    for _ in 0..1500 {
+        let (left, right) = (small(&mut lcg), without_some_edges(&mut lcg));
+        let order = exact().order_between(&left, &right).0;
+        assert_eq!(order, below_by_enumeration(&left, &right), "{left:?} {right:?}");
     }
 }
 

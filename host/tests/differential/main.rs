@@ -12,6 +12,7 @@ mod edits;
 mod families;
 mod limits;
 mod previews;
+mod minimal;
 mod repeats;
 mod replays;
 mod samples;

@@ -5,7 +5,7 @@ use generator::{any_game, solve, Lcg, Solution, Table};
 use oracle::Memory;
 
 /// The reduced game and the class of each vertex, by the library.
-fn reduced(table: &Table) -> (Table, Vec<u16>) {
+pub fn reduced(table: &Table) -> (Table, Vec<u16>) {
     let Memory { mut marks, mut spare, mut classes, mut output, .. } = exact_memory(table);
     raskjomi::reduce(&table.words(), &mut marks, &mut spare, &mut classes, &mut output)
         .expect("a whole game and memory of the right lengths");
