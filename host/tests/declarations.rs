@@ -73,7 +73,8 @@ fn declared(parameter: &str) -> Vec<String> {
 }
 
 fn exports_in_rattle() -> BTreeMap<String, Signature> {
-    let source = plain(&rattle(&root().join("crates/abi/src")));
+    let source = |name: &str| plain(&rattle(&root().join(format!("crates/{name}/src"))));
+    let source = ["abi", "abi_edit"].map(source).join(" ");
     let exports = functions(&source, "pub extern \"C\" fn ");
     let in_rust = |(name, (parameters, result)): (String, Signature)| {
         let parameters = parameters.iter().flat_map(|parameter| declared(parameter)).collect();

@@ -7,14 +7,10 @@ use Rattle.table.specs.Verdict.{Answer}
 use Rattle.order.specs.OrderCall.{OrderCall}
 use Rattle.classes.specs.ClassesCall.{ClassesCall}
 use Rattle.reduction.specs.TableCall.{TableCall}
-use Rattle.edges.specs.declared.Edit.{Edit}
-use Rattle.edit.specs.EditCall.{EditCall}
-use Rattle.edit.specs.PreviewCall.{PreviewCall}
-use Rattle.edit.specs.ReplayCall.{ReplayCall}
 use Rattle.seed.specs.SeedCall.{SeedCall}
 use Rattle.convert.specs.ConvertCall.{ConvertCall}
 use Rattle.carry.specs.CarryCall.{CarryCall, CarryClassCall}
-use Rattle.answer.specs.Fields.{orderFields, classesFields, tableFields, fillFields, carryFields, classCarryFields, replayFields}
+use Rattle.answer.specs.Fields.{orderFields, classesFields, tableFields, fillFields, carryFields, classCarryFields}
 use Rattle.answer.specs.declared.RaskjomiAnswer.{RaskjomiAnswer}
 
 pub record OrderExport (game marks spare : List ℕ) (r : RaskjomiAnswer) (marks′ spare′ : List ℕ) : Type 0 where
@@ -31,24 +27,6 @@ pub record TableExport (K : Game → Game) (game marks spare classes output : Li
   pub answer : Answer
   pub fields : r ≡ tableFields answer
   pub call : TableCall K game marks spare classes output answer marks′ spare′ classes′ output′
-
-pub record EditExport (e : Edit) (table : List ℕ) (source target : ℕ) (marks spare classes : List ℕ) (r : RaskjomiAnswer)
-    (table′ marks′ spare′ classes′ : List ℕ) : Type 0 where
-  pub answer : Answer
-  pub fields : r ≡ tableFields answer
-  pub call : EditCall e table source target marks spare classes answer table′ marks′ spare′ classes′
-
-pub record PreviewExport (e : Edit) (game : List ℕ) (source target : ℕ) (table marks spare classes : List ℕ) (r : RaskjomiAnswer)
-    (table′ marks′ spare′ classes′ : List ℕ) : Type 0 where
-  pub answer : Answer
-  pub fields : r ≡ tableFields answer
-  pub call : PreviewCall e game source target table marks spare classes answer table′ marks′ spare′ classes′
-
-pub record ReplayExport (table trace marks spare classes : List ℕ) (r : RaskjomiAnswer) (table′ marks′ spare′ classes′ : List ℕ) : Type 0 where
-  pub answer : Answer
-  pub entries : ℕ
-  pub fields : r ≡ replayFields answer entries
-  pub call : ReplayCall table trace marks spare classes answer entries table′ marks′ spare′ classes′
 
 pub record SeedExport (seed n d c : ℕ) (output : List ℕ) (r : RaskjomiAnswer) (output′ : List ℕ) : Type 0 where
   pub answer : Answer

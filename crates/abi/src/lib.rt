@@ -1,4 +1,5 @@
-// The exports for a Rust host: numbers and slices in, one answer by value out. A slice passes as a pointer and a length.
+// The exports for a Rust host: numbers and slices in, one answer by value out. A slice passes as a pointer and a length. Those that edit a table
+// stand in `abi_edit`, so that a check of either is short.
 use answer::RaskjomiAnswer;
 use answer::of_acceptance;
 use answer::of_carrying;
@@ -7,7 +8,6 @@ use answer::of_classification;
 use answer::of_filling;
 use answer::of_ordering;
 use answer::of_reading;
-use answer::of_replaying;
 use answer::of_tabulation;
 ghost use mathlib.Core.Path.{_≡_};
 ghost use Rattle.theory.specs.Reduction.{quotient, reduced};
@@ -15,9 +15,8 @@ ghost use Rattle.table.specs.Reading.{readAnswer};
 ghost use Rattle.table.specs.Kind.{kindOf};
 ghost use Rattle.relation.specs.RelationCall.{relationAnswer};
 ghost use Rattle.plan.specs.Acceptance.{planAnswer};
-ghost use Rattle.edges.specs.declared.Edit.the-variants.{Arrival, Leaving};
 ghost use Rattle.answer.specs.Fields.{readFields, acceptFields};
-ghost use Rattle.abi.specs.Exports.{OrderExport, ClassesExport, TableExport, SeedExport, ConvertExport, CarryExport, CarryClassExport, EditExport, PreviewExport, ReplayExport};
+ghost use Rattle.abi.specs.Exports.{OrderExport, ClassesExport, TableExport, SeedExport, ConvertExport, CarryExport, CarryClassExport};
 
 // The kind of a refusal number.
 #[no_mangle]
@@ -164,80 +163,4 @@ pub extern "C" fn raskjomi_carry_class(
         reduction,
         output,
     ))
-}
-
-// An edge added to the table that begins `table`; the classes and the order of the new table.
-#[no_mangle]
-pub extern "C" fn raskjomi_add_edge(
-    table: &mut [u16],
-    source: u32,
-    target: u32,
-    marks: &mut [u8],
-    spare: &mut [u8],
-    classes: &mut [u16],
-) -> RaskjomiAnswer
-    ensures { λ r. ⌜ EditExport Arrival (now (table .entry)) source target (now (marks .entry)) (now (spare .entry)) (now (classes .entry)) r (now (table .exit)) (now (marks .exit)) (now (spare .exit)) (now (classes .exit)) ⌝ }
-{
-    of_tabulation(edit::add_edge(table, source, target, marks, spare, classes))
-}
-
-// Every copy of an edge removed from the table that begins `table`; the classes and the order of the new table.
-#[no_mangle]
-pub extern "C" fn raskjomi_remove_edge(
-    table: &mut [u16],
-    source: u32,
-    target: u32,
-    marks: &mut [u8],
-    spare: &mut [u8],
-    classes: &mut [u16],
-) -> RaskjomiAnswer
-    ensures { λ r. ⌜ EditExport Leaving (now (table .entry)) source target (now (marks .entry)) (now (spare .entry)) (now (classes .entry)) r (now (table .exit)) (now (marks .exit)) (now (spare .exit)) (now (classes .exit)) ⌝ }
-{
-    of_tabulation(edit::remove_edge(table, source, target, marks, spare, classes))
-}
-
-// An edge added to a copy, in `table`, of the table that begins `game`; the classes and the order of the new table.
-#[no_mangle]
-pub extern "C" fn raskjomi_preview_add(
-    game: &[u16],
-    source: u32,
-    target: u32,
-    table: &mut [u16],
-    marks: &mut [u8],
-    spare: &mut [u8],
-    classes: &mut [u16],
-) -> RaskjomiAnswer
-    ensures { λ r. ⌜ PreviewExport Arrival (now (game .entry)) source target (now (table .entry)) (now (marks .entry)) (now (spare .entry)) (now (classes .entry)) r (now (table .exit)) (now (marks .exit)) (now (spare .exit)) (now (classes .exit)) ⌝ }
-{
-    of_tabulation(edit::preview::preview_add(game, source, target, table, marks, spare, classes))
-}
-
-// Every copy of an edge removed from a copy, in `table`, of the table that begins `game`; the classes and the order of the new table.
-#[no_mangle]
-pub extern "C" fn raskjomi_preview_remove(
-    game: &[u16],
-    source: u32,
-    target: u32,
-    table: &mut [u16],
-    marks: &mut [u8],
-    spare: &mut [u8],
-    classes: &mut [u16],
-) -> RaskjomiAnswer
-    ensures { λ r. ⌜ PreviewExport Leaving (now (game .entry)) source target (now (table .entry)) (now (marks .entry)) (now (spare .entry)) (now (classes .entry)) r (now (table .exit)) (now (marks .exit)) (now (spare .exit)) (now (classes .exit)) ⌝ }
-{
-    of_tabulation(edit::preview::preview_remove(game, source, target, table, marks, spare, classes))
-}
-
-// A trace of edits replayed in the table that begins `table`; the entries done, and the classes and the order of the final table.
-#[no_mangle]
-pub extern "C" fn raskjomi_replay(
-    table: &mut [u16],
-    trace: &[u16],
-    marks: &mut [u8],
-    spare: &mut [u8],
-    classes: &mut [u16],
-) -> RaskjomiAnswer
-    ensures { λ r. ⌜ ReplayExport (now (table .entry)) (now (trace .entry)) (now (marks .entry)) (now (spare .entry)) (now (classes .entry)) r (now (table .exit)) (now (marks .exit)) (now (spare .exit)) (now (classes .exit)) ⌝ }
-{
-    of_replaying(edit::replay::replay(table, trace, marks, spare, classes))
 }

@@ -8,7 +8,7 @@ use Rattle.table.specs.declared.Filling.{Filling}
 use Rattle.table.specs.declared.Reading.the-variants.{Accepted, Refused}
 use Rattle.classes.specs.declared.Classification.{Classification}
 use Rattle.reduction.specs.declared.Tabulation.{Tabulation}
-use Rattle.edit.specs.declared.replay.Replaying.{Replaying}
+use Rattle.replay.specs.declared.Replaying.{Replaying}
 use Rattle.arrival.specs.declared.Carrying.{Carrying}
 use Rattle.carry.specs.declared.ClassCarrying.{ClassCarrying}
 use Rattle.answer.specs.declared.RaskjomiAnswer.{RaskjomiAnswer}

@@ -35,11 +35,11 @@ use Rattle.edges.specs.declared.Edit.{Edit}
 use Rattle.edit.specs.EditCall.{callCounts, EditCall}
 use Rattle.edit.specs.EditRulesLaws.{call-passed}
 use Rattle.edit.specs.NewTableLaws.{new-well}
-use Rattle.edit.specs.PreviewCall.{PreviewCall}
-use Rattle.edit.specs.PreviewEditLaws.{preview-edit}
-use Rattle.edit.specs.ReplayCall.{replayed, ReplayCall}
-use Rattle.edit.specs.ReplayRulesLaws.{replay-few, replay-accepted}
-use Rattle.edit.specs.FinalTableLaws.{final-well}
+use Rattle.preview.specs.PreviewCall.{PreviewCall}
+use Rattle.preview.specs.PreviewEditLaws.{preview-edit}
+use Rattle.replay.specs.ReplayCall.{replayed, ReplayCall}
+use Rattle.replay.specs.ReplayRulesLaws.{replay-few, replay-accepted}
+use Rattle.replay.specs.FinalTableLaws.{final-well}
 use Rattle.seed.specs.SeedCall.{SeedCall}
 use Rattle.seed.specs.SeedRulesLaws.{seed-accepted}
 use Rattle.convert.specs.ConvertCall.{ConvertCall}

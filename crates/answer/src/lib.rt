@@ -2,9 +2,9 @@
 use arrival::Carrying;
 use carry::ClassCarrying;
 use classes::Classification;
-use edit::replay::Replaying;
 use order::Ordering;
 use reduction::Tabulation;
+use replay::Replaying;
 use table::Acceptance;
 use table::Filling;
 use table::Reading;

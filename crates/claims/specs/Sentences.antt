@@ -20,8 +20,8 @@ use Rattle.carry.specs.CarryCall.{CarryCall, CarryClassCall}
 use Rattle.carry.specs.WrittenPlanLaws.{writtenPlan, PlanFrom}
 use Rattle.edges.specs.declared.Edit.{Edit}
 use Rattle.edit.specs.EditCall.{EditCall}
-use Rattle.edit.specs.PreviewCall.{PreviewCall}
-use Rattle.edit.specs.ReplayCall.{ReplayCall}
+use Rattle.preview.specs.PreviewCall.{PreviewCall}
+use Rattle.replay.specs.ReplayCall.{ReplayCall}
 use Rattle.claims.specs.Written.{writtenTable}
 use Rattle.claims.specs.declared.Containment.{Containment}
 

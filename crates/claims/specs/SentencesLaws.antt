@@ -29,11 +29,11 @@ use Rattle.trace.specs.Run.{toggle, Run}
 use Rattle.trace.specs.RunLaws.{RunView, ends, goes, stops, run-view}
 use Rattle.edit.specs.EditCall.{callRows, callCounts, EditCall}
 use Rattle.edit.specs.NewTableLaws.{call-table, call-read}
-use Rattle.edit.specs.PreviewCall.{PreviewCall}
-use Rattle.edit.specs.PreviewEditLaws.{preview-edit}
-use Rattle.edit.specs.ReplayCall.{startRows, replayed, ReplayCall}
-use Rattle.edit.specs.ReplayRulesLaws.{start-render, replay-passed}
-use Rattle.edit.specs.FinalTableLaws.{replay-table, replay-read}
+use Rattle.preview.specs.PreviewCall.{PreviewCall}
+use Rattle.preview.specs.PreviewEditLaws.{preview-edit}
+use Rattle.replay.specs.ReplayCall.{startRows, replayed, ReplayCall}
+use Rattle.replay.specs.ReplayRulesLaws.{start-render, replay-passed}
+use Rattle.replay.specs.FinalTableLaws.{replay-table, replay-read}
 use Rattle.claims.specs.Written.{LeavesOrder, Faithful}
 use Rattle.claims.specs.Demands as demands
 use Rattle.claims.specs.Sentences.{OnAcceptance, OrderSentences, ClassSentence, Orders, Classifies, Tabulates, Contains, OnceWritten, AfterOrder, AfterReduction, Carries, CarriesClass, EditSentences, Edits, Previews, AfterEntry, Replays}

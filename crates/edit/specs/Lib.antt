@@ -4,15 +4,3 @@ pub mod EditCallLaws
 pub mod EditRules
 pub mod EditRulesLaws
 pub mod NewTableLaws
-pub mod CopyLaws
-pub mod PreviewCall
-pub mod PreviewRules
-pub mod PreviewRulesLaws
-pub mod PreviewCallLaws
-pub mod PreviewEditLaws
-pub mod ReplayCall
-pub mod Replayed
-pub mod ReplayCallLaws
-pub mod ReplayRules
-pub mod ReplayRulesLaws
-pub mod FinalTableLaws

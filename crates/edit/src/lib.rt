@@ -1,8 +1,4 @@
 // Edges that come and go: edits of a table that begins a buffer, with the order and the classes of the new table.
-pub mod preview;
-
-pub mod replay;
-
 use classes::Memory;
 use classes::fill_memory;
 use classes::judge_memory;
@@ -27,7 +23,7 @@ ghost use Rattle.edit.specs.EditCall.{EditCall};
 ghost use Rattle.edit.specs.Done.{EditDone};
 
 // Makes an edit that was judged, and writes the order and the classes of the new table.
-fn apply_edit(
+pub fn apply_edit(
     buffer: &mut [u16],
     n: usize,
     m: usize,

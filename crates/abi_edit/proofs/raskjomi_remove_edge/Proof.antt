@@ -1,0 +1,40 @@
+-- The new table is within the limits, so its counts fit their fields.
+use Rattle.answer.specs.FieldsLaws.{editing-small}
+use borrow.Author.Needs.{needs}
+use Rattle.abi_edit.proofs.raskjomi_remove_edge.Statement.{statement}
+use Rattle.abi_edit.proofs.raskjomi_remove_edge.Tie as tie
+
+remove-edge-requires : tie.Need-remove-edge-requires
+remove-edge-requires c κs = search needs
+
+of-tabulation-requires : tie.Need-of-tabulation-requires
+of-tabulation-requires c κs =
+    let r = c .before .before .before .before .before .before .before .before .remove-edge in
+    editing-small _ _ _ _ _ _ _ (r .result) _ _ _ _ (r .ensures)
+
+same-length : tie.Need-same-length
+same-length c = search needs
+
+same-length-2 : tie.Need-same-length-2
+same-length-2 c = search needs
+
+same-length-3 : tie.Need-same-length-3
+same-length-3 c = search needs
+
+same-length-4 : tie.Need-same-length-4
+same-length-4 c = search needs
+
+returns : tie.Need-returns
+returns c = search needs
+
+pub raskjomi-remove-edge-spec : {M : Type 1} → statement M
+raskjomi-remove-edge-spec =
+    tie.close
+    (tie.spec
+    remove-edge-requires
+    of-tabulation-requires
+    same-length
+    same-length-2
+    same-length-3
+    same-length-4
+    returns)

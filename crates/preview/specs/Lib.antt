@@ -1,0 +1,6 @@
+pub mod CopyLaws
+pub mod PreviewCall
+pub mod PreviewRules
+pub mod PreviewRulesLaws
+pub mod PreviewCallLaws
+pub mod PreviewEditLaws

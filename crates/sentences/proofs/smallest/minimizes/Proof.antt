@@ -1,0 +1,26 @@
+-- The sentences follow from what the call promises.
+use Rattle.claims.specs.SmallestLaws as laws
+use borrow.Author.Needs.{needs}
+use Rattle.sentences.proofs.smallest.minimizes.Statement.{statement}
+use Rattle.sentences.proofs.smallest.minimizes.Tie as tie
+
+write-reduced-requires : tie.Need-write-reduced-requires
+write-reduced-requires c κs = search needs
+
+same-length : tie.Need-same-length
+same-length c = search needs
+
+same-length-2 : tie.Need-same-length-2
+same-length-2 c = search needs
+
+same-length-3 : tie.Need-same-length-3
+same-length-3 c = search needs
+
+same-length-4 : tie.Need-same-length-4
+same-length-4 c = search needs
+
+returns : tie.Need-returns
+returns c = laws.minimizes (c .before .before .before .before .before .before .before .before .write-reduced .ensures)
+
+pub minimizes-spec : {M : Type 1} → statement M
+minimizes-spec = tie.close (tie.spec write-reduced-requires same-length same-length-2 same-length-3 same-length-4 returns)
