@@ -7,7 +7,7 @@ use native.Mathlib.Omega.{arith}
 use lib.Dec.{eqb}
 use borrow.Author.Tests.{eqb-true, eq-eqb, lt-ltb}
 use Rattle.theory.specs.Bools.{_&_, _or_}
-use Rattle.theory.specs.BoolsLaws.{So-ext, So-not, and-out, and-true, and-one, and-flip, or-first, or-flip}
+use Rattle.theory.specs.BoolsLaws.{So-ext, eqb-flip, So-not, and-out, and-true, and-one, and-flip, or-first, or-flip}
 use Rattle.theory.specs.Range.{anyBelow}
 use Rattle.theory.specs.RangeLaws.{any-more}
 use Rattle.table.specs.Table.{vertexCount, tableEdges, sourceAt, targetAt, isEdge, gameOf}
@@ -15,9 +15,6 @@ use Rattle.table.specs.TableLaws.{edge-out, edge-target, own-even}
 use Rattle.table.specs.WellFormed.{WellFormed}
 use Rattle.bits.specs.Bits.{rowBits, RowIs, cell, Put, Added}
 use Rattle.board.specs.Board.{differs, EdgesTo, EdgeRows}
-
-pub eqb-flip : (a b : ℕ) → eqb a b ≡ eqb b a
-eqb-flip a b = So-ext (λ t. eq-eqb b a (sym (eqb-true a b t))) (λ t. eq-eqb a b (sym (eqb-true b a t)))
 
 eqb-shift : (k a b : ℕ) → eqb (k + a) (k + b) ≡ eqb a b
 eqb-shift k a b =

@@ -19,7 +19,7 @@ use Rattle.table.specs.TableLaws.{game-n, game-total, edges-listed}
 use Rattle.table.specs.Verdict.{Row, Answer, accepted, refused, judge, Clean, written}
 use Rattle.table.specs.VerdictLaws.{judge-clean, judge-past, judge-stays, judge-accepted, length-written, after-clean, after-past, after-refused, clean-append}
 use Rattle.table.specs.WellFormed.{WellFormed}
-use Rattle.order.specs.OrderCall.{orderRows, orderAnswer, orderBytes}
+use Rattle.order.specs.OrderCall.{orderRows, passesAnswer, orderAnswer, orderBytes}
 use Rattle.order.specs.OrderRules.{OrderFits}
 use Rattle.order.specs.OrderRulesLaws.{order-accepts}
 use Rattle.order.specs.OrderWritten.{OrderDone}
@@ -96,12 +96,12 @@ module _ (game : List ℕ) (player : ℕ) (plan : List ℕ) (vertex : ℕ) (mark
 
   -- a refusal by the rows of the order call
   pub carry-order : (k p : ℕ) → refused k p ≡ orderAnswer game marks spare → Call (refused k p) marks spare output
-  unfolding orderAnswer judgedRows
+  unfolding passesAnswer judgedRows
   carry-order k p e = carry-old k p (judge-stays (orderRows game marks spare) _ (orderPasses (gameOf game) ∷ []) [] k p (sym e))
 
   module _ (fits : OrderFits game marks spare) where
     order-clean : Clean (orderRows game marks spare)
-    unfolding orderAnswer
+    unfolding passesAnswer
     order-clean = judge-accepted _ _ _ (order-accepts game marks spare fits) .0
 
     -- a refusal of the plan

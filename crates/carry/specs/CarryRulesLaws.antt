@@ -28,7 +28,7 @@ use Rattle.table.specs.RulesLaws.{renders-placed, memory-renders}
 use Rattle.table.specs.Decisions.{Decides}
 use Rattle.table.specs.DecisionsLaws.{rendered-decides, decides-append}
 use Rattle.table.specs.WellFormed.{WellFormed}
-use Rattle.order.specs.OrderCall.{orderRows, orderAnswer}
+use Rattle.order.specs.OrderCall.{orderRows, passesAnswer}
 use Rattle.order.specs.OrderRules.{OrderFits}
 use Rattle.order.specs.OrderRulesLaws.{order-rows-render, order-accepted, order-accepts}
 use Rattle.reduction.specs.TableCall.{tableRows, tableCounts, classTable}
@@ -122,11 +122,11 @@ module _ (g : List ℕ) (player : ℕ) (plan : List ℕ) (well : WellFormed g) w
 
 module _ (game marks spare : List ℕ) where
   clean-order : Clean (orderRows game marks spare) → OrderFits game marks spare
-  unfolding orderAnswer
+  unfolding passesAnswer
   clean-order c = order-accepted game marks spare _ (judge-clean _ _ c) .0
 
   order-clean : OrderFits game marks spare → Clean (orderRows game marks spare)
-  unfolding orderAnswer
+  unfolding passesAnswer
   order-clean f = judge-accepted _ _ _ (order-accepts game marks spare f) .0
 
 -- ---- the plan is on the game itself

@@ -5,13 +5,15 @@ use Prim.Native.Nat.{ℕ}
 use lib.Dec.{ltb}
 use lib.ListN.{length}
 use Rattle.theory.specs.Range.{tabulate}
-use Rattle.theory.specs.Order.{order}
-use Rattle.theory.specs.Reduction.{classCount, classOf}
+use Rattle.theory.specs.Passes.{Marks, Rel}
+use Rattle.theory.specs.Game.{Game}
+use Rattle.theory.specs.Order.{order, orderMarks}
+use Rattle.theory.specs.Reduction.{classCount, classNumber, classOf}
 use Rattle.table.specs.Table.{vertexCount, gameOf}
 use Rattle.table.specs.Verdict.{Row, row, Answer, accepted, refused, judge, after}
 use Rattle.table.specs.Reading.{gameRows}
 use Rattle.pairs.specs.Marks.{marksLength}
-use Rattle.order.specs.OrderCall.{orderBytes}
+use Rattle.order.specs.OrderCall.{bytesOf}
 use Rattle.classes.specs.declared.Classification.{Classification}
 use Rattle.classes.specs.declared.Memory.{Memory}
 
@@ -32,9 +34,19 @@ classTotal game = classCount (vertexCount game) (order (gameOf game))
 unfoldable pub classWords : List ℕ → List ℕ
 classWords game = tabulate (vertexCount game) (classOf (gameOf game))
 
+-- the same by another relation of the game
+unfoldable pub totalOf : (Game → Rel) → List ℕ → ℕ
+totalOf le game = classCount (vertexCount game) (le (gameOf game))
+
+unfoldable pub wordsOf : (Game → Rel) → List ℕ → List ℕ
+wordsOf le game = tabulate (vertexCount game) (classNumber (vertexCount game) (le (gameOf game)))
+
 -- accepted with the class count
-unfoldable pub classesAnswer : List ℕ → List ℕ → List ℕ → List ℕ → Answer
-classesAnswer game marks spare classes = judge (classRows game marks spare classes) (classTotal game ∷ [])
+unfoldable pub totalAnswer : (List ℕ → ℕ) → List ℕ → List ℕ → List ℕ → List ℕ → Answer
+totalAnswer total game marks spare classes = judge (classRows game marks spare classes) (total game ∷ [])
+
+abbrev pub classesAnswer : List ℕ → List ℕ → List ℕ → List ℕ → Answer
+classesAnswer = totalAnswer classTotal
 
 -- what the cases of the verdicts say
 abbrev pub classificationAnswer : Classification → Answer
@@ -45,9 +57,14 @@ abbrev pub memoryAnswer : Memory → Answer
 memoryAnswer Memory.Enough = accepted []
 memoryAnswer (Memory.Short f) = refused (f .number) (f .place)
 
--- the promise: the verdict, with the class count, and every lent word
-pub record ClassesCall (game marks spare classes : List ℕ) (answer : Answer) (marks′ spare′ classes′ : List ℕ) : Type 0 where
-  pub verdict : answer ≡ classesAnswer game marks spare classes
-  pub marks-after : marks′ ≡ after (classRows game marks spare classes) (orderBytes game) marks
-  pub spare-after : spare′ ≡ after (classRows game marks spare classes) (orderBytes game) spare
-  pub classes-after : classes′ ≡ after (classRows game marks spare classes) (classWords game) classes
+-- The promise of a call that writes a relation and its classes: the verdict, with the class count, and every lent word.
+pub record NumberedCall (relation : Game → Marks) (total : List ℕ → ℕ) (words : List ℕ → List ℕ) (game marks spare classes : List ℕ) (answer : Answer)
+    (marks′ spare′ classes′ : List ℕ) : Type 0 where
+  pub verdict : answer ≡ totalAnswer total game marks spare classes
+  pub marks-after : marks′ ≡ after (classRows game marks spare classes) (bytesOf relation game) marks
+  pub spare-after : spare′ ≡ after (classRows game marks spare classes) (bytesOf relation game) spare
+  pub classes-after : classes′ ≡ after (classRows game marks spare classes) (words game) classes
+
+-- the promise of the classes call
+abbrev pub ClassesCall : List ℕ → List ℕ → List ℕ → List ℕ → Answer → List ℕ → List ℕ → List ℕ → Type 0
+ClassesCall = NumberedCall orderMarks classTotal classWords

@@ -1,10 +1,14 @@
 -- Laws of the classes call: its promise at each way out. What its rows say is said for any counts, since the calls that write a table have
 -- these rows first.
 use mathlib.Core.Path.{_≡_, sym, _∙_}
+use mathlib.Core.Bool.{Bool}
 use mathlib.Core.List.{List, [], _∷_, append-nil}
 use Prim.Native.Nat.{ℕ}
 use lib.ListN.{length}
 use Rattle.theory.specs.Range.{tabulate}
+use Rattle.theory.specs.Passes.{Marks}
+use Rattle.theory.specs.Game.{Game}
+use Rattle.theory.specs.Governed.{marksBy, relationBy, passesBy}
 use Rattle.theory.specs.Reduction.{classCount, classNumber}
 use Rattle.table.specs.Table.{vertexCount}
 use Rattle.table.specs.Verdict.{Row, accepted, refused, judge, written}
@@ -15,11 +19,11 @@ use Rattle.table.specs.WellFormed.{WellFormed}
 use Rattle.table.specs.declared.Refusal.{Refusal}
 use Rattle.table.specs.declared.Reading.the-variants.{Refused}
 use Rattle.pairs.specs.Marks.{relation}
-use Rattle.order.specs.OrderWritten.{OrderDone}
-use Rattle.order.specs.OrderCall.{orderBytes}
-use Rattle.classes.specs.ClassesCall.{memoryRows, memoryAnswer, classRows, classWords, classesAnswer, ClassesCall}
-use Rattle.classes.specs.Done.{ClassesDone}
-use Rattle.classes.specs.HoldingLaws.{ordered-done, ordered-total, ordered-words}
+use Rattle.order.specs.OrderWritten.{MarksDone}
+use Rattle.order.specs.OrderCall.{bytesOf}
+use Rattle.classes.specs.ClassesCall.{memoryRows, memoryAnswer, classRows, totalOf, wordsOf, totalAnswer, NumberedCall}
+use Rattle.classes.specs.Done.{NumberedDone}
+use Rattle.classes.specs.HoldingLaws.{held-done, held-total, held-words}
 use Rattle.classes.specs.ClassesRules.{ClassesFit}
 use Rattle.classes.specs.ClassesRulesLaws.{classes-clean, clean-classes}
 use Rattle.classes.specs.declared.Memory.the-variants.{Enough, Short}
@@ -48,49 +52,47 @@ module _ (game marks spare classes : List ℕ) where
     unfolding classRows
     rows-short well f e = judge-past (gameRows game) memory counts (well-clean game well) ∙ (rw (append-nil memory) at (judge-stays memory [] [] counts _ _ (sym e)))
 
-  -- ---- the call
+  -- ---- the call, whatever relation is written
 
-  classes-old : (k p : ℕ) → classesAnswer game marks spare classes ≡ refused k p → ClassesCall game marks spare classes (refused k p) marks spare classes
-  unfolding classesAnswer
-  classes-old k p e = record {
-    verdict = sym e;
-    marks-after = sym (after-refused rows _ (orderBytes game) marks e);
-    spare-after = sym (after-refused rows _ (orderBytes game) spare e);
-    classes-after = sym (after-refused rows _ (classWords game) classes e);
-  }
+  module _ {relation : Game → Marks} {total : List ℕ → ℕ} {words : List ℕ → List ℕ} where
+    classes-old : (k p : ℕ) → totalAnswer total game marks spare classes ≡ refused k p → NumberedCall relation total words game marks spare classes (refused k p) marks spare classes
+    unfolding totalAnswer
+    classes-old k p e = record {
+      verdict = sym e;
+      marks-after = sym (after-refused rows _ (bytesOf relation game) marks e);
+      spare-after = sym (after-refused rows _ (bytesOf relation game) spare e);
+      classes-after = sym (after-refused rows _ (words game) classes e);
+    }
 
-  -- the reader's refusal is the call's
-  pub classes-handed : (f : Refusal) → readingAnswer (Refused f) ≡ readAnswer game
-      → ClassesCall game marks spare classes (refused (f .number) (f .place)) marks spare classes
-  unfolding classesAnswer
-  classes-handed f e = classes-old (f .number) (f .place) (rows-handed _ f e)
+    -- the reader's refusal is the call's
+    pub classes-handed : (f : Refusal) → readingAnswer (Refused f) ≡ readAnswer game → NumberedCall relation total words game marks spare classes (refused (f .number) (f .place)) marks spare classes
+    unfolding totalAnswer
+    classes-handed f e = classes-old (f .number) (f .place) (rows-handed _ f e)
 
-  pub classes-short : WellFormed game → (f : Refusal) → memoryAnswer (Short f) ≡ judge memory []
-      → ClassesCall game marks spare classes (refused (f .number) (f .place)) marks spare classes
-  unfolding classesAnswer
-  classes-short well f e = classes-old (f .number) (f .place) (rows-short _ well f e)
+    pub classes-short : WellFormed game → (f : Refusal) → memoryAnswer (Short f) ≡ judge memory [] → NumberedCall relation total words game marks spare classes (refused (f .number) (f .place)) marks spare classes
+    unfolding totalAnswer
+    classes-short well f e = classes-old (f .number) (f .place) (rows-short _ well f e)
 
-  -- the order is written, and then the classes of its marks
-  pub order-classes : ClassesFit game marks spare classes → (n passes k : ℕ) (marks′ spare′ classes′ : List ℕ) → n ≡ vertexCount game
-      → OrderDone game marks spare passes marks′ spare′ → k ≡ classCount n (relation n marks′)
+    pub classes-done : ClassesFit game marks spare classes → (k : ℕ) (marks′ spare′ classes′ : List ℕ)
+        → NumberedDone relation total words game marks spare classes k marks′ spare′ classes′ → NumberedCall relation total words game marks spare classes (accepted (k ∷ [])) marks′ spare′ classes′
+    unfolding totalAnswer
+    classes-done f k marks′ spare′ classes′ d =
+        let clean = classes-clean game marks spare classes f in record {
+          verdict = rw (d .count) (sym (judge-clean rows _ clean));
+          marks-after = d .marks-after ∙ sym (after-clean rows (bytesOf relation game) marks clean);
+          spare-after = d .spare-after ∙ sym (after-clean rows (bytesOf relation game) spare clean);
+          classes-after = d .classes-after ∙ sym (after-clean rows (words game) classes clean);
+        }
+
+  -- the relation is written, and then the classes of its marks
+  pub relation-classes : (mirror : Bool) → ClassesFit game marks spare classes → (n passes k : ℕ) (marks′ spare′ classes′ : List ℕ) → n ≡ vertexCount game
+      → MarksDone (marksBy mirror) (passesBy mirror) game marks spare passes marks′ spare′ → k ≡ classCount n (relation n marks′)
       → classes′ ≡ written (tabulate n (classNumber n (relation n marks′))) classes
-      → ClassesDone game marks spare classes k marks′ spare′ classes′
-  order-classes f n passes k marks′ spare′ classes′ e o t w =
-      let ordered = ordered-done (f .orderFits .marksFit) o in record {
-        count = t ∙ ordered-total game ordered e;
+      → NumberedDone (marksBy mirror) (totalOf (relationBy mirror)) (wordsOf (relationBy mirror)) game marks spare classes k marks′ spare′ classes′
+  relation-classes mirror f n passes k marks′ spare′ classes′ e o t w =
+      let held = held-done mirror (f .orderFits .marksFit) o in record {
+        count = t ∙ held-total mirror game held e;
         marks-after = o .marks-after;
         spare-after = o .spare-after;
-        classes-after = w ∙ rw (ordered-words game ordered e);
-      }
-
-  pub classes-done : ClassesFit game marks spare classes → (k : ℕ) (marks′ spare′ classes′ : List ℕ)
-      → ClassesDone game marks spare classes k marks′ spare′ classes′
-      → ClassesCall game marks spare classes (accepted (k ∷ [])) marks′ spare′ classes′
-  unfolding classesAnswer
-  classes-done f k marks′ spare′ classes′ d =
-      let clean = classes-clean game marks spare classes f in record {
-        verdict = rw (d .count) (sym (judge-clean rows _ clean));
-        marks-after = d .marks-after ∙ sym (after-clean rows (orderBytes game) marks clean);
-        spare-after = d .spare-after ∙ sym (after-clean rows (orderBytes game) spare clean);
-        classes-after = d .classes-after ∙ sym (after-clean rows (classWords game) classes clean);
+        classes-after = w ∙ rw (held-words mirror game held e);
       }

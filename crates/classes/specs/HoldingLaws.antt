@@ -1,7 +1,7 @@
 -- Classes go by the relation between the n vertices alone, so those of marks are those of the relation that they hold. What the order's
 -- passes leave holds the order of the game.
-use mathlib.Core.Path.{_≡_, refl, ap, ap₂, _∙_}
-use mathlib.Core.Bool.{Bool}
+use mathlib.Core.Path.{_≡_, refl, sym, ap, ap₂, _∙_}
+use mathlib.Core.Bool.{Bool, false}
 use mathlib.Core.List.{List}
 use Prim.Native.Nat.{ℕ, zero, suc, _+_, _*_, _≤_, _<_}
 use native.Mathlib.Omega.{arith}
@@ -13,9 +13,10 @@ use Rattle.theory.specs.Range.{count, nth, tabulate}
 use Rattle.theory.specs.RangeLaws.{first-ext, first-le}
 use Rattle.theory.specs.CountLaws.{count-ext}
 use Rattle.theory.specs.ListLaws.{tabulate-ext}
-use Rattle.theory.specs.Passes.{Rel, marked, relOf}
-use Rattle.theory.specs.Order.{order, orderMarks, Preorder}
-use Rattle.theory.specs.OrderLaws.{length-orderMarks}
+use Rattle.theory.specs.Passes.{Rel, relOf}
+use Rattle.theory.specs.Order.{order, Preorder}
+use Rattle.theory.specs.Governed.{marksBy, relationBy, passesBy}
+use Rattle.theory.specs.GovernedLaws.{relation-by, preorder-by, length-by}
 use Rattle.theory.specs.Reduction.{sameClass, lowest, isLowest, classCount, classNumber, representative, classOf}
 use Rattle.theory.specs.ClassLaws.{classCount-le}
 use Rattle.theory.specs.QuotientLaws.{order-preorder}
@@ -27,11 +28,11 @@ use Rattle.table.specs.VerdictLaws.{length-written}
 use Rattle.table.specs.WellFormed.{WellFormed}
 use Rattle.pairs.specs.Marks.{marksLength, relation}
 use Rattle.pairs.specs.MarksLaws.{relation-mark, mark-written}
-use Rattle.order.specs.OrderCall.{orderBytes}
-use Rattle.order.specs.OrderWritten.{OrderDone}
-use Rattle.order.specs.OrderRulesLaws.{length-orderBytes}
+use Rattle.order.specs.OrderCall.{bytesOf, orderBytes}
+use Rattle.order.specs.OrderWritten.{MarksDone, OrderDone}
+use Rattle.order.specs.OrderRulesLaws.{length-bytesOf}
 use Rattle.classes.specs.Numbering.{Numbered, PreorderMarks, Holding, Ordered, classesIn}
-use Rattle.classes.specs.ClassesCall.{classTotal, classWords}
+use Rattle.classes.specs.ClassesCall.{classWords, totalOf, wordsOf}
 
 nth-ext : (n : ℕ) (p q : ℕ → Bool) → ((i : ℕ) → i < n → p i ≡ q i) → (c : ℕ) → nth n p c ≡ nth n q c
 unfolding nth
@@ -95,19 +96,49 @@ module _ {n : ℕ} {le : Rel} {marks : List ℕ} (holding : Holding n le marks) 
     lowest = λ c h. p .lowest c h ∙ representative-agree n _ le (holding .marked) c;
   }
 
--- ---- the order of a game
+-- ---- the order of a game, and its governed bisimulation
+
+-- what a call leaves that writes the relation
+held-written : (mirror : Bool) (game old : List ℕ) → marksLength (vertexCount game) ≤ length old
+    → Holding (gameOf game .n) (relationBy mirror (gameOf game)) (written (bytesOf (marksBy mirror) game) old)
+unfolding gameOf relOf
+held-written mirror game old h =
+    let marks = marksBy mirror (gameOf game) in
+    let n = vertexCount game in record {
+      long = rw (length-written (bytesOf (marksBy mirror) game) old (rw (length-bytesOf (marksBy mirror) (λ G. length-by G mirror) game) h)) h;
+      marked = λ v w hv hw.
+          relation-mark n (written (bytesOf (marksBy mirror) game) old) v w
+          ∙ mark-written marks old (v * n + w) (omega (arith, length-by (gameOf game) mirror, digits-lt hv hw))
+          ∙ ap (λ (le : Rel). le v w) (sym (relation-by (gameOf game) mirror));
+    }
+
+module _ (mirror : Bool) where
+  -- the marks after the passes
+  pub held-done : {game marks spare : List ℕ} {passes : ℕ} {marks′ spare′ : List ℕ} → marksLength (vertexCount game) ≤ length marks
+      → MarksDone (marksBy mirror) (passesBy mirror) game marks spare passes marks′ spare′
+      → Holding (gameOf game .n) (relationBy mirror (gameOf game)) marks′
+  held-done {game = game} {marks = marks} h done = rw (done .marks-after) (held-written mirror game marks h)
+
+  -- the classes of marks that hold the relation are those of the relation
+  module _ (game : List ℕ) {marks : List ℕ} (held : Holding (gameOf game .n) (relationBy mirror (gameOf game)) marks) {n : ℕ} (e : n ≡ vertexCount game) where
+    pub held-preorder : WellFormed game → PreorderMarks n marks
+    unfolding gameOf
+    held-preorder well = rw e (holding-preorder held (well .vertices) (preorder-by (gameOf game) mirror))
+
+    pub held-total : classCount n (relation n marks) ≡ totalOf (relationBy mirror) game
+    unfolding gameOf totalOf
+    held-total = rw e (holding-total held)
+
+    pub held-words : tabulate n (classNumber n (relation n marks)) ≡ wordsOf (relationBy mirror) game
+    unfolding gameOf wordsOf
+    held-words = rw e (holding-words held)
+
+-- ---- the order alone
 
 -- what the order call leaves is the order
 pub ordered-written : (game old : List ℕ) → marksLength (vertexCount game) ≤ length old → Ordered (gameOf game) (written (orderBytes game) old)
-unfolding gameOf order relOf
-ordered-written game old h =
-    let marks = orderMarks (gameOf game) in
-    let n = vertexCount game in record {
-      long = rw (length-written (orderBytes game) old (rw (length-orderBytes game) h)) h;
-      marked = λ v w hv hw.
-          relation-mark n (written (orderBytes game) old) v w
-          ∙ mark-written marks old (v * n + w) (omega (arith, length-orderMarks (gameOf game), digits-lt hv hw));
-    }
+unfolding relationBy marksBy
+ordered-written = held-written false
 
 -- at most one class a vertex
 pub classes-few : (game : List ℕ) → WellFormed game → classesIn (gameOf game) ≤ vertexLimit
@@ -121,12 +152,8 @@ ordered-done {game = game} {marks = marks} h done = rw (done .marks-after) (orde
 -- the classes of marks that hold the order are those of the game
 module _ (game : List ℕ) {marks : List ℕ} (ordered : Ordered (gameOf game) marks) {n : ℕ} (e : n ≡ vertexCount game) where
   pub ordered-preorder : WellFormed game → PreorderMarks n marks
-  unfolding gameOf
-  ordered-preorder well = rw e (holding-preorder ordered (well .vertices) (order-preorder (gameOf game)))
-
-  pub ordered-total : classCount n (relation n marks) ≡ classTotal game
-  unfolding gameOf classTotal
-  ordered-total = rw e (holding-total ordered)
+  unfolding relationBy
+  ordered-preorder = held-preorder false game ordered e
 
   pub ordered-words : tabulate n (classNumber n (relation n marks)) ≡ classWords game
   unfolding gameOf classWords classOf

@@ -4,6 +4,8 @@ use mathlib.Core.Path.{_≡_, sym, ap, ap₂, _∙_}
 use mathlib.Core.List.{List, [], _∷_}
 use Prim.Native.Nat.{ℕ}
 use Rattle.theory.specs.ListLaws.{tabulate-ext}
+use Rattle.theory.specs.Passes.{Marks}
+use Rattle.theory.specs.Game.{Game}
 use Rattle.theory.specs.Reduction.{classCount}
 use Rattle.theory.specs.AgreementLaws.{agree-order, agree-class}
 use Rattle.table.specs.Table.{vertexCount}
@@ -14,8 +16,9 @@ use Rattle.table.specs.ReadingLaws.{well-clean}
 use Rattle.table.specs.WellFormed.{WellFormed}
 use Rattle.table.specs.SameGame.{SameGame}
 use Rattle.table.specs.SameGameLaws.{same-agree}
+use Rattle.order.specs.OrderCall.{bytesOf}
 use Rattle.order.specs.SameOrderLaws.{same-orderBytes}
-use Rattle.classes.specs.ClassesCall.{classRows, classTotal, classWords, classesAnswer, ClassesCall}
+use Rattle.classes.specs.ClassesCall.{classRows, classTotal, classWords, totalAnswer, NumberedCall, ClassesCall}
 
 module _ {g h : List ℕ} (same : SameGame g h) where
   pub same-classTotal : classTotal g ≡ classTotal h
@@ -42,15 +45,19 @@ module _ {g h : List ℕ} (same : SameGame g h) (wg : WellFormed g) (wh : WellFo
       after-past (gameRows g) _ _ old (well-clean g wg)
       ∙ rw (same .vertices, e) (sym (after-past (gameRows h) _ _ old (well-clean h wh)))
 
-  pub same-classesAnswer : classesAnswer g marks spare classes ≡ classesAnswer h marks spare classes
-  unfolding classesAnswer
-  same-classesAnswer = same-judge (ap (λ (k : ℕ). k ∷ []) (same-classTotal same))
+  -- whatever relation is written
+  pub same-numbered : {relation : Game → Marks} {total : List ℕ → ℕ} {words : List ℕ → List ℕ} → bytesOf relation g ≡ bytesOf relation h
+      → total g ≡ total h → words g ≡ words h → {answer : Answer} {marks′ spare′ classes′ : List ℕ}
+      → NumberedCall relation total words g marks spare classes answer marks′ spare′ classes′
+      → NumberedCall relation total words h marks spare classes answer marks′ spare′ classes′
+  unfolding totalAnswer
+  same-numbered b t w call = record {
+    verdict = call .verdict ∙ same-judge (ap (λ (k : ℕ). k ∷ []) t);
+    marks-after = call .marks-after ∙ same-after b marks;
+    spare-after = call .spare-after ∙ same-after b spare;
+    classes-after = call .classes-after ∙ same-after w classes;
+  }
 
   pub same-classes : {answer : Answer} {marks′ spare′ classes′ : List ℕ} → ClassesCall g marks spare classes answer marks′ spare′ classes′
       → ClassesCall h marks spare classes answer marks′ spare′ classes′
-  same-classes call = record {
-    verdict = call .verdict ∙ same-classesAnswer;
-    marks-after = call .marks-after ∙ same-after (same-orderBytes same) marks;
-    spare-after = call .spare-after ∙ same-after (same-orderBytes same) spare;
-    classes-after = call .classes-after ∙ same-after (same-classWords same) classes;
-  }
+  same-classes = same-numbered (same-orderBytes same) (same-classTotal same) (same-classWords same)

@@ -8,11 +8,13 @@ use table::refusal_of;
 ghost use mathlib.Core.Path.{_≡_};
 ghost use mathlib.Core.List.{[]};
 ghost use Prim.Native.Nat.{_≤_};
+ghost use Rattle.theory.specs.Governed.{marksBy, relationBy};
 ghost use Rattle.table.specs.Limits.{vertexLimit};
 ghost use Rattle.table.specs.Table.{vertexCount};
 ghost use Rattle.table.specs.Verdict.{judge};
-ghost use Rattle.classes.specs.ClassesCall.{memoryRows, memoryAnswer, classificationAnswer, ClassesCall};
-ghost use Rattle.classes.specs.Done.{ClassesDone};
+ghost use Rattle.table.specs.WellFormed.{WellFormed};
+ghost use Rattle.classes.specs.ClassesCall.{memoryRows, memoryAnswer, classificationAnswer, totalOf, wordsOf, NumberedCall, ClassesCall};
+ghost use Rattle.classes.specs.Done.{NumberedDone, ClassesDone};
 ghost use Rattle.classes.specs.ClassesRules.{ClassesFit};
 
 pub struct ClassCount {
@@ -54,6 +56,23 @@ pub fn judge_memory(n: usize, marks: usize, spare: usize, classes: usize) -> Mem
     Memory::Enough
 }
 
+// Writes the order of a game of n vertices or, with `mirror`, its governed bisimulation into marks and spare, and the class of each vertex by it, in
+// memory that is long enough. Returns the number of classes. A part of the calls that write classes; no host calls it.
+pub fn fill_numbered(
+    game: &[u16],
+    n: usize,
+    marks: &mut [u8],
+    spare: &mut [u8],
+    classes: &mut [u16],
+    mirror: bool,
+) -> usize
+    requires { ⌜ ClassesFit (now game) (now marks) (now spare) (now classes) × (n ≡ vertexCount (now game)) ⌝ }
+    ensures { λ r. ⌜ NumberedDone (marksBy mirror) (totalOf (relationBy mirror)) (wordsOf (relationBy mirror)) (now (game .entry)) (now (marks .entry)) (now (spare .entry)) (now (classes .entry)) r (now (marks .exit)) (now (spare .exit)) (now (classes .exit)) ⌝ }
+{
+    order::fill_relation(game, marks, spare, mirror);
+    numbering::fill_classes(marks, n, classes)
+}
+
 // Writes the order of a game of n vertices into marks and spare, and the class of each vertex, in memory that is long enough. Returns the
 // number of classes. A part of the calls that leave classes and no table of them; no host calls it.
 pub fn fill_memory(
@@ -66,8 +85,28 @@ pub fn fill_memory(
     requires { ⌜ ClassesFit (now game) (now marks) (now spare) (now classes) × (n ≡ vertexCount (now game)) ⌝ }
     ensures { λ r. ⌜ ClassesDone (now (game .entry)) (now (marks .entry)) (now (spare .entry)) (now (classes .entry)) r (now (marks .exit)) (now (spare .exit)) (now (classes .exit)) ⌝ }
 {
-    order::fill_order(game, marks, spare);
-    numbering::fill_classes(marks, n, classes)
+    fill_numbered(game, n, marks, spare, classes, false)
+}
+
+// Judges the memory for a game of n vertices that was read, and writes its order or, with `mirror`, its governed bisimulation, and the class of each
+// vertex by it. A part of the two calls; no host calls it.
+pub fn write_numbered(
+    game: &[u16],
+    n: usize,
+    marks: &mut [u8],
+    spare: &mut [u8],
+    classes: &mut [u16],
+    mirror: bool,
+) -> Classification
+    requires { ⌜ WellFormed (now game) × (n ≡ vertexCount (now game)) ⌝ }
+    ensures { λ r. ⌜ NumberedCall (marksBy mirror) (totalOf (relationBy mirror)) (wordsOf (relationBy mirror)) (now (game .entry)) (now (marks .entry)) (now (spare .entry)) (now (classes .entry)) (classificationAnswer r) (now (marks .exit)) (now (spare .exit)) (now (classes .exit)) ⌝ }
+{
+    let memory = judge_memory(n, marks.len(), spare.len(), classes.len());
+    if let Memory::Short(refusal) = memory {
+        return Classification::Refused(refusal);
+    }
+    let k = fill_numbered(game, n, marks, spare, classes, mirror);
+    Classification::Accepted(ClassCount { classes: k })
 }
 
 // Judges the game and the memory, and writes the order into marks and spare, and the class of each vertex.
@@ -83,11 +122,5 @@ pub fn write_classes(
     let Reading::Accepted(sizes) = reading else {
         return Classification::Refused(refusal_of(reading));
     };
-    let n = sizes.vertices;
-    let memory = judge_memory(n, marks.len(), spare.len(), classes.len());
-    if let Memory::Short(refusal) = memory {
-        return Classification::Refused(refusal);
-    }
-    let k = fill_memory(game, n, marks, spare, classes);
-    Classification::Accepted(ClassCount { classes: k })
+    write_numbered(game, sizes.vertices, marks, spare, classes, false)
 }

@@ -1,62 +1,61 @@
--- Laws of the order call: its promise at each way out.
+-- Laws of the calls that write a relation by passes: their promise at each way out.
 use mathlib.Core.Path.{_≡_, sym, _∙_}
 use mathlib.Core.List.{List, [], _∷_}
 use Prim.Native.Nat.{ℕ, _≤_, _<_}
 use lib.ListN.{length}
 use borrow.Author.Tests.{lt-ltb, le-ltb}
-use Rattle.theory.specs.Order.{orderPasses}
+use Rattle.theory.specs.Passes.{Marks}
+use Rattle.theory.specs.Game.{Game}
 use Rattle.table.specs.Table.{vertexCount, gameOf}
 use Rattle.table.specs.Verdict.{memoryRow, accepted, refused, judge}
-use Rattle.table.specs.VerdictLaws.{judge-hit, judge-next, after-accepted, after-refused}
-use Rattle.table.specs.Reading.{readAnswer, readingAnswer}
-use Rattle.table.specs.ReadingLaws.{reading-past, reading-stays}
-use Rattle.table.specs.declared.Sizes.{Sizes}
+use Rattle.table.specs.VerdictLaws.{judge-hit, judge-next, judge-past, after-accepted, after-refused}
+use Rattle.table.specs.Reading.{gameRows, readAnswer, readingAnswer}
+use Rattle.table.specs.ReadingLaws.{reading-stays, well-clean}
+use Rattle.table.specs.WellFormed.{WellFormed}
 use Rattle.table.specs.declared.Refusal.{Refusal}
-use Rattle.table.specs.declared.Reading.the-variants.{Accepted, Refused}
+use Rattle.table.specs.declared.Reading.the-variants.{Refused}
 use Rattle.pairs.specs.Marks.{marksLength}
-use Rattle.order.specs.OrderCall.{orderRows, orderAnswer, orderBytes, OrderCall}
-use Rattle.order.specs.OrderWritten.{OrderDone}
+use Rattle.order.specs.OrderCall.{orderRows, passesAnswer, bytesOf, MarksCall}
+use Rattle.order.specs.OrderWritten.{MarksDone}
 
-module _ (game marks spare : List ℕ) where
-  abbrev needed : ℕ
-  needed = marksLength (vertexCount game)
-
-  order-old : (k p : ℕ) → orderAnswer game marks spare ≡ refused k p → OrderCall game marks spare (refused k p) marks spare
-  unfolding orderAnswer
+module _ (relation : Game → Marks) (passes : Game → ℕ) (game marks spare : List ℕ) where
+  order-old : (k p : ℕ) → passesAnswer passes game marks spare ≡ refused k p → MarksCall relation passes game marks spare (refused k p) marks spare
+  unfolding passesAnswer
   order-old k p e = record {
     verdict = sym e;
-    marks-after = sym (after-refused (orderRows game marks spare) _ (orderBytes game) marks e);
-    spare-after = sym (after-refused (orderRows game marks spare) _ (orderBytes game) spare e);
+    marks-after = sym (after-refused (orderRows game marks spare) _ (bytesOf relation game) marks e);
+    spare-after = sym (after-refused (orderRows game marks spare) _ (bytesOf relation game) spare e);
   }
 
   -- the reader's refusal is the call's
-  pub order-handed : (f : Refusal) → readingAnswer (Refused f) ≡ readAnswer game → OrderCall game marks spare (refused (f .number) (f .place)) marks spare
-  order-handed f e = order-old (f .number) (f .place) (unfold orderAnswer orderRows in reading-stays game f e _ _)
+  pub order-handed : (f : Refusal) → readingAnswer (Refused f) ≡ readAnswer game
+      → MarksCall relation passes game marks spare (refused (f .number) (f .place)) marks spare
+  order-handed f e = order-old (f .number) (f .place) (unfold passesAnswer orderRows in reading-stays game f e _ _)
 
-  module _ (c : Sizes) (e : readingAnswer (Accepted c) ≡ readAnswer game) where
-    memory : orderAnswer game marks spare ≡ judge (memoryRow 21 needed marks ∷ memoryRow 22 needed spare ∷ []) (orderPasses (gameOf game) ∷ [])
-    unfolding orderAnswer orderRows
-    memory = reading-past game c e _ _
+  module _ (well : WellFormed game) where
+    memory : passesAnswer passes game marks spare ≡ judge (memoryRow 21 (marksLength (vertexCount game)) marks ∷ memoryRow 22 (marksLength (vertexCount game)) spare ∷ []) (passes (gameOf game) ∷ [])
+    unfolding passesAnswer orderRows
+    memory = judge-past (gameRows game) _ _ (well-clean game well)
 
-    pub order-short-marks : length marks < needed → OrderCall game marks spare (refused 21 needed) marks spare
-    order-short-marks h = order-old 21 needed (memory ∙ judge-hit _ _ _ (lt-ltb (length marks) needed h))
+    pub order-short-marks : length marks < (marksLength (vertexCount game)) → MarksCall relation passes game marks spare (refused 21 (marksLength (vertexCount game))) marks spare
+    order-short-marks h = order-old 21 (marksLength (vertexCount game)) (memory ∙ judge-hit _ _ _ (lt-ltb (length marks) (marksLength (vertexCount game)) h))
 
-    module _ (h : needed ≤ length marks) where
-      marks-fit : orderAnswer game marks spare ≡ judge (memoryRow 22 needed spare ∷ []) (orderPasses (gameOf game) ∷ [])
-      marks-fit = memory ∙ judge-next _ _ _ (le-ltb (length marks) needed h)
+    module _ (h : (marksLength (vertexCount game)) ≤ length marks) where
+      marks-fit : passesAnswer passes game marks spare ≡ judge (memoryRow 22 (marksLength (vertexCount game)) spare ∷ []) (passes (gameOf game) ∷ [])
+      marks-fit = memory ∙ judge-next _ _ _ (le-ltb (length marks) (marksLength (vertexCount game)) h)
 
-      pub order-short-spare : length spare < needed → OrderCall game marks spare (refused 22 needed) marks spare
-      order-short-spare k = order-old 22 needed (marks-fit ∙ judge-hit _ _ _ (lt-ltb (length spare) needed k))
+      pub order-short-spare : length spare < (marksLength (vertexCount game)) → MarksCall relation passes game marks spare (refused 22 (marksLength (vertexCount game))) marks spare
+      order-short-spare k = order-old 22 (marksLength (vertexCount game)) (marks-fit ∙ judge-hit _ _ _ (lt-ltb (length spare) (marksLength (vertexCount game)) k))
 
       -- both fit
-      pub order-done : needed ≤ length spare → (passes : ℕ) (marks′ spare′ : List ℕ) → OrderDone game marks spare passes marks′ spare′
-          → OrderCall game marks spare (accepted (passes ∷ [])) marks′ spare′
-      unfolding judge orderAnswer
-      order-done k passes marks′ spare′ d =
-          let a : orderAnswer game marks spare ≡ accepted (orderPasses (gameOf game) ∷ []) =
-          marks-fit ∙ judge-next _ [] (orderPasses (gameOf game) ∷ []) (le-ltb (length spare) needed k) in
+      pub order-done : (marksLength (vertexCount game)) ≤ length spare → (c : ℕ) (marks′ spare′ : List ℕ) → MarksDone relation passes game marks spare c marks′ spare′
+          → MarksCall relation passes game marks spare (accepted (c ∷ [])) marks′ spare′
+      unfolding judge passesAnswer
+      order-done k c marks′ spare′ d =
+          let a : passesAnswer passes game marks spare ≡ accepted (passes (gameOf game) ∷ []) =
+          marks-fit ∙ judge-next _ [] (passes (gameOf game) ∷ []) (le-ltb (length spare) (marksLength (vertexCount game)) k) in
           record {
             verdict = rw (d .count) (sym a);
-            marks-after = d .marks-after ∙ sym (after-accepted (orderRows game marks spare) _ (orderBytes game) marks a);
-            spare-after = d .spare-after ∙ sym (after-accepted (orderRows game marks spare) _ (orderBytes game) spare a);
+            marks-after = d .marks-after ∙ sym (after-accepted (orderRows game marks spare) _ (bytesOf relation game) marks a);
+            spare-after = d .spare-after ∙ sym (after-accepted (orderRows game marks spare) _ (bytesOf relation game) spare a);
           }

@@ -10,11 +10,11 @@ use lib.ListN.{length, getD}
 use borrow.Author.Tests.{ltb-false, le-ltb}
 use Rattle.theory.specs.Bools.{bit}
 use Rattle.theory.specs.BoolsLaws.{bit-in, bit-out}
-use Rattle.theory.specs.Passes.{marked, relOf}
-use Rattle.theory.specs.Game.{even}
+use Rattle.theory.specs.Passes.{Marks, marked, relOf}
+use Rattle.theory.specs.Game.{even, Game}
 use Rattle.theory.specs.Simulation.{Below}
 use Rattle.theory.specs.Order.{order, orderMarks, orderPasses}
-use Rattle.theory.specs.OrderLaws.{order-in, order-out, length-orderMarks, orderPasses-le}
+use Rattle.theory.specs.OrderLaws.{order-in, order-out, length-orderMarks}
 use Rattle.table.specs.Table.{vertexCount, pairCount, gameOf}
 use Rattle.table.specs.TableLaws.{game-n}
 use Rattle.table.specs.Verdict.{accepted, refused, written}
@@ -25,7 +25,7 @@ use Rattle.table.specs.Rules.{FirstRule, Rendered, none, next}
 use Rattle.table.specs.RulesLaws.{memory-renders, refused-by, rendered-append}
 use Rattle.pairs.specs.Marks.{marksLength, Marked}
 use Rattle.pairs.specs.MarksLaws.{length-bytes, getD-bytes}
-use Rattle.order.specs.OrderCall.{orderRows, orderAnswer, orderBytes, OrderCall}
+use Rattle.order.specs.OrderCall.{orderRows, passesAnswer, orderAnswer, bytesOf, orderBytes, MarksCall, OrderCall}
 use Rattle.order.specs.OrderRules.{orderRules, OrderFits}
 
 -- ---- refused exactly by the table
@@ -34,62 +34,132 @@ pub order-rows-render : (g marks spare : List ℕ) → Rendered (orderRows g mar
 unfolding orderRows
 order-rows-render g marks spare = rendered-append (rows-render g) (next (memory-renders 21 _ marks) (next (memory-renders 22 _ spare) none))
 
-pub order-refused : (g marks spare : List ℕ) (k p : ℕ) → (orderAnswer g marks spare ≡ refused k p) ↔ FirstRule (orderRules g marks spare) k p
-unfolding orderAnswer
-order-refused g marks spare = refused-by _ (order-rows-render g marks spare) refl
+-- whatever relation the passes leave
+module _ (passes : Game → ℕ) (g marks spare : List ℕ) where
+  pub passes-refused : (k p : ℕ) → (passesAnswer passes g marks spare ≡ refused k p) ↔ FirstRule (orderRules g marks spare) k p
+  unfolding passesAnswer
+  passes-refused = refused-by _ (order-rows-render g marks spare) refl
 
--- ---- accepted exactly otherwise, with the pass count
+  -- ---- accepted exactly otherwise, with the pass count
+
+  pub passes-accepted : (counts : List ℕ) → passesAnswer passes g marks spare ≡ accepted counts
+      → OrderFits g marks spare × (counts ≡ passes (gameOf g) ∷ [])
+  unfolding passesAnswer orderRows
+  passes-accepted counts e =
+      let a = judge-accepted _ _ counts e in
+      let c = clean-split (gameRows g) _ (a .0) in
+      (record { game = clean-well g (c .0); marksFit = ltb-false (length marks) _ (c .1 .0); spareFit = ltb-false (length spare) _ (c .1 .1 .0) }, sym (a .1))
+
+  pub passes-accepts : OrderFits g marks spare → passesAnswer passes g marks spare ≡ accepted (passes (gameOf g) ∷ [])
+  unfolding passesAnswer orderRows
+  passes-accepts f =
+      judge-clean _ _
+      (clean-append (gameRows g) _ (well-clean g (f .game)) (le-ltb (length marks) _ (f .marksFit), (le-ltb (length spare) _ (f .spareFit), tt)))
+
+-- the order call
+pub order-refused : (g marks spare : List ℕ) (k p : ℕ) → (orderAnswer g marks spare ≡ refused k p) ↔ FirstRule (orderRules g marks spare) k p
+order-refused = passes-refused orderPasses
 
 pub order-accepted : (g marks spare counts : List ℕ) → orderAnswer g marks spare ≡ accepted counts
     → OrderFits g marks spare × (counts ≡ orderPasses (gameOf g) ∷ [])
-unfolding orderAnswer orderRows
-order-accepted g marks spare counts e =
-    let a = judge-accepted _ _ counts e in
-    let c = clean-split (gameRows g) _ (a .0) in
-    (record { game = clean-well g (c .0); marksFit = ltb-false (length marks) _ (c .1 .0); spareFit = ltb-false (length spare) _ (c .1 .1 .0) }, sym (a .1))
+order-accepted = passes-accepted orderPasses
 
 pub order-accepts : (g marks spare : List ℕ) → OrderFits g marks spare → orderAnswer g marks spare ≡ accepted (orderPasses (gameOf g) ∷ [])
-unfolding orderAnswer orderRows
-order-accepts g marks spare f =
-    judge-clean _ _
-    (clean-append (gameRows g) _ (well-clean g (f .game)) (le-ltb (length marks) _ (f .marksFit), (le-ltb (length spare) _ (f .spareFit), tt)))
+order-accepts = passes-accepts orderPasses
 
 -- ---- what an accepted call wrote
 
+-- a relation whose marks are as many as the pairs
+abbrev pub AllPairs : (Game → Marks) → Type 0
+AllPairs relation = (G : Game) → length (relation G) ≡ G .n * G .n
+
+module _ (relation : Game → Marks) (long : AllPairs relation) (game : List ℕ) where
+  pub length-bytesOf : length (bytesOf relation game) ≡ marksLength (vertexCount game)
+  length-bytesOf = rw (← game-n game) (length-bytes (relation (gameOf game)) ∙ long (gameOf game))
+
+  -- a buffer that holds the relation: the mark of (v, w), and bytes beyond
+  module _ (old : List ℕ) where
+    pub byte-of : (v w : ℕ) → v < vertexCount game → w < vertexCount game
+        → getD (written (bytesOf relation game) old) (v * vertexCount game + w) 0 ≡ bit (relOf (gameOf game .n) (marked (relation (gameOf game))) v w)
+    unfolding relOf
+    byte-of v w hv hw =
+        getD-written (bytesOf relation game) old (v * vertexCount game + w) 0 (rw length-bytesOf (digits-lt hv hw))
+        ∙ getD-bytes (relation (gameOf game)) (v * vertexCount game + w)
+        ∙ ap (λ (n : ℕ). bit (marked (relation (gameOf game)) (v * n + w))) (sym (game-n game))
+
+    written-beyond : (i : ℕ) → marksLength (vertexCount game) ≤ i → getD (written (bytesOf relation game) old) i 0 ≡ getD old i 0
+    written-beyond i h = getD-written-beyond (bytesOf relation game) old i 0 (rw length-bytesOf h)
+
 pub length-orderBytes : (game : List ℕ) → length (orderBytes game) ≡ marksLength (vertexCount game)
-length-orderBytes game = rw (← game-n game) (length-bytes (orderMarks (gameOf game)) ∙ length-orderMarks (gameOf game))
+length-orderBytes = length-bytesOf orderMarks length-orderMarks
 
-order-mark : (game : List ℕ) (v w : ℕ) → order (gameOf game) v w ≡ marked (orderMarks (gameOf game)) (v * vertexCount game + w)
-unfolding order relOf
-order-mark game v w = ap (λ (n : ℕ). marked (orderMarks (gameOf game)) (v * n + w)) (game-n game)
+pub written-byte : (game old : List ℕ) (v w : ℕ) → v < vertexCount game → w < vertexCount game
+    → getD (written (orderBytes game) old) (v * vertexCount game + w) 0 ≡ bit (order (gameOf game) v w)
+unfolding order
+written-byte = byte-of orderMarks length-orderMarks
 
--- a buffer that holds the order: the mark of (v, w), and bytes beyond
-module _ (game old : List ℕ) where
-  pub written-byte : (v w : ℕ) → v < vertexCount game → w < vertexCount game
-      → getD (written (orderBytes game) old) (v * vertexCount game + w) 0 ≡ bit (order (gameOf game) v w)
-  written-byte v w hv hw =
-      rw (order-mark game v w)
-      (getD-written (orderBytes game) old (v * vertexCount game + w) 0 (rw (length-orderBytes game) (digits-lt hv hw))
-      ∙ getD-bytes (orderMarks (gameOf game)) (v * vertexCount game + w))
+module _ {relation : Game → Marks} {passes : Game → ℕ} (long : AllPairs relation) (game marks spare counts marks′ spare′ : List ℕ)
+    (call : MarksCall relation passes game marks spare (accepted counts) marks′ spare′) where
+  marks-hold : marks′ ≡ written (bytesOf relation game) marks
+  unfolding passesAnswer
+  marks-hold = call .marks-after ∙ after-accepted (orderRows game marks spare) _ (bytesOf relation game) marks (sym (call .verdict))
 
-  written-beyond : (i : ℕ) → marksLength (vertexCount game) ≤ i → getD (written (orderBytes game) old) i 0 ≡ getD old i 0
-  written-beyond i h = getD-written-beyond (orderBytes game) old i 0 (rw (length-orderBytes game) h)
+  spare-holds : spare′ ≡ written (bytesOf relation game) spare
+  unfolding passesAnswer
+  spare-holds = call .spare-after ∙ after-accepted (orderRows game marks spare) _ (bytesOf relation game) spare (sym (call .verdict))
+
+  -- both hold the marks
+  module _ (v w : ℕ) (hv : v < vertexCount game) (hw : w < vertexCount game) where
+    pub marks-of : getD marks′ (v * vertexCount game + w) 0 ≡ bit (relOf (gameOf game .n) (marked (relation (gameOf game))) v w)
+    marks-of = rw marks-hold (byte-of relation long game marks v w hv hw)
+
+    pub spare-of : getD spare′ (v * vertexCount game + w) 0 ≡ bit (relOf (gameOf game .n) (marked (relation (gameOf game))) v w)
+    spare-of = rw spare-holds (byte-of relation long game spare v w hv hw)
+
+  pub length-left : length marks′ ≡ length marks
+  length-left =
+      let f = passes-accepted passes game marks spare counts (sym (call .verdict)) .0 in
+      ap length marks-hold ∙ length-written (bytesOf relation game) marks (omega (arith, f .marksFit, length-bytesOf relation long game))
+
+  pub beyond-marks : (i : ℕ) → marksLength (vertexCount game) ≤ i → getD marks′ i 0 ≡ getD marks i 0
+  beyond-marks i h = rw marks-hold (written-beyond relation long game marks i h)
+
+  pub beyond-spare : (i : ℕ) → marksLength (vertexCount game) ≤ i → getD spare′ i 0 ≡ getD spare i 0
+  beyond-spare i h = rw spare-holds (written-beyond relation long game spare i h)
+
+  -- at most n × n - n + 1 passes, where the relation's are
+  pub passes-bound : ((G : Game) → passes G + G .n ≤ suc (G .n * G .n)) → (c : ℕ) → counts ≡ c ∷ [] → c + vertexCount game ≤ suc (pairCount game)
+  passes-bound few c e =
+      let q : passes (gameOf game) ≡ c = cc (passes-accepted passes game marks spare counts (sym (call .verdict)) .1, e) in
+      rw (← q) (subst (λ (n : ℕ). passes (gameOf game) + n ≤ suc (n * n)) (game-n game) (few (gameOf game)))
+
+  -- marks and spare may change places
+  pub marks-swapped : MarksCall relation passes game spare marks (accepted counts) spare′ marks′
+  unfolding passesAnswer
+  marks-swapped =
+      let a = passes-accepted passes game marks spare counts (sym (call .verdict)) in
+      let e = passes-accepts passes game spare marks (record { game = a .0 .game; marksFit = a .0 .spareFit; spareFit = a .0 .marksFit }) in record {
+        verdict = cc (a .1, e);
+        marks-after = spare-holds ∙ sym (after-accepted (orderRows game spare marks) _ (bytesOf relation game) spare e);
+        spare-after = marks-hold ∙ sym (after-accepted (orderRows game spare marks) _ (bytesOf relation game) marks e);
+      }
+
+-- a refused call left both buffers as they were
+pub refused-old : {relation : Game → Marks} {passes : Game → ℕ} (game marks spare : List ℕ) (k p : ℕ) (marks′ spare′ : List ℕ)
+    → MarksCall relation passes game marks spare (refused k p) marks′ spare′ → (marks′ ≡ marks) × (spare′ ≡ spare)
+unfolding passesAnswer
+refused-old {relation} game marks spare k p marks′ spare′ call = (
+  call .marks-after ∙ after-refused (orderRows game marks spare) _ (bytesOf relation game) marks (sym (call .verdict)),
+  call .spare-after ∙ after-refused (orderRows game marks spare) _ (bytesOf relation game) spare (sym (call .verdict)),
+)
+
+-- ---- the order
 
 module _ (game marks spare counts marks′ spare′ : List ℕ) (call : OrderCall game marks spare (accepted counts) marks′ spare′) where
-  marks-hold : marks′ ≡ written (orderBytes game) marks
-  unfolding orderAnswer
-  marks-hold = call .marks-after ∙ after-accepted (orderRows game marks spare) _ (orderBytes game) marks (sym (call .verdict))
-
-  spare-holds : spare′ ≡ written (orderBytes game) spare
-  unfolding orderAnswer
-  spare-holds = call .spare-after ∙ after-accepted (orderRows game marks spare) _ (orderBytes game) spare (sym (call .verdict))
-
   module _ (v w : ℕ) (hv : v < vertexCount game) (hw : w < vertexCount game) where
     pub written-marks : getD marks′ (v * vertexCount game + w) 0 ≡ bit (order (gameOf game) v w)
-    written-marks = rw marks-hold (written-byte game marks v w hv hw)
-
-    pub written-spare : getD spare′ (v * vertexCount game + w) 0 ≡ bit (order (gameOf game) v w)
-    written-spare = rw spare-holds (written-byte game spare v w hv hw)
+    unfolding order
+    written-marks = marks-of length-orderMarks game marks spare counts marks′ spare′ call v w hv hw
 
     -- 1 exactly if some direct simulation holds the pair
     pub marked-below : Marked (vertexCount game) marks′ v w → Below even (gameOf game) (gameOf game) v w
@@ -99,27 +169,4 @@ module _ (game marks spare counts marks′ spare′ : List ℕ) (call : OrderCal
     below-marked b = written-marks ∙ bit-in (order-in (gameOf game) (rw (game-n game) hv) (rw (game-n game) hw) b)
 
   pub length-marks : length marks′ ≡ length marks
-  length-marks =
-      let f = order-accepted game marks spare counts (sym (call .verdict)) .0 in
-      ap length marks-hold ∙ length-written (orderBytes game) marks (omega (arith, f .marksFit, length-orderBytes game))
-
-  pub beyond-marks : (i : ℕ) → marksLength (vertexCount game) ≤ i → getD marks′ i 0 ≡ getD marks i 0
-  beyond-marks i h = rw marks-hold (written-beyond game marks i h)
-
-  pub beyond-spare : (i : ℕ) → marksLength (vertexCount game) ≤ i → getD spare′ i 0 ≡ getD spare i 0
-  beyond-spare i h = rw spare-holds (written-beyond game spare i h)
-
-  -- at most n × n - n + 1 passes
-  pub passes-bound : (c : ℕ) → counts ≡ c ∷ [] → c + vertexCount game ≤ suc (pairCount game)
-  passes-bound c e =
-      let q : orderPasses (gameOf game) ≡ c = cc (order-accepted game marks spare counts (sym (call .verdict)) .1, e) in
-      rw (← q) (subst (λ (n : ℕ). orderPasses (gameOf game) + n ≤ suc (n * n)) (game-n game) (orderPasses-le (gameOf game)))
-
--- a refused call left both buffers as they were
-pub refused-old : (game marks spare : List ℕ) (k p : ℕ) (marks′ spare′ : List ℕ) → OrderCall game marks spare (refused k p) marks′ spare′
-    → (marks′ ≡ marks) × (spare′ ≡ spare)
-unfolding orderAnswer
-refused-old game marks spare k p marks′ spare′ call = (
-  call .marks-after ∙ after-refused (orderRows game marks spare) _ (orderBytes game) marks (sym (call .verdict)),
-  call .spare-after ∙ after-refused (orderRows game marks spare) _ (orderBytes game) spare (sym (call .verdict)),
-)
+  length-marks = length-left length-orderMarks game marks spare counts marks′ spare′ call

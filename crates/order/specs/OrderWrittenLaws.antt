@@ -1,10 +1,11 @@
--- The rows that the rounds leave, written and copied, are the order.
+-- The rows that the rounds leave, written and copied, are the order or, with `mirror`, the governed bisimulation.
 use mathlib.Core.Path.{_≡_, _∙_}
+use mathlib.Core.Bool.{Bool}
 use mathlib.Core.List.{List}
 use Prim.Native.Nat.{ℕ}
 use lib.ListN.{length}
-use Rattle.theory.specs.Order.{orderMarks}
-use Rattle.theory.specs.OrderLaws.{length-orderMarks}
+use Rattle.theory.specs.Governed.{marksBy, passesBy}
+use Rattle.theory.specs.GovernedLaws.{length-by}
 use Rattle.table.specs.Table.{vertexCount, gameOf}
 use Rattle.table.specs.Verdict.{written}
 use Rattle.pairs.specs.Marks.{marksLength}
@@ -12,20 +13,20 @@ use Rattle.pairs.specs.MarksLaws.{length-bytes}
 use Rattle.pairs.specs.Writing.{RowsWritten, Copied}
 use Rattle.pairs.specs.WritingLaws.{rows-are, copied-is}
 use Rattle.rounds.specs.Rounds.{Settled}
-use Rattle.order.specs.OrderCall.{orderBytes}
-use Rattle.order.specs.OrderWritten.{OrderDone}
+use Rattle.order.specs.OrderCall.{bytesOf}
+use Rattle.order.specs.OrderWritten.{MarksDone}
 
-pub order-done : (game related marks spare : List ℕ) (passes : ℕ) (marks′ spare′ : List ℕ) → Settled (gameOf game) passes related
+pub rows-done : (mirror : Bool) (game related marks spare : List ℕ) (passes : ℕ) (marks′ spare′ : List ℕ) → Settled mirror (gameOf game) passes related
     → RowsWritten (vertexCount game) related marks marks′ → Copied (marksLength (vertexCount game)) marks′ spare spare′
-    → OrderDone game marks spare passes marks′ spare′
+    → MarksDone (marksBy mirror) (passesBy mirror) game marks spare passes marks′ spare′
 unfolding gameOf
-order-done game related marks spare passes marks′ spare′ s m c = record { count = s .count; marks-after = done; spare-after = copied }
+rows-done mirror game related marks spare passes marks′ spare′ s m c = record { count = s .count; marks-after = done; spare-after = copied }
   where
-    done : marks′ ≡ written (orderBytes game) marks
-    done = rows-are (vertexCount game) related (orderMarks (gameOf game)) marks marks′ m (length-orderMarks (gameOf game)) (s .marks)
+    done : marks′ ≡ written (bytesOf (marksBy mirror) game) marks
+    done = rows-are (vertexCount game) related (marksBy mirror (gameOf game)) marks marks′ m (length-by (gameOf game) mirror) (s .marks)
 
-    size : length (orderBytes game) ≡ marksLength (vertexCount game)
-    size = length-bytes (orderMarks (gameOf game)) ∙ length-orderMarks (gameOf game)
+    size : length (bytesOf (marksBy mirror) game) ≡ marksLength (vertexCount game)
+    size = length-bytes (marksBy mirror (gameOf game)) ∙ length-by (gameOf game) mirror
 
-    copied : spare′ ≡ written (orderBytes game) spare
-    copied = copied-is (orderBytes game) marks marks′ spare spare′ done (rw size c)
+    copied : spare′ ≡ written (bytesOf (marksBy mirror) game) spare
+    copied = copied-is (bytesOf (marksBy mirror) game) marks marks′ spare spare′ done (rw size c)

@@ -2,7 +2,11 @@
 use mathlib.Core.Path.{_≡_, sym, ap, _∙_}
 use mathlib.Core.List.{List}
 use Prim.Native.Nat.{ℕ}
+use Rattle.theory.specs.Passes.{Marks}
+use Rattle.theory.specs.Game.{Game}
+use Rattle.theory.specs.Order.{orderMarks, orderPasses}
 use Rattle.theory.specs.AgreementLaws.{agree-orderMarks, agree-passes}
+use Rattle.table.specs.Table.{gameOf}
 use Rattle.table.specs.Verdict.{Answer, after}
 use Rattle.table.specs.VerdictLaws.{judge-past, after-past}
 use Rattle.table.specs.Reading.{gameRows}
@@ -11,28 +15,38 @@ use Rattle.table.specs.WellFormed.{WellFormed}
 use Rattle.table.specs.SameGame.{SameGame}
 use Rattle.table.specs.SameGameLaws.{same-agree}
 use Rattle.pairs.specs.Marks.{bytes}
-use Rattle.order.specs.OrderCall.{orderRows, orderAnswer, orderBytes, OrderCall}
+use Rattle.order.specs.OrderCall.{orderRows, passesAnswer, orderAnswer, bytesOf, orderBytes, MarksCall, OrderCall}
 
 pub same-orderBytes : {g h : List ℕ} → SameGame g h → orderBytes g ≡ orderBytes h
 same-orderBytes same = ap bytes (agree-orderMarks (same-agree same))
 
-module _ {g h : List ℕ} (same : SameGame g h) (wg : WellFormed g) (wh : WellFormed h) (marks spare : List ℕ) where
-  pub same-orderAnswer : orderAnswer g marks spare ≡ orderAnswer h marks spare
-  unfolding orderAnswer orderRows
-  same-orderAnswer =
+-- whatever relation of the game is written
+module _ (relation : Game → Marks) (passes : Game → ℕ) {g h : List ℕ} (same : SameGame g h) (bytes-same : bytesOf relation g ≡ bytesOf relation h)
+    (passes-same : passes (gameOf g) ≡ passes (gameOf h)) (wg : WellFormed g) (wh : WellFormed h) (marks spare : List ℕ) where
+  same-answer : passesAnswer passes g marks spare ≡ passesAnswer passes h marks spare
+  unfolding passesAnswer orderRows
+  same-answer =
       judge-past (gameRows g) _ _ (well-clean g wg)
-      ∙ rw (same .vertices, agree-passes (same-agree same)) (sym (judge-past (gameRows h) _ _ (well-clean h wh)))
+      ∙ rw (same .vertices, passes-same) (sym (judge-past (gameRows h) _ _ (well-clean h wh)))
 
   -- a buffer after the call
-  same-after : (old : List ℕ) → after (orderRows g marks spare) (orderBytes g) old ≡ after (orderRows h marks spare) (orderBytes h) old
+  same-after : (old : List ℕ) → after (orderRows g marks spare) (bytesOf relation g) old ≡ after (orderRows h marks spare) (bytesOf relation h) old
   unfolding orderRows
   same-after old =
-      after-past (gameRows g) _ (orderBytes g) old (well-clean g wg)
-      ∙ rw (same .vertices, same-orderBytes same) (sym (after-past (gameRows h) _ (orderBytes h) old (well-clean h wh)))
+      after-past (gameRows g) _ (bytesOf relation g) old (well-clean g wg)
+      ∙ rw (same .vertices, bytes-same) (sym (after-past (gameRows h) _ (bytesOf relation h) old (well-clean h wh)))
 
-  pub same-order : {answer : Answer} {marks′ spare′ : List ℕ} → OrderCall g marks spare answer marks′ spare′ → OrderCall h marks spare answer marks′ spare′
-  same-order call = record {
-    verdict = call .verdict ∙ same-orderAnswer;
+  pub same-marks : {answer : Answer} {marks′ spare′ : List ℕ} → MarksCall relation passes g marks spare answer marks′ spare′
+      → MarksCall relation passes h marks spare answer marks′ spare′
+  same-marks call = record {
+    verdict = call .verdict ∙ same-answer;
     marks-after = call .marks-after ∙ same-after marks;
     spare-after = call .spare-after ∙ same-after spare;
   }
+
+module _ {g h : List ℕ} (same : SameGame g h) (wg : WellFormed g) (wh : WellFormed h) (marks spare : List ℕ) where
+  pub same-orderAnswer : orderAnswer g marks spare ≡ orderAnswer h marks spare
+  same-orderAnswer = same-answer orderMarks orderPasses same (same-orderBytes same) (agree-passes (same-agree same)) wg wh marks spare
+
+  pub same-order : {answer : Answer} {marks′ spare′ : List ℕ} → OrderCall g marks spare answer marks′ spare′ → OrderCall h marks spare answer marks′ spare′
+  same-order = same-marks orderMarks orderPasses same (same-orderBytes same) (agree-passes (same-agree same)) wg wh marks spare

@@ -10,13 +10,15 @@ use table::Reading;
 use table::Refusal;
 use table::limits::VERTICES;
 use table::refusal_of;
+ghost use mathlib.Core.Path.{_≡_};
 ghost use Prim.Native.Nat.{_≤_};
 ghost use lib.ListN.{length};
+ghost use Rattle.theory.specs.Governed.{marksBy, passesBy};
 ghost use Rattle.table.specs.Table.{vertexCount};
 ghost use Rattle.table.specs.WellFormed.{WellFormed};
 ghost use Rattle.pairs.specs.Marks.{marksLength};
-ghost use Rattle.order.specs.OrderWritten.{OrderDone};
-ghost use Rattle.order.specs.OrderCall.{orderingAnswer, OrderCall};
+ghost use Rattle.order.specs.OrderWritten.{MarksDone, OrderDone};
+ghost use Rattle.order.specs.OrderCall.{orderingAnswer, MarksCall, OrderCall};
 
 pub struct PassCount {
     pub passes: u32,
@@ -30,12 +32,12 @@ pub enum Ordering {
 // The words of a relation in rows.
 const RELATION_WORDS: usize = VERTICES * WORDS;
 
-// Writes the order of a well-formed table into buffers that are long enough, by rows of bits in local arrays of 48 KiB. A part of the calls
-// that leave the order; no host calls it.
-pub fn fill_order(game: &[u16], marks: &mut [u8], spare: &mut [u8]) -> u32
+// Writes the order of a well-formed table or, with `mirror`, its governed bisimulation into buffers that are long enough, by rows of bits in
+// local arrays of 48 KiB. A part of the calls that leave such a relation; no host calls it.
+pub fn fill_relation(game: &[u16], marks: &mut [u8], spare: &mut [u8], mirror: bool) -> u32
     requires { ⌜ WellFormed (now game) ⌝ }
     requires { ⌜ (marksLength (vertexCount (now game)) ≤ length (now marks)) × (marksLength (vertexCount (now game)) ≤ length (now spare)) ⌝ }
-    ensures { λ r. ⌜ OrderDone (now (game .entry)) (now (marks .entry)) (now (spare .entry)) r (now (marks .exit)) (now (spare .exit)) ⌝ }
+    ensures { λ r. ⌜ MarksDone (marksBy mirror) (passesBy mirror) (now (game .entry)) (now (marks .entry)) (now (spare .entry)) r (now (marks .exit)) (now (spare .exit)) ⌝ }
 {
     let mut edges = [0u64; EDGE_WORDS];
     let mut related = [0u64; RELATION_WORDS];
@@ -43,22 +45,43 @@ pub fn fill_order(game: &[u16], marks: &mut [u8], spare: &mut [u8]) -> u32
     let mut falls = [0u64; RELATION_WORDS];
     let mut next = [0u64; RELATION_WORDS];
     fill(game, &mut edges);
-    let passes = rounds(game, &edges, &mut related, &mut lost, &mut falls, &mut next);
+    let passes = rounds(
+        game,
+        &edges,
+        &mut related,
+        &mut lost,
+        &mut falls,
+        &mut next,
+        mirror,
+    );
     let n = game[0] as usize;
     write_marks(&related, n, marks);
     copy_marks(marks, spare, length_for(n));
     passes
 }
 
-// Judges the game and the buffers, and writes the order into both. The verdict carries the pass count.
-pub fn write_order(game: &[u16], marks: &mut [u8], spare: &mut [u8]) -> Ordering
-    ensures { λ r. ⌜ OrderCall (now (game .entry)) (now (marks .entry)) (now (spare .entry)) (orderingAnswer r) (now (marks .exit)) (now (spare .exit)) ⌝ }
+// Writes the order of a well-formed table. A part of the calls that leave it; no host calls it.
+pub fn fill_order(game: &[u16], marks: &mut [u8], spare: &mut [u8]) -> u32
+    requires { ⌜ WellFormed (now game) ⌝ }
+    requires { ⌜ (marksLength (vertexCount (now game)) ≤ length (now marks)) × (marksLength (vertexCount (now game)) ≤ length (now spare)) ⌝ }
+    ensures { λ r. ⌜ OrderDone (now (game .entry)) (now (marks .entry)) (now (spare .entry)) r (now (marks .exit)) (now (spare .exit)) ⌝ }
 {
-    let reading = table::read(game);
-    let Reading::Accepted(sizes) = reading else {
-        return Ordering::Refused(refusal_of(reading));
-    };
-    let needed = length_for(sizes.vertices);
+    fill_relation(game, marks, spare, false)
+}
+
+// Judges the buffers for a game of n vertices that was read, and writes its order or, with `mirror`, its governed bisimulation. A part of the two
+// calls; no host calls it.
+pub fn write_relation(
+    game: &[u16],
+    n: usize,
+    marks: &mut [u8],
+    spare: &mut [u8],
+    mirror: bool,
+) -> Ordering
+    requires { ⌜ WellFormed (now game) × (n ≡ vertexCount (now game)) ⌝ }
+    ensures { λ r. ⌜ MarksCall (marksBy mirror) (passesBy mirror) (now (game .entry)) (now (marks .entry)) (now (spare .entry)) (orderingAnswer r) (now (marks .exit)) (now (spare .exit)) ⌝ }
+{
+    let needed = length_for(n);
     if marks.len() < needed {
         return Ordering::Refused(Refusal {
             number: 21,
@@ -71,6 +94,17 @@ pub fn write_order(game: &[u16], marks: &mut [u8], spare: &mut [u8]) -> Ordering
             place: needed,
         });
     }
-    let passes = fill_order(game, marks, spare);
+    let passes = fill_relation(game, marks, spare, mirror);
     Ordering::Accepted(PassCount { passes })
+}
+
+// Judges the game and the buffers, and writes the order into both. The verdict carries the pass count.
+pub fn write_order(game: &[u16], marks: &mut [u8], spare: &mut [u8]) -> Ordering
+    ensures { λ r. ⌜ OrderCall (now (game .entry)) (now (marks .entry)) (now (spare .entry)) (orderingAnswer r) (now (marks .exit)) (now (spare .exit)) ⌝ }
+{
+    let reading = table::read(game);
+    let Reading::Accepted(sizes) = reading else {
+        return Ordering::Refused(refusal_of(reading));
+    };
+    write_relation(game, sizes.vertices, marks, spare, false)
 }

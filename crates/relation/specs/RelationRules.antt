@@ -10,22 +10,38 @@ use Rattle.table.specs.ReadingRules.{gameRules}
 use Rattle.table.specs.WellFormed.{WellFormed}
 use Rattle.pairs.specs.Marks.{marksLength, Marked}
 
--- it is marked, and has unequal priorities or fails the test
-pub record Fails (g marks : List ℕ) (v w : ℕ) : Type 0 where
+-- it is marked, and what is asked of it fails
+pub record Fails (Asked : ℕ → ℕ → Type 0) (g marks : List ℕ) (v w : ℕ) : Type 0 where
   pub marked : Marked (vertexCount g) marks v w
-  pub failing : ¬ PassesTest even (gameOf g) (gameOf g) (Marked (vertexCount g) marks) v w
+  pub failing : ¬ Asked v w
 
 -- 1 to 8, 21, 9, 10; pair (v, w) is number v × n + w
-abbrev pub relationRules : List ℕ → List ℕ → List Rule
-relationRules g marks =
+abbrev pub acceptorRules : (ℕ → ℕ → Type 0) → List ℕ → List ℕ → List Rule
+acceptorRules Asked g marks =
     let n = vertexCount g in
     gameRules g
     ++ (
     memoryRule 21 (marksLength n) marks
     ∷ firstSuch 9 (λ i. 1 < getD marks i 0) 0 (n * n) (λ i. i)
-    ∷ firstSuch 10 (λ i. Fails g marks (i / n) (i % n)) 0 (n * n) (λ i. i)
+    ∷ firstSuch 10 (λ i. Fails Asked g marks (i / n) (i % n)) 0 (n * n) (λ i. i)
     ∷ []
     )
+
+-- a well-formed table, with marks of 0 and 1, each of which passes what is asked
+pub record AcceptorPasses (Asked : ℕ → ℕ → Type 0) (g marks : List ℕ) : Type 0 where
+  pub game : WellFormed g
+  pub fits : marksLength (vertexCount g) ≤ length marks
+  pub low : (i : ℕ) → i < pairCount g → getD marks i 0 ≤ 1
+  pub each : (v w : ℕ) → v < vertexCount g → w < vertexCount g → Marked (vertexCount g) marks v w → Asked v w
+
+-- ---- direct simulations
+
+-- equal priorities and the test
+abbrev pub Direct : List ℕ → List ℕ → ℕ → ℕ → Type 0
+Direct g marks = PassesTest even (gameOf g) (gameOf g) (Marked (vertexCount g) marks)
+
+abbrev pub relationRules : List ℕ → List ℕ → List Rule
+relationRules g marks = acceptorRules (Direct g marks) g marks
 
 -- a well-formed table, with marks of 0 and 1 that form a direct simulation
 pub record RelationPasses (g marks : List ℕ) : Type 0 where

@@ -15,11 +15,10 @@ use Rattle.theory.specs.Bools.{_&_}
 use Rattle.theory.specs.BoolsLaws.{clash, decide, So-not, and-in, and-out, not-in, not-out, bit-le}
 use Rattle.theory.specs.RangeLaws.{none-found, found-none}
 use Rattle.theory.specs.CountLaws.{row-lt, col-lt}
-use Rattle.theory.specs.Passes.{relOf}
-use Rattle.theory.specs.Game.{even}
+use Rattle.theory.specs.Passes.{Rel}
+use Rattle.theory.specs.Game.{even, Game}
 use Rattle.theory.specs.Simulation.{PassesTest, Below}
 use Rattle.theory.specs.SimulationLaws.{moves-mono}
-use Rattle.theory.specs.Order.{equalPriority, test, order}
 use Rattle.theory.specs.OrderLaws.{passes-in, passes-out}
 use Rattle.table.specs.Table.{vertexCount, pairCount, gameOf}
 use Rattle.table.specs.TableLaws.{game-n}
@@ -34,83 +33,86 @@ use Rattle.pairs.specs.Marks.{marksLength, relation, Marked, firstHigh}
 use Rattle.pairs.specs.MarksLaws.{marked-in, marked-out}
 use Rattle.order.specs.OrderCall.{OrderCall}
 use Rattle.order.specs.OrderRulesLaws.{order-accepted, length-marks, written-marks, marked-below, below-marked}
-use Rattle.relation.specs.RelationCall.{fails, firstFailing, relationRows, relationAnswer}
-use Rattle.relation.specs.RelationRules.{Fails, relationRules, RelationPasses}
+use Rattle.relation.specs.RelationCall.{directPair, fails, firstFailing, acceptorRows, acceptorAnswer, relationAnswer}
+use Rattle.relation.specs.RelationRules.{Fails, acceptorRules, AcceptorPasses, Direct, relationRules, RelationPasses}
 
 -- ---- the test as a Bool and as a type
 
 module _ (g marks : List ℕ) where
-  -- the computed test of a pair is the test
-  abbrev pub passesTest : ℕ → ℕ → Bool
-  passesTest v w = equalPriority (gameOf g) (gameOf g) v w & test even (gameOf g) (gameOf g) (relation (vertexCount g) marks) v w
+  -- what is asked of a pair under the marks
+  abbrev pub under : (Game → Rel → Rel) → ℕ → ℕ → Bool
+  under asked = asked (gameOf g) (relation (vertexCount g) marks)
 
-  test-out : (v w : ℕ) → So (passesTest v w) → PassesTest even (gameOf g) (gameOf g) (Marked (vertexCount g) marks) v w
-  test-out v w t =
+  direct-out : (v w : ℕ) → So (under directPair v w) → Direct g marks v w
+  unfolding directPair
+  direct-out v w t =
       let a = and-out t in
       let p = passes-out even (gameOf g) (gameOf g) (relation (vertexCount g) marks) v w (a .0) (a .1) in
       record { equal = p .equal; moves = moves-mono _ _ _ _ _ _ (λ x y s u. marked-out (vertexCount g) marks x y) (p .moves) }
 
-  test-in : (v w : ℕ) → PassesTest even (gameOf g) (gameOf g) (Marked (vertexCount g) marks) v w → So (passesTest v w)
-  test-in v w p =
+  direct-in : (v w : ℕ) → Direct g marks v w → So (under directPair v w)
+  unfolding directPair
+  direct-in v w p =
       let q =
       passes-in even (gameOf g) (gameOf g) (relation (vertexCount g) marks) v w
       (record { equal = p .equal; moves = moves-mono _ _ _ _ _ _ (λ x y s u. marked-in (vertexCount g) marks x y) (p .moves) }) in
       and-in (q .0) (q .1)
 
-  fails-is : (v w : ℕ) → So (fails g marks v w) ↔ Fails g marks v w
+  pub direct-is : (v w : ℕ) → So (under directPair v w) ↔ Direct g marks v w
+  direct-is v w = (direct-out v w, direct-in v w)
+
+-- ---- whatever is asked of a marked pair
+
+module _ (asked : Game → Rel → Rel) (g marks : List ℕ) (Asked : ℕ → ℕ → Type 0) (is : (v w : ℕ) → So (under g marks asked v w) ↔ Asked v w) where
+  fails-is : (v w : ℕ) → So (fails asked g marks v w) ↔ Fails Asked g marks v w
   unfolding fails
   fails-is v w = (
-    λ t. let a = and-out t in record { marked = marked-out (vertexCount g) marks v w (a .0); failing = λ p. clash (test-in v w p) (not-out (a .1)) },
-    λ f. and-in (marked-in (vertexCount g) marks v w (f .marked)) (not-in (So-not (λ t. f .failing (test-out v w t)))),
+    λ t. let a = and-out t in record { marked = marked-out (vertexCount g) marks v w (a .0); failing = λ p. clash (is v w .1 p) (not-out (a .1)) },
+    λ f. and-in (marked-in (vertexCount g) marks v w (f .marked)) (not-in (So-not (λ t. f .failing (is v w .0 t)))),
   )
 
--- ---- refused exactly by the table
+  rows-render-asked : Rendered (acceptorRows asked g marks) (acceptorRules Asked g marks)
+  unfolding acceptorRows firstHigh firstFailing
+  rows-render-asked =
+      let n = vertexCount g in
+      rendered-append (rows-render g)
+      (next (memory-renders 21 _ marks)
+      (next
+      (renders-first 9 (λ i. ltb 1 (getD marks i 0)) (λ i. 1 < getD marks i 0) 0 (n * n) (λ i. i) (omega arith)
+      (λ i. (ltb-true 1 (getD marks i 0), lt-ltb 1 (getD marks i 0))))
+      (next
+      (renders-first 10 (λ i. fails asked g marks (i / n) (i % n)) (λ i. Fails Asked g marks (i / n) (i % n)) 0 (n * n) (λ i. i) (omega arith)
+      (λ i. fails-is (i / n) (i % n)))
+      none)))
 
-relation-rows-render : (g marks : List ℕ) → Rendered (relationRows g marks) (relationRules g marks)
-unfolding relationRows firstHigh firstFailing
-relation-rows-render g marks =
-    let n = vertexCount g in
-    rendered-append (rows-render g)
-    (next (memory-renders 21 _ marks)
-    (next
-    (renders-first 9 (λ i. ltb 1 (getD marks i 0)) (λ i. 1 < getD marks i 0) 0 (n * n) (λ i. i) (omega arith)
-    (λ i. (ltb-true 1 (getD marks i 0), lt-ltb 1 (getD marks i 0))))
-    (next
-    (renders-first 10 (λ i. fails g marks (i / n) (i % n)) (λ i. Fails g marks (i / n) (i % n)) 0 (n * n) (λ i. i) (omega arith)
-    (λ i. fails-is g marks (i / n) (i % n)))
-    none)))
+  -- refused exactly by the table
+  pub acceptor-refused : (k p : ℕ) → (acceptorAnswer asked g marks ≡ refused k p) ↔ FirstRule (acceptorRules Asked g marks) k p
+  unfolding acceptorAnswer
+  acceptor-refused = refused-by _ rows-render-asked refl
 
-pub relation-refused : (g marks : List ℕ) (k p : ℕ) → (relationAnswer g marks ≡ refused k p) ↔ FirstRule (relationRules g marks) k p
-unfolding relationAnswer
-relation-refused g marks = refused-by _ (relation-rows-render g marks) refl
-
--- ---- accepted exactly if the marked pairs form a direct simulation
-
-module _ (g marks : List ℕ) where
-  pub relation-accepted : relationAnswer g marks ≡ accepted [] → RelationPasses g marks
-  unfolding relationAnswer relationRows firstHigh firstFailing
-  relation-accepted e =
+  -- accepted exactly if every marked pair passes
+  pub acceptor-accepted : acceptorAnswer asked g marks ≡ accepted [] → AcceptorPasses Asked g marks
+  unfolding acceptorAnswer acceptorRows firstHigh firstFailing
+  acceptor-accepted e =
       let n = vertexCount g in
       let c = clean-split (gameRows g) _ (judge-accepted _ [] [] e .0) in
       record {
         game = clean-well g (c .0);
         fits = ltb-false (length marks) (n * n) (c .1 .0);
         low = λ i h. ltb-false 1 (getD marks i 0) (none-found _ (n * n) (c .1 .1 .0) i h);
-        simulation = λ v w hv hw m.
-            let hv′ = rw (game-n g) at hv in
-            let hw′ = rw (game-n g) at hw in
-            let f : fails g marks v w ≡ false =
-            subst₂ (λ (x y : ℕ). fails g marks x y ≡ false) (digits-div v hw′) (digits-mod v hw′)
-            (none-found _ (n * n) (c .1 .1 .1 .0) (v * n + w) (digits-lt hv′ hw′)) in
-            elim (decide (passesTest g marks v w)) [
-              | inl t ↦ test-out g marks v w t
-              | inr t ↦ clash (fails-is g marks v w .1 (record { marked = m; failing = λ p. clash (test-in g marks v w p) t })) f
+        each = λ v w hv hw m.
+            let f : fails asked g marks v w ≡ false =
+            subst₂ (λ (x y : ℕ). fails asked g marks x y ≡ false) (digits-div v hw) (digits-mod v hw)
+            (none-found _ (n * n) (c .1 .1 .1 .0) (v * n + w) (digits-lt hv hw)) in
+            elim (decide (under g marks asked v w)) [
+              | inl t ↦ is v w .0 t
+              | inr t ↦ clash (fails-is v w .1 (record { marked = m; failing = λ p. clash (is v w .1 p) t })) f
             ];
       }
 
-  pub relation-accepts : RelationPasses g marks → relationAnswer g marks ≡ accepted []
-  unfolding relationAnswer relationRows firstHigh firstFailing
-  relation-accepts r =
+  pub acceptor-accepts : AcceptorPasses Asked g marks → acceptorAnswer asked g marks ≡ accepted []
+  unfolding acceptorAnswer acceptorRows firstHigh firstFailing
+  acceptor-accepts r =
       let n = vertexCount g in
       judge-clean _ []
       (clean-append (gameRows g) _ (well-clean g (r .game)) (
@@ -120,12 +122,38 @@ module _ (g marks : List ℕ) where
           (
             found-none _ (n * n)
                 (λ i h. So-not (λ t.
-                let f = fails-is g marks (i / n) (i % n) .0 t in
-                f .failing (r .simulation (i / n) (i % n) (rw (game-n g) (row-lt n n i h)) (rw (game-n g) (col-lt n n i h)) (f .marked)))),
+                let f = fails-is (i / n) (i % n) .0 t in
+                f .failing (r .each (i / n) (i % n) (row-lt n n i h) (col-lt n n i h) (f .marked)))),
             tt,
           ),
         ),
       ))
+
+  -- the empty relation passes
+  pub empty-accepted : WellFormed g → marksLength (vertexCount g) ≤ length marks → ((i : ℕ) → i < pairCount g → getD marks i 0 ≡ 0)
+      → acceptorAnswer asked g marks ≡ accepted []
+  empty-accepted well fit zero = acceptor-accepts (record {
+    game = well;
+    fits = fit;
+    low = λ i h. omega (arith, zero i h);
+    each = λ v w hv hw m. absurd (omega (arith, m, zero (v * vertexCount g + w) (digits-lt hv hw)));
+  })
+
+-- ---- direct simulations
+
+pub relation-refused : (g marks : List ℕ) (k p : ℕ) → (relationAnswer g marks ≡ refused k p) ↔ FirstRule (relationRules g marks) k p
+relation-refused g marks = acceptor-refused directPair g marks _ (direct-is g marks)
+
+module _ (g marks : List ℕ) where
+  pub relation-accepted : relationAnswer g marks ≡ accepted [] → RelationPasses g marks
+  relation-accepted e =
+      let p = acceptor-accepted directPair g marks _ (direct-is g marks) e in
+      record { game = p .game; fits = p .fits; low = p .low; simulation = λ v w hv hw m. p .each v w (rw (game-n g) at hv) (rw (game-n g) at hw) m }
+
+  pub relation-accepts : RelationPasses g marks → relationAnswer g marks ≡ accepted []
+  relation-accepts r =
+      acceptor-accepts directPair g marks _ (direct-is g marks)
+      (record { game = r .game; fits = r .fits; low = r .low; each = λ v w hv hw m. r .simulation v w (rw (game-n g) hv) (rw (game-n g) hw) m })
 
   -- ---- all that is passed lies in the written order
 
@@ -140,12 +168,7 @@ module _ (g marks : List ℕ) where
 
   pub empty-passes : WellFormed g → marksLength (vertexCount g) ≤ length marks → ((i : ℕ) → i < pairCount g → getD marks i 0 ≡ 0)
       → relationAnswer g marks ≡ accepted []
-  empty-passes well fit zero = relation-accepts (record {
-    game = well;
-    fits = fit;
-    low = λ i h. omega (arith, zero i h);
-    simulation = λ v w hv hw m. absurd (omega (arith, m, zero (v * vertexCount g + w) (digits-lt (rw (game-n g) at hv) (rw (game-n g) at hw))));
-  })
+  empty-passes = empty-accepted directPair g marks _ (direct-is g marks)
 
 -- ---- the written order passes
 

@@ -2,10 +2,12 @@
 use mathlib.Core.List.{List}
 use Prim.Native.Nat.{ℕ, _+_, _*_, _/_, _%_}
 use Rattle.theory.specs.Range.{first}
+use Rattle.theory.specs.Passes.{Rel}
+use Rattle.theory.specs.Game.{Game}
 use Rattle.table.specs.Table.{vertexCount, pairCount}
 use Rattle.relation.specs.RelationCall.{fails}
 
 -- from pair (v, w) on
-unfoldable pub failingFrom : List ℕ → List ℕ → ℕ → ℕ → ℕ
-failingFrom g marks v w =
-    first (λ i. fails g marks (i / vertexCount g) (i % vertexCount g)) (v * vertexCount g + w) (pairCount g)
+unfoldable pub failingFrom : (Game → Rel → Rel) → List ℕ → List ℕ → ℕ → ℕ → ℕ
+failingFrom asked g marks v w =
+    first (λ i. fails asked g marks (i / vertexCount g) (i % vertexCount g)) (v * vertexCount g + w) (pairCount g)

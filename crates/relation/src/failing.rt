@@ -13,7 +13,7 @@ ghost use Rattle.table.specs.WellFormed.{WellFormed};
 ghost use Rattle.index.specs.Index.{EdgeIndex};
 ghost use Rattle.pairs.specs.Marks.{marksLength};
 ghost use Rattle.pairs.specs.Ready.{PairReady};
-ghost use Rattle.relation.specs.RelationCall.{fails, firstFailing};
+ghost use Rattle.relation.specs.RelationCall.{directPair, pairBy, fails, firstFailing};
 
 // A pair of vertices.
 pub struct Pair {
@@ -22,7 +22,7 @@ pub struct Pair {
 }
 
 // Whether the pair is marked, and has unequal priorities or fails the test.
-fn pair_fails(
+fn test_fails(
     game: &[u16],
     starts: &[u16],
     targets: &[u16],
@@ -31,7 +31,7 @@ fn pair_fails(
     w: usize,
 ) -> bool
     requires { ⌜ PairReady (now game) (now starts) (now targets) (now marks) v w ⌝ }
-    ensures { λ r. ⌜ r ≡ fails (now (game .entry)) (now (marks .entry)) v w ⌝ }
+    ensures { λ r. ⌜ r ≡ fails directPair (now (game .entry)) (now (marks .entry)) v w ⌝ }
 {
     if !is_marked(marks, game[0] as usize, v, w) {
         return false;
@@ -42,12 +42,38 @@ fn pair_fails(
     !pair_passes(game, starts, targets, marks, v, w)
 }
 
+// The same or, with `mirror`, whether its reverse is unmarked.
+fn pair_fails(
+    game: &[u16],
+    starts: &[u16],
+    targets: &[u16],
+    marks: &[u8],
+    v: usize,
+    w: usize,
+    mirror: bool,
+) -> bool
+    requires { ⌜ PairReady (now game) (now starts) (now targets) (now marks) v w ⌝ }
+    ensures { λ r. ⌜ r ≡ fails (pairBy mirror) (now (game .entry)) (now (marks .entry)) v w ⌝ }
+{
+    if test_fails(game, starts, targets, marks, v, w) {
+        return true;
+    }
+    if !mirror {
+        return false;
+    }
+    let n = game[0] as usize;
+    if !is_marked(marks, n, v, w) {
+        return false;
+    }
+    !is_marked(marks, n, w, v)
+}
+
 // The first pair in row order that fails, or (n, 0).
-fn first_failing(game: &[u16], starts: &[u16], targets: &[u16], marks: &[u8]) -> Pair
+fn first_failing(game: &[u16], starts: &[u16], targets: &[u16], marks: &[u8], mirror: bool) -> Pair
     requires { ⌜ WellFormed (now game) ⌝ }
     requires { ⌜ EdgeIndex (now game) (now starts) (now targets) ⌝ }
     requires { ⌜ marksLength (vertexCount (now game)) ≤ length (now marks) ⌝ }
-    ensures { λ r. ⌜ r .v * vertexCount (now (game .entry)) + r .w ≡ firstFailing (now (game .entry)) (now (marks .entry)) ⌝ }
+    ensures { λ r. ⌜ r .v * vertexCount (now (game .entry)) + r .w ≡ firstFailing (pairBy mirror) (now (game .entry)) (now (marks .entry)) ⌝ }
 {
     let n = game[0] as usize;
     let mut v = 0;
@@ -57,7 +83,7 @@ fn first_failing(game: &[u16], starts: &[u16], targets: &[u16], marks: &[u8]) ->
         }
         let mut w = 0;
         while w < n {
-            if pair_fails(game, starts, targets, marks, v, w) {
+            if pair_fails(game, starts, targets, marks, v, w, mirror) {
                 break 'rows Pair { v, w };
             }
             w += 1;
@@ -68,13 +94,13 @@ fn first_failing(game: &[u16], starts: &[u16], targets: &[u16], marks: &[u8]) ->
 }
 
 // The same, over an index of the edges in local arrays of 8,706 bytes.
-pub fn failing_pair(game: &[u16], marks: &[u8]) -> Pair
+pub fn failing_pair(game: &[u16], marks: &[u8], mirror: bool) -> Pair
     requires { ⌜ WellFormed (now game) ⌝ }
     requires { ⌜ marksLength (vertexCount (now game)) ≤ length (now marks) ⌝ }
-    ensures { λ r. ⌜ r .v * vertexCount (now (game .entry)) + r .w ≡ firstFailing (now (game .entry)) (now (marks .entry)) ⌝ }
+    ensures { λ r. ⌜ r .v * vertexCount (now (game .entry)) + r .w ≡ firstFailing (pairBy mirror) (now (game .entry)) (now (marks .entry)) ⌝ }
 {
     let mut starts = [0u16; VERTEX_STARTS];
     let mut targets = [0u16; EDGES];
     of_edges(game, &mut starts, &mut targets);
-    first_failing(game, &starts, &targets, marks)
+    first_failing(game, &starts, &targets, marks, mirror)
 }

@@ -9,18 +9,17 @@ use table::Reading;
 use table::acceptor::refused;
 use table::refusal_of;
 ghost use mathlib.Core.Path.{_≡_};
+ghost use Rattle.table.specs.Table.{vertexCount};
+ghost use Rattle.table.specs.WellFormed.{WellFormed};
 ghost use Rattle.table.specs.Acceptance.{acceptanceAnswer};
-ghost use Rattle.relation.specs.RelationCall.{relationAnswer};
+ghost use Rattle.relation.specs.RelationCall.{pairBy, acceptorAnswer, relationAnswer};
 
-// Judges the game and the marks: accepted if the marked pairs form a direct simulation.
-pub fn accept_relation(game: &[u16], marks: &[u8]) -> Acceptance
-    ensures { λ r. ⌜ acceptanceAnswer r ≡ relationAnswer (now (game .entry)) (now (marks .entry)) ⌝ }
+// Judges the marks for a game of n vertices that was read: accepted if the marked pairs form a direct simulation or, with `mirror`, a governed
+// bisimulation. A part of the two acceptors; no host calls it.
+pub fn judge_marks(game: &[u16], n: usize, marks: &[u8], mirror: bool) -> Acceptance
+    requires { ⌜ WellFormed (now game) × (n ≡ vertexCount (now game)) ⌝ }
+    ensures { λ r. ⌜ acceptanceAnswer r ≡ acceptorAnswer (pairBy mirror) (now (game .entry)) (now (marks .entry)) ⌝ }
 {
-    let reading = table::read(game);
-    let Reading::Accepted(sizes) = reading else {
-        return Acceptance::Refused(refusal_of(reading));
-    };
-    let n = sizes.vertices;
     let needed = length_for(n);
     if marks.len() < needed {
         return refused(21, needed);
@@ -30,10 +29,21 @@ pub fn accept_relation(game: &[u16], marks: &[u8]) -> Acceptance
     if high < pairs {
         return refused(9, high);
     }
-    let failing = failing::failing_pair(game, marks);
+    let failing = failing::failing_pair(game, marks, mirror);
     let place = failing.v * n + failing.w;
     if place < pairs {
         return refused(10, place);
     }
     Acceptance::Accepted(NoCounts {})
+}
+
+// Judges the game and the marks: accepted if the marked pairs form a direct simulation.
+pub fn accept_relation(game: &[u16], marks: &[u8]) -> Acceptance
+    ensures { λ r. ⌜ acceptanceAnswer r ≡ relationAnswer (now (game .entry)) (now (marks .entry)) ⌝ }
+{
+    let reading = table::read(game);
+    let Reading::Accepted(sizes) = reading else {
+        return Acceptance::Refused(refusal_of(reading));
+    };
+    judge_marks(game, sizes.vertices, marks, false)
 }

@@ -1,4 +1,6 @@
 pub mod Taking
 pub mod TakingLaws
+pub mod Mirroring
+pub mod MirroringLaws
 pub mod Rounds
 pub mod RoundsLaws

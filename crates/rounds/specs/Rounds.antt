@@ -1,6 +1,6 @@
 -- Rounds over rows: the first, each later one, and the last.
 use mathlib.Core.Path.{_≡_}
-use mathlib.Core.Bool.{not}
+use mathlib.Core.Bool.{Bool, not, So}
 use mathlib.Core.List.{List}
 use Prim.Native.Nat.{ℕ, _+_, _*_, _≤_, _<_}
 use lib.Dec.{ltb}
@@ -10,8 +10,9 @@ use Rattle.theory.specs.Range.{anyBelow}
 use Rattle.theory.specs.Passes.{Rel, marked}
 use Rattle.theory.specs.Rounds.{cleared}
 use Rattle.theory.specs.Game.{Game}
-use Rattle.theory.specs.Order.{equalPriority, orderMarks, orderPasses}
-use Rattle.theory.specs.Rows.{fall, Round, AfterRound}
+use Rattle.theory.specs.Order.{equalPriority}
+use Rattle.theory.specs.Governed.{marksBy, passesBy}
+use Rattle.theory.specs.Rows.{fall, Round, Mirrored, AfterRound}
 use Rattle.bits.specs.Bits.{rowBits, cell}
 use Rattle.board.specs.Board.{EdgeRows, relationWords, struck, Fell}
 
@@ -37,19 +38,20 @@ Started G k changed = (u : ℕ) → u < rowBits → cell changed 0 u ≡ ltb u k
 -- pass 0 is done
 pub record Begun (G : Game) (related lost falls changed : List ℕ) : Type 0 where
   pub fell : Fell G related lost falls changed
-  pub after : AfterRound G 0 (cell related) (struck changed lost)
+  pub after : (mirror : Bool) → AfterRound mirror G 0 (cell related) (struck changed lost)
 
 -- what a round does to the rows of a game, and how many pairs it takes out
-pub record RoundOf (G : Game) (related lost changed : List ℕ) (c : ℕ) (related′ lost′ falls′ changed′ : List ℕ) : Type 0 where
+pub record RoundOf (mirror : Bool) (G : Game) (related lost changed : List ℕ) (c : ℕ) (related′ lost′ falls′ changed′ : List ℕ) : Type 0 where
   pub fell : Fell G related′ lost′ falls′ changed′
-  pub round : Round G (cell related) (struck changed lost) (cell related′) (struck changed′ lost′)
+  pub round : Round mirror G (cell related) (struck changed lost) (cell related′) (struck changed′ lost′)
   pub count : c ≡ cleared (G .n) (cell related) (cell related′)
 
-abbrev pub RoundDone : List ℕ → List ℕ → List ℕ → List ℕ → List ℕ → ℕ → List ℕ → List ℕ → List ℕ → List ℕ → Type 0
-RoundDone edges related lost falls changed c related′ lost′ falls′ changed′ =
-    (G : Game) → EdgeRows G edges → Fell G related lost falls changed → RoundOf G related lost changed c related′ lost′ falls′ changed′
+abbrev pub RoundDone : Bool → List ℕ → List ℕ → List ℕ → List ℕ → List ℕ → ℕ → List ℕ → List ℕ → List ℕ → List ℕ → Type 0
+RoundDone mirror edges related lost falls changed c related′ lost′ falls′ changed′ =
+    (G : Game) → EdgeRows G edges → Fell G related lost falls changed → (So mirror → Mirrored G (cell related))
+    → RoundOf mirror G related lost changed c related′ lost′ falls′ changed′
 
--- the rounds are over: c passes were made, and the relation is the order
-pub record Settled (G : Game) (c : ℕ) (related : List ℕ) : Type 0 where
-  pub count : c ≡ orderPasses G
-  pub marks : (v w : ℕ) → v < G .n → w < G .n → cell related v w ≡ marked (orderMarks G) (v * G .n + w)
+-- the rounds are over: c passes were made, and the relation is the order or, with `mirror`, the governed bisimulation
+pub record Settled (mirror : Bool) (G : Game) (c : ℕ) (related : List ℕ) : Type 0 where
+  pub count : c ≡ passesBy mirror G
+  pub marks : (v w : ℕ) → v < G .n → w < G .n → cell related v w ≡ marked (marksBy mirror G) (v * G .n + w)

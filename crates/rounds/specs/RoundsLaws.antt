@@ -9,7 +9,7 @@ use native.Mathlib.Omega.{arith}
 use lib.Dec.{eqb, ltb}
 use borrow.Author.Tests.{eqb-true, eq-eqb, ltb-true, lt-ltb, le-ltb}
 use Rattle.theory.specs.Bools.{_&_, _or_}
-use Rattle.theory.specs.BoolsLaws.{decide, clash, So-ext, So-not, and-in, and-out, and-fails, and-true, or-left, or-right, or-out, not-in, not-out, and-one, and-first}
+use Rattle.theory.specs.BoolsLaws.{decide, clash, So-ext, eqb-flip, So-not, and-in, and-out, and-fails, and-true, or-left, or-right, or-out, not-in, not-out, and-one, and-first}
 use Rattle.theory.specs.Range.{anyBelow}
 use Rattle.theory.specs.RangeLaws.{any-in, any-ext}
 use Rattle.theory.specs.Passes.{Rel}
@@ -17,17 +17,17 @@ use Rattle.theory.specs.RoundsLaws.{cleared-none, cleared-some}
 use Rattle.theory.specs.Game.{Game, Total}
 use Rattle.theory.specs.Order.{anyNext, equalPriority}
 use Rattle.theory.specs.OrderLaws.{anyNext-in}
-use Rattle.theory.specs.Rows.{fall, loses, AfterRound}
-use Rattle.theory.specs.RowsLaws.{fall-same, loses-same, loses-none, round-start, round-next, last-count, last-order}
+use Rattle.theory.specs.Rows.{fall, loses, taken, Mirrored, AfterRound}
+use Rattle.theory.specs.RowsLaws.{fall-same, loses-same, loses-none, mirroredBy-same, mirroredBy-out, taken-in, round-start, round-next, last-count, last-left}
 use Rattle.table.specs.Table.{vertexCount, priorityAt, gameOf}
 use Rattle.bits.specs.Bits.{rowBits, has, RowIs, cell, Put, Added, unitedRows}
 use Rattle.bits.specs.MatrixLaws.{cell-row}
 use Rattle.bits.specs.MembersLaws.{kept-end}
 use Rattle.board.specs.Board.{differs, EdgeRows, struck, Fell, Losses, LossesTo}
-use Rattle.board.specs.EdgesLaws.{eqb-flip}
 use Rattle.board.specs.BoardLaws.{near-is, next-vertex, loses-vertex}
 use Rattle.rounds.specs.Taking.{TakenTo}
 use Rattle.rounds.specs.TakingLaws.{out-count}
+use Rattle.rounds.specs.Mirroring.{Completed}
 use Rattle.rounds.specs.Rounds.{unequal, Parted, Started, Begun, RoundOf, Settled}
 
 below-next : (q : ℕ → Bool) (v u : ℕ) → ((eqb u v & q v) or (ltb u v & q u)) ≡ ltb u (v + 1) & q u
@@ -43,11 +43,6 @@ below-next q v u =
       | yes e ↦ or-left _ (and-in (eq-eqb u v e) (subst (λ (i : ℕ). So (q i)) e (c .1)))
       | no d ↦ or-right _ (and-in (lt-ltb u v (omega (arith, ltb-true u (v + 1) (c .0)))) (c .1))
     ])
-
--- only pairs of the relation are lost
-loses-in : (G : Game) (H lost : Rel) (v w : ℕ) → So (loses G H lost v w) → So (H v w)
-unfolding loses
-loses-in G H lost v w t = and-out t .0
 
 -- ---- what was taken out, as the rows that changed tell it
 
@@ -193,37 +188,53 @@ module _ (G : Game) (edges related lost falls changed before near next losing : 
         | inr n ↦ and-first _ (and-first _ n) ∙ sym (far v w hv n)
       ]
 
+  vertex : (v w : ℕ) → v < rowBits → So (lose v w) → v < G .n
+  vertex v w hv p = elim (decide (has near v)) [ inl t ↦ near-vertex v hv t | inr n ↦ clash p (far v w hv n) ]
+
   changed-lose : (v w : ℕ) → lose v w ≡ loses G (cell related) (struck changed lost) v w
   changed-lose = loses-same G (cell related) _ _ (λ a x ha hx. ap (λ b. b & cell lost a x) (same a (omega (arith, ha, s .small))))
 
-  pub round-of : (c : ℕ) (related′ lost′ falls′ : List ℕ) → TakenTo edges next losing rowBits related c related′ lost′ falls′
-      → RoundOf G related lost changed c related′ lost′ falls′ losing
-  round-of c related′ lost′ falls′ t = record {
-    fell = taken-fell G edges next losing related c related′ lost′ falls′ s t;
-    round = record {
-      out = λ v w hv hw.
-          let kv : v < rowBits = omega (arith, hv, s .small) in
-          let kw : w < rowBits = omega (arith, hw, s .small) in
-          struck-is G edges next losing related c related′ lost′ falls′ s t v w kv kw ∙ losses v w kv kw ∙ changed-lose v w;
-      left = λ v w hv hw.
-          let kv : v < rowBits = omega (arith, hv, s .small) in
-          let kw : w < rowBits = omega (arith, hw, s .small) in
-          taken-left G edges next losing related c related′ lost′ falls′ s t v w kv kw
-          ∙ ap (λ b. cell related v w & not b) (sym (struck-is G edges next losing related c related′ lost′ falls′ s t v w kv kw));
-    };
-    count = t .size ∙ out-count (G .n) (cell related) (cell related′) (struck losing next) (s .small)
-        (λ v w hv hw. taken-left G edges next losing related c related′ lost′ falls′ s t v w (omega (arith, hv, s .small)) (omega (arith, hw, s .small)))
-        (λ v w hv hw o. loses-in G _ _ v w (sym (losses v w (omega (arith, hv, s .small)) (omega (arith, hw, s .small))) ∙ o))
-        (λ v w hv hw o. let p = sym (losses v w hv hw) ∙ o in (vertex v w hv p, loses-vertex G edges s _ _ v w p));
-  }
-    where
-      vertex : (v w : ℕ) → v < rowBits → So (lose v w) → v < G .n
-      vertex v w hv p = elim (decide (has near v)) [ inl t ↦ near-vertex v hv t | inr n ↦ clash p (far v w hv n) ]
+  module _ (mirror : Bool) (next′ losing′ : List ℕ) (completed : Completed mirror next losing next′ losing′)
+      (mirrored : So mirror → Mirrored G (cell related)) where
+    -- what the round takes out
+    out : (v w : ℕ) → v < rowBits → w < rowBits → struck losing′ next′ v w ≡ taken mirror G (cell related) (struck changed lost) v w
+    out v w hv hw =
+        completed v w hv hw
+        ∙ mirroredBy-same mirror _ _ v w (losses v w hv hw ∙ changed-lose v w) (losses w v hw hv ∙ changed-lose w v)
+
+    out-vertices : (v w : ℕ) → v < rowBits → w < rowBits → So (struck losing′ next′ v w) → (v < G .n) × (w < G .n)
+    out-vertices v w hv hw t = elim (mirroredBy-out mirror _ v w (sym (completed v w hv hw) ∙ t)) [
+      | inl o ↦ (let p = sym (losses v w hv hw) ∙ o in (vertex v w hv p, loses-vertex G edges s _ _ v w p))
+      | inr o ↦ (let p = sym (losses w v hw hv) ∙ o in (loses-vertex G edges s _ _ w v p, vertex w v hw p))
+    ]
+
+    pub round-of : (c : ℕ) (related′ lost′ falls′ : List ℕ) → TakenTo edges next′ losing′ rowBits related c related′ lost′ falls′
+        → RoundOf mirror G related lost changed c related′ lost′ falls′ losing′
+    round-of c related′ lost′ falls′ t = record {
+      fell = taken-fell G edges next′ losing′ related c related′ lost′ falls′ s t;
+      round = record {
+        out = λ v w hv hw.
+            let kv : v < rowBits = omega (arith, hv, s .small) in
+            let kw : w < rowBits = omega (arith, hw, s .small) in
+            struck-is G edges next′ losing′ related c related′ lost′ falls′ s t v w kv kw ∙ out v w kv kw;
+        left = λ v w hv hw.
+            let kv : v < rowBits = omega (arith, hv, s .small) in
+            let kw : w < rowBits = omega (arith, hw, s .small) in
+            taken-left G edges next′ losing′ related c related′ lost′ falls′ s t v w kv kw
+            ∙ ap (λ b. cell related v w & not b) (sym (struck-is G edges next′ losing′ related c related′ lost′ falls′ s t v w kv kw));
+      };
+      count = t .size ∙ out-count (G .n) (cell related) (cell related′) (struck losing′ next′) (s .small)
+          (λ v w hv hw. taken-left G edges next′ losing′ related c related′ lost′ falls′ s t v w (omega (arith, hv, s .small)) (omega (arith, hw, s .small)))
+          (λ v w hv hw o.
+          taken-in G mirror (cell related) (struck changed lost) mirrored v w hv hw
+          (sym (out v w (omega (arith, hv, s .small)) (omega (arith, hw, s .small))) ∙ o))
+          out-vertices;
+    }
 
 -- ---- rounds are passes
 
-module _ (G : Game) (k c : ℕ) (related lost changed related′ lost′ falls′ changed′ : List ℕ) (a : AfterRound G k (cell related) (struck changed lost))
-    (r : RoundOf G related lost changed c related′ lost′ falls′ changed′) where
+module _ (mirror : Bool) (G : Game) (k c : ℕ) (related lost changed related′ lost′ falls′ changed′ : List ℕ) (a : AfterRound mirror G k (cell related) (struck changed lost))
+    (r : RoundOf mirror G related lost changed c related′ lost′ falls′ changed′) where
   -- a pair that was counted is lost
   counted : (v w : ℕ) → v < G .n → w < G .n → So (cell related v w & not (cell related′ v w)) → So (struck changed′ lost′ v w)
   counted v w hv hw t = elim (decide (struck changed′ lost′ v w)) [
@@ -231,21 +242,21 @@ module _ (G : Game) (k c : ℕ) (related lost changed related′ lost′ falls�
     | inr n ↦ clash (r .round .left v w hv hw ∙ and-in (and-out t .0) (not-in n)) (not-out (and-out t .1))
   ]
 
-  pub after-more : (c ≡ 0 → ⊥) → AfterRound G (k + 1) (cell related′) (struck changed′ lost′)
+  pub after-more : (c ≡ 0 → ⊥) → AfterRound mirror G (k + 1) (cell related′) (struck changed′ lost′)
   after-more d =
       let p = cleared-some (G .n) (cell related) (cell related′) (λ e. d (r .count ∙ e)) in
-      round-next G k (cell related) (struck changed lost) a (cell related′) (struck changed′ lost′) (r .round) (p .0) (p .1) (p .2) (p .3)
+      round-next G mirror k (cell related) (struck changed lost) a (cell related′) (struck changed′ lost′) (r .round) (p .0) (p .1) (p .2) (p .3)
       (counted (p .0) (p .1) (p .2) (p .3) (p .4))
 
-  pub after-last : c ≡ 0 → Settled G (k + 1) related′
+  pub after-last : c ≡ 0 → Settled mirror G (k + 1) related′
   after-last e = record {
-    count = last-count G k (cell related) (struck changed lost) a none;
+    count = last-count G mirror k (cell related) (struck changed lost) a none;
     marks = λ v w hv hw.
         r .round .left v w hv hw ∙ rw (r .round .out v w hv hw ∙ none v w hv hw) (and-true (cell related v w))
-        ∙ last-order G k (cell related) (struck changed lost) a none v w hv hw;
+        ∙ last-left G mirror k (cell related) (struck changed lost) a none v w hv hw;
   }
     where
-      none : (v w : ℕ) → v < G .n → w < G .n → loses G (cell related) (struck changed lost) v w ≡ false
+      none : (v w : ℕ) → v < G .n → w < G .n → taken mirror G (cell related) (struck changed lost) v w ≡ false
       none v w hv hw = So-not (λ t.
           let gone : cell related′ v w ≡ false = r .round .left v w hv hw ∙ and-fails _ _ (ap not (r .round .out v w hv hw ∙ t)) in
-          clash (and-in (loses-in G _ _ v w t) (not-in gone)) (cleared-none (G .n) (cell related) (cell related′) (sym (r .count) ∙ e) v w hv hw))
+          clash (and-in (taken-in G mirror (cell related) (struck changed lost) (a .mirrored) v w hv hw t) (not-in gone)) (cleared-none (G .n) (cell related) (cell related′) (sym (r .count) ∙ e) v w hv hw))

@@ -19,7 +19,9 @@ use Rattle.theory.specs.Passes.{Marks, marked, Rel, relOf, pairStart, pa
 use Rattle.theory.specs.PassesLaws.{passCount-ext, finalMarks-ext}
 use Rattle.theory.specs.Game.{Player, even, same, parity, Game, own, Succ, edgeCount}
 use Rattle.theory.specs.Simulation.{Moves, PassesTest, Simulation}
-use Rattle.theory.specs.Order.{allNext, anyNext, moves, equalPriority, test, orderMarks, order, orderPasses, marksBetween}
+use Rattle.theory.specs.Order.{allNext, anyNext, moves, equalPriority, test, orderMarks, order, orderPasses}
+use Rattle.theory.specs.Governed.{governedTest, governed, testBy, marksBy, passesBy}
+use Rattle.theory.specs.GovernedLaws.{marks-by, passes-by}
 use Rattle.theory.specs.Plan.{Plan, linked, Walk, seen, WinsBy, Wins, Won}
 use Rattle.theory.specs.ParityMap.{ParityMap}
 use Rattle.theory.specs.ParityMapLaws.{seen-parity, parity-same}
@@ -177,23 +179,41 @@ module _ {f : ℕ → ℕ} {G K : Game} (e : AgreeBy f G K) where
   unfolding pairStart
   start-agree i h = equalPriority-agree (i / G .n) (i % G .n) (row-lt (G .n) (G .n) i h) (col-lt (G .n) (G .n) i h)
 
-  number-agree : (m : ℕ → Bool) (i : ℕ) → i < G .n * G .n → pairTest (G .n) (test even G G) m i ≡ pairTest (G .n) (test even K K) m i
-  unfolding pairTest
-  number-agree m i h = test-agree even (relOf (G .n) m) (i / G .n) (i % G .n) (row-lt (G .n) (G .n) i h) (col-lt (G .n) (G .n) i h)
+  testBy-agree : (mirror : Bool) (H : Rel) (v w : ℕ) → v < G .n → w < G .n → testBy mirror G H v w ≡ testBy mirror K H v w
+  unfolding testBy governedTest
+  testBy-agree false H v w hv hw = test-agree even H v w hv hw
+  testBy-agree true H v w hv hw = ap₂ _&_ (test-agree even H v w hv hw) (test-agree even H w v hw hv)
 
-  -- ---- order, passes, classes
+  number-agree : (mirror : Bool) (m : ℕ → Bool) (i : ℕ) → i < G .n * G .n
+      → pairTest (G .n) (testBy mirror G) m i ≡ pairTest (G .n) (testBy mirror K) m i
+  unfolding pairTest
+  number-agree mirror m i h = testBy-agree mirror (relOf (G .n) m) (i / G .n) (i % G .n) (row-lt (G .n) (G .n) i h) (col-lt (G .n) (G .n) i h)
+
+  -- ---- order, passes, classes; those of the governed bisimulation too
+
+  pub agree-marksBy : (mirror : Bool) → marksBy mirror G ≡ marksBy mirror K
+  agree-marksBy mirror =
+      sym (marks-by G mirror) ∙ finalMarks-ext (G .n * G .n) _ _ _ _ start-agree (number-agree mirror) ∙ rw (e .size) (marks-by K mirror)
+
+  pub agree-passesBy : (mirror : Bool) → passesBy mirror G ≡ passesBy mirror K
+  agree-passesBy mirror =
+      sym (passes-by G mirror) ∙ passCount-ext (G .n * G .n) _ _ _ _ start-agree (number-agree mirror) ∙ rw (e .size) (passes-by K mirror)
 
   pub agree-orderMarks : orderMarks G ≡ orderMarks K
-  unfolding orderMarks marksBetween
-  agree-orderMarks = finalMarks-ext (G .n * G .n) _ _ _ _ start-agree number-agree ∙ rw (e .size)
+  unfolding marksBy
+  agree-orderMarks = agree-marksBy false
 
   pub agree-passes : orderPasses G ≡ orderPasses K
-  unfolding orderPasses
-  agree-passes = passCount-ext (G .n * G .n) _ _ _ _ start-agree number-agree ∙ rw (e .size)
+  unfolding passesBy
+  agree-passes = agree-passesBy false
 
   pub agree-order : order G ≡ order K
   unfolding order
   agree-order = ap₂ (λ (n : ℕ) (m : Marks). relOf n (marked m)) (e .size) agree-orderMarks
+
+  pub agree-governed : governed G ≡ governed K
+  unfolding governed marksBy
+  agree-governed = ap₂ (λ (n : ℕ) (m : Marks). relOf n (marked m)) (e .size) (agree-marksBy true)
 
   pub agree-classCount : classCount (G .n) (order G) ≡ classCount (K .n) (order K)
   agree-classCount = ap₂ classCount (e .size) agree-order

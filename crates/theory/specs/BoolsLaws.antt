@@ -2,10 +2,11 @@
 use mathlib.Core.Path.{_≡_, refl, sym, _∙_}
 use mathlib.Core.Logic.{_⊎_, inl, inr, _↔_, ⊎-elim}
 use mathlib.Core.Bool.{Bool, true, false, not, So, cond, true≢false, false≢true}
-use Prim.Native.Nat.{_+_, _≤_, _<_, zero-le}
+use Prim.Native.Nat.{ℕ, _+_, _≤_, _<_, zero-le}
 use native.Mathlib.Nat.{le-refl}
 use native.Mathlib.Omega.{arith}
 use lib.Dec.{eqb, leb}
+use borrow.Author.Tests.{eqb-true, eq-eqb}
 use Rattle.theory.specs.Bools.{_&_, _or_, imp, bit}
 
 pub decide : (b : Bool) → So b ⊎ (b ≡ false)
@@ -22,6 +23,10 @@ So-ext {a = true} {b = true} f g = refl
 So-ext {a = true} {b = false} f g = sym (f refl)
 So-ext {a = false} {b = true} f g = g refl
 So-ext {a = false} {b = false} f g = refl
+
+-- equal numbers, from either side
+pub eqb-flip : (a b : ℕ) → eqb a b ≡ eqb b a
+eqb-flip a b = So-ext (λ t. eq-eqb b a (sym (eqb-true a b t))) (λ t. eq-eqb a b (sym (eqb-true b a t)))
 
 -- a test that cannot hold fails
 pub So-not : {b : Bool} → (So b → ⊥) → b ≡ false

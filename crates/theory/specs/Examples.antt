@@ -1,6 +1,7 @@
 -- Worked games: C and D of document 01, computed; a small game with a winning plan for each player; and demand 3 at a merged vertex.
 use mathlib.Core.Path.{_≡_, refl}
 use mathlib.Core.List.{List, [], _∷_}
+use mathlib.Core.Bool.{So}
 use Prim.Native.Nat.{ℕ}
 use native.Mathlib.Omega.{arith}
 use lib.ListN.{length, getD}
@@ -8,7 +9,8 @@ use Rattle.theory.specs.Range.{tabulate, pairsOf}
 use Rattle.theory.specs.Game.{Player, even, odd, Game, edgeCount}
 use Rattle.theory.specs.Order.{order, orderPasses}
 use Rattle.theory.specs.Plan.{Plan, linked, Wins, Won}
-use Rattle.theory.specs.Reduction.{quotient, reduced, classOf}
+use Rattle.theory.specs.Governed.{governed, governedPasses}
+use Rattle.theory.specs.Reduction.{sameClass, classCount, classNumber, quotient, reduced, classOf}
 use Rattle.theory.specs.CarryLaws.{transfer}
 use Rattle.theory.specs.KeptWinners.{mutual-winner, reduced-winner}
 use Rattle.theory.specs.PlanTestLaws.{surely-wins}
@@ -71,6 +73,28 @@ D-classes = refl
 pub D-quotient : edgeCount (quotient gameD) ≡ 6
 unfolding compute gameD
 D-quotient = refl
+
+-- governed bisimulation tells 0 from 5, since no move of 5 answers that from 0 to 1: six classes, where the order has five. So it isn't the order's
+-- mutual pairs, and 0 and 5 are one.
+pub D-governed-classes : tabulate 6 (classNumber 6 (governed gameD)) ≡ 0 ∷ 1 ∷ 2 ∷ 3 ∷ 4 ∷ 5 ∷ []
+unfolding compute gameD
+D-governed-classes = refl
+
+pub D-governed-count : classCount 6 (governed gameD) ≡ 6
+unfolding compute gameD
+D-governed-count = refl
+
+pub D-order-count : classCount 6 (order gameD) ≡ 5
+unfolding compute gameD
+D-order-count = refl
+
+pub D-mutual : So (sameClass (order gameD) 0 5)
+unfolding compute gameD
+D-mutual = refl
+
+pub D-governed-passes : governedPasses gameD ≡ 3
+unfolding compute gameD
+D-governed-passes = refl
 
 -- ---- a plan for each player: vertices 0 (priority 0, Even's) and 1 (priority 1, Odd's) form a cycle; 2 (priority 1, Odd's) has a loop
 -- and an edge to 0

@@ -13,6 +13,7 @@ pub mod Simulation
 pub mod SimulationLaws
 pub mod Order
 pub mod OrderLaws
+pub mod Governed
 pub mod Rounds
 pub mod RoundsLaws
 pub mod Rows
@@ -43,6 +44,7 @@ pub mod Carry
 pub mod CarryLaws
 pub mod CarryClassLaws
 pub mod KeptWinners
+pub mod GovernedLaws
 pub mod ParityMap
 pub mod ParityMapLaws
 pub mod Agreement

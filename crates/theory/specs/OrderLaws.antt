@@ -1,10 +1,10 @@
 -- The order is document 004's: marked exactly when some direct simulation holds the pair. It is itself one, reflexive and transitive.
-use mathlib.Core.Path.{_≡_}
+use mathlib.Core.Path.{_≡_, sym, _∙_}
 use mathlib.Core.Bool.{Bool, true, false, So}
 use Prim.Native.Nat.{ℕ, suc, _+_, _*_, _≤_, _<_}
 use lib.ListN.{length}
 use borrow.Author.Tests.{eqb-true, eq-eqb}
-use Rattle.theory.specs.BoolsLaws.{and-in, and-out, imp-in, imp-out}
+use Rattle.theory.specs.BoolsLaws.{So-ext, and-in, and-out, imp-in, imp-out}
 use Rattle.theory.specs.RangeLaws.{all-in, all-out, any-in, any-out}
 use Rattle.theory.specs.Passes.{Rel, pairStart, pairTest, largest}
 use Rattle.theory.specs.PassesLaws.{length-finalMarks, largest-start, largest-fixed, largest-contains, passes-le}
@@ -56,6 +56,14 @@ module _ (a : Player) (g h : Game) where
   unfolding equalPriority test
   passes-in H v w p = (eq-eqb _ _ (p .equal), moves-in _ _ g h H v w (p .moves))
 
+  -- where H passes, a computed relation that holds H does
+  pub test-holds : (H : ℕ → ℕ → Type 0) (m : Rel) → ((x y : ℕ) → x < g .n → y < h .n → H x y → So (m x y))
+      → (v w : ℕ) → PassesTest a g h H v w → So (test a g h m v w)
+  unfolding test
+  test-holds H m c v w p =
+      moves-in _ _ g h m v w
+      (moves-mono (own g a v) (own h a w) (Succ g v) (Succ h w) H (Holds m) (λ x y s t q. c x y (s .inside) (t .inside) q) (p .moves))
+
   -- ---- the order between two games, for a player
 
   -- the marks are a simulation
@@ -68,13 +76,11 @@ module _ (a : Player) (g h : Game) where
 
   -- they hold every simulation
   pub below-largest : (H : ℕ → ℕ → Type 0) → Simulation a g h H → (v w : ℕ) → v < g .n → w < h .n → H v w → So (below a g h v w)
-  unfolding below marksBetween largest equalPriority test
+  unfolding below marksBetween largest equalPriority
   below-largest H sim =
       largest-contains (g .n) (h .n) (test a g h) (equalPriority g h) H
       (λ v w hv hw r. eq-eqb _ _ (sim v w hv hw r .equal))
-      (λ m c v w hv hw r.
-      moves-in _ _ g h m v w
-      (moves-mono (own g a v) (own h a w) (Succ g v) (Succ h w) H (Holds m) (λ x y s t q. c x y (s .inside) (t .inside) q) (sim v w hv hw r .moves)))
+      (λ m c v w hv hw r. test-holds H m c v w (sim v w hv hw r))
 
 -- so: marked exactly when some simulation holds the pair
 pub below-in : {a : Player} {g h : Game} {v w : ℕ} → v < g .n → w < h .n → Below a g h v w → So (below a g h v w)
@@ -82,6 +88,22 @@ below-in {a} {g} {h} {v} {w} hv hw b = below-largest a g h (b .relation) (b .sim
 
 pub below-out : {a : Player} {g h : Game} {v w : ℕ} → So (below a g h v w) → Below a g h v w
 below-out {a} {g} {h} t = record { relation = Holds (below a g h); simulation = below-simulation a g h; holds = t }
+
+-- ---- the test as the relation grows
+
+module _ (g : Game) where
+  -- a smaller relation passes less
+  pub test-mono : (H K : Rel) (v w : ℕ) → ((x y : ℕ) → x < g .n → y < g .n → So (H x y) → So (K x y)) → So (test even g g H v w) → So (test even g g K v w)
+  unfolding test
+  test-mono H K v w f t =
+      moves-in (own g even v) (own g even w) g g K v w
+      (moves-mono (own g even v) (own g even w) (Succ g v) (Succ g w) (Holds H) (Holds K) (λ x y s u q. f x y (s .inside) (u .inside) q)
+      (moves-out (own g even v) (own g even w) g g H v w t))
+
+  -- the test goes by the pairs of vertices alone
+  pub test-same : (H K : Rel) (v w : ℕ) → ((x y : ℕ) → x < g .n → y < g .n → H x y ≡ K x y) → test even g g H v w ≡ test even g g K v w
+  test-same H K v w e =
+      So-ext (test-mono H K v w (λ x y hx hy t. sym (e x y hx hy) ∙ t)) (test-mono K H v w (λ x y hx hy t. e x y hx hy ∙ t))
 
 -- ---- the order of one game
 

@@ -1,22 +1,24 @@
 -- Laws of rows: the pair test by rows is the pair test (`test-rows`); what leaves the controllable predecessors of a set (`fall-is`); under all
 -- pairs every pair passes (`fallen-start`); a round takes out exactly what fails under the rows before it (`round-passes`), leaves the ground
--- for the next round (`fallen-next`), and leaves alone each row no successor of which lost anything (`loses-none`). So rounds are the passes of
--- the order (`round-start`, `round-next`, `last-count`, `last-order`).
-use mathlib.Core.Path.{_≡_, refl, sym, ap, _∙_}
-use mathlib.Core.Logic.{inl, inr}
+-- for the next round (`fallen-next`, `mirrored-next`), and leaves alone each row no successor of which lost anything (`loses-none`). So rounds are
+-- the passes of either relation (`round-start`, `round-next`, `last-count`, `last-left`).
+use mathlib.Core.Path.{_≡_, refl, sym, ap, ap₂, _∙_}
+use mathlib.Core.Logic.{_⊎_, inl, inr}
 use mathlib.Core.Bool.{Bool, true, false, not, cond, So}
 use Prim.Native.Nat.{ℕ, _+_, _*_, _<_}
 use Rattle.theory.specs.Range.{sum}
 use Rattle.theory.specs.Bools.{_&_, _or_, imp}
-use Rattle.theory.specs.BoolsLaws.{decide, clash, So-ext, So-not, not-in, not-out, and-in, and-out, imp-in, imp-out, or-left, or-right, or-out}
-use Rattle.theory.specs.Passes.{Rel, marked, largest}
+use Rattle.theory.specs.BoolsLaws.{decide, clash, So-ext, eqb-flip, So-not, not-in, not-out, and-in, and-out, and-one, imp-in, imp-out, or-left, or-right, or-out, or-flip}
+use Rattle.theory.specs.Passes.{Marks, Rel, marked, largest}
 use Rattle.theory.specs.Game.{even, Game, own, Succ, Total}
 use Rattle.theory.specs.SimulationLaws.{moves-mono}
 use Rattle.theory.specs.Order.{allNext, anyNext, moves, equalPriority, test, marksBetween, orderMarks, order, orderPasses, Holds}
-use Rattle.theory.specs.OrderLaws.{allNext-in, allNext-out, anyNext-in, anyNext-out, moves-in, moves-out}
+use Rattle.theory.specs.OrderLaws.{allNext-in, allNext-out, anyNext-in, anyNext-out, test-same}
+use Rattle.theory.specs.Governed.{governedTest, testBy, marksBy, passesBy}
+use Rattle.theory.specs.GovernedLaws.{passes-by, marks-by}
 use Rattle.theory.specs.Rounds.{cleared, relationSize, clearedBy}
 use Rattle.theory.specs.RoundsLaws.{after-start, after-next, round-clears, last-passes, last-marks, counts-add}
-use Rattle.theory.specs.Rows.{cpre, united, rowTest, fall, unitedLost, fails, loses, Fallen, Round, AfterRound}
+use Rattle.theory.specs.Rows.{cpre, united, rowTest, fall, unitedLost, fails, loses, mirroredBy, taken, Fallen, Round, Mirrored, AfterRound}
 
 -- the pairs of either
 abbrev both : Rel → Rel → Rel
@@ -34,9 +36,31 @@ unfolding _&_
 and-none true b f = f refl
 and-none false b f = refl
 
+and-under : (a : Bool) {b c : Bool} → (So a → b ≡ c) → a & b ≡ a & c
+unfolding _&_
+and-under true f = f refl
+and-under false f = refl
+
+neither : (a b : Bool) → not a & not b ≡ not (a or b)
+unfolding _&_ _or_
+neither true b = refl
+neither false b = refl
+
 -- a is what b is not
 opposite : {a : Bool} (b : Bool) → (So a → So b → ⊥) → (a ≡ false → So b) → a ≡ not b
 opposite {a} b f h = So-ext (λ t. not-in (So-not (f t))) (λ t. elim (decide a) [ inl s ↦ s | inr e ↦ clash (h e) (not-out t) ])
+
+-- two relations that agree on a pair and its reverse
+pub mirroredBy-same : (mirror : Bool) (H K : Rel) (v w : ℕ) → H v w ≡ K v w → H w v ≡ K w v → mirroredBy mirror H v w ≡ mirroredBy mirror K v w
+unfolding mirroredBy
+mirroredBy-same false H K v w e f = e
+mirroredBy-same true H K v w e f = ap₂ _or_ e f
+
+-- a pair of either is one of H, or its reverse is
+pub mirroredBy-out : (mirror : Bool) (H : Rel) (v w : ℕ) → So (mirroredBy mirror H v w) → So (H v w) ⊎ So (H w v)
+unfolding mirroredBy
+mirroredBy-out false H v w t = inl t
+mirroredBy-out true H v w t = or-out t
 
 -- ---- each and some successor
 
@@ -193,19 +217,6 @@ module _ (g : Game) where
 
   -- ---- from round to round
 
-  -- a smaller relation passes less
-  test-mono : (H K : Rel) (v w : ℕ) → ((x y : ℕ) → x < g .n → y < g .n → So (H x y) → So (K x y)) → So (test even g g H v w) → So (test even g g K v w)
-  unfolding test
-  test-mono H K v w f t =
-      moves-in (own g even v) (own g even w) g g K v w
-      (moves-mono (own g even v) (own g even w) (Succ g v) (Succ g w) (Holds H) (Holds K) (λ x y s u q. f x y (s .inside) (u .inside) q)
-      (moves-out (own g even v) (own g even w) g g H v w t))
-
-  -- the test goes by the pairs of vertices alone
-  pub test-same : (H K : Rel) (v w : ℕ) → ((x y : ℕ) → x < g .n → y < g .n → H x y ≡ K x y) → test even g g H v w ≡ test even g g K v w
-  test-same H K v w e =
-      So-ext (test-mono H K v w (λ x y hx hy t. sym (e x y hx hy) ∙ t)) (test-mono K H v w (λ x y hx hy t. e x y hx hy ∙ t))
-
   -- under all pairs every pair passes, since every vertex has a successor
   module _ (total : Total g) where
     cpre-all : (X : ℕ → Bool) → ((x : ℕ) → x < g .n → So (X x)) → (w : ℕ) → w < g .n → So (cpre g X w)
@@ -233,81 +244,126 @@ module _ (g : Game) where
           (λ x y hx hy. elim (decide (H x y)) [ inl a ↦ or-left _ a | inr f ↦ or-right _ (e x y hx hy ∙ not-in f) ]) v w hv hw;
     }
 
-  module _ (H lost H′ lost′ : Rel) (f : Fallen g H lost) (r : Round g H lost H′ lost′) where
-    -- H is what is left and what was taken out
-    round-whole : (v w : ℕ) → v < g .n → w < g .n → H v w ≡ both H′ lost′ v w
-    unfolding loses
-    round-whole v w hv hw =
-        So-ext
-        (λ t. elim (decide (lost′ v w)) [ inl a ↦ or-right _ a | inr e ↦ or-left _ (r .left v w hv hw ∙ and-in t (not-in e)) ])
-        (λ t. elim (or-out t) [
-          | inl a ↦ and-out (sym (r .left v w hv hw) ∙ a) .0
-          | inr b ↦ and-out (sym (r .out v w hv hw) ∙ b) .0
-        ])
+  -- ---- either relation
 
-    -- what is left is what passes
-    pub round-passes : (v w : ℕ) → v < g .n → w < g .n → H′ v w ≡ H v w & test even g g H v w
-    unfolding loses
-    round-passes v w hv hw =
-        So-ext
-        (λ t.
-        let a = and-out (sym (r .left v w hv hw) ∙ t) in
-        let e : fails g H lost v w ≡ false = and-rest _ _ (sym (r .out v w hv hw) ∙ not-out (a .1)) (a .0) in
-        and-in (a .0) (round-fails H lost f v w hv hw (a .0) ∙ not-in e))
-        (λ t.
-        let a = and-out t in
-        let e = not-out (sym (round-fails H lost f v w hv hw (a .0)) ∙ a .1) in
-        r .left v w hv hw ∙ and-in (a .0) (not-in (r .out v w hv hw ∙ and-none _ _ (λ h. e))))
+  -- the tests of both relations go by the pairs of vertices alone
+  pub testBy-same : (mirror : Bool) (H K : Rel) (v w : ℕ) → ((x y : ℕ) → x < g .n → y < g .n → H x y ≡ K x y) → testBy mirror g H v w ≡ testBy mirror g K v w
+  unfolding testBy governedTest
+  testBy-same false H K v w e = test-same g H K v w e
+  testBy-same true H K v w e = ap₂ _&_ (test-same g H K v w e) (test-same g H K w v e)
 
-    pub fallen-next : Fallen g H′ lost′
-    fallen-next = record {
-      apart = λ v w hv hw t. r .left v w hv hw ∙ and-none _ _ (λ h. ap not t);
-      passed = λ v w hv hw t. sym (test-same H (both H′ lost′) v w round-whole) ∙ and-out (sym (round-passes v w hv hw) ∙ t) .1;
-    }
+  -- they ask the test of the pair
+  testBy-test : (mirror : Bool) (H : Rel) (v w : ℕ) → So (testBy mirror g H v w) → So (test even g g H v w)
+  unfolding testBy governedTest
+  testBy-test false H v w t = t
+  testBy-test true H v w t = and-out t .0
 
-  -- ---- rounds are the passes of the order
+  module _ (mirror : Bool) (H lost : Rel) (mirrored : So mirror → Mirrored g H) where
+    -- only pairs of H are taken out
+    pub taken-in : (v w : ℕ) → v < g .n → w < g .n → So (taken mirror g H lost v w) → So (H v w)
+    unfolding mirroredBy loses
+    taken-in v w hv hw = go mirror mirrored
+      where
+        go : (m : Bool) → (So m → Mirrored g H) → So (taken m g H lost v w) → So (H v w)
+        go false s t = and-out t .0
+        go true s t = elim (or-out t) [ inl a ↦ and-out a .0 | inr b ↦ s refl v w hv hw ∙ and-out b .0 ]
+
+    -- what is taken out of H is what fails
+    taken-fails : Fallen g H lost → (v w : ℕ) → v < g .n → w < g .n → So (H v w) → testBy mirror g H v w ≡ not (taken mirror g H lost v w)
+    unfolding testBy governedTest mirroredBy loses
+    taken-fails f v w hv hw = go mirror mirrored
+      where
+        one : (x y : ℕ) → x < g .n → y < g .n → So (H x y) → test even g g H x y ≡ not (loses g H lost x y)
+        one x y hx hy t = round-fails H lost f x y hx hy t ∙ ap not (sym (and-one _ t))
+
+        go : (m : Bool) → (So m → Mirrored g H) → So (H v w) → testBy m g H v w ≡ not (taken m g H lost v w)
+        go false s t = one v w hv hw t
+        go true s t = ap₂ _&_ (one v w hv hw t) (one w v hw hv (sym (s refl v w hv hw) ∙ t)) ∙ neither (loses g H lost v w) (loses g H lost w v)
+
+    module _ (H′ lost′ : Rel) (f : Fallen g H lost) (r : Round mirror g H lost H′ lost′) where
+      -- H is what is left and what was taken out
+      round-whole : (v w : ℕ) → v < g .n → w < g .n → H v w ≡ both H′ lost′ v w
+      round-whole v w hv hw =
+          So-ext
+          (λ t. elim (decide (lost′ v w)) [ inl a ↦ or-right _ a | inr e ↦ or-left _ (r .left v w hv hw ∙ and-in t (not-in e)) ])
+          (λ t. elim (or-out t) [
+            | inl a ↦ and-out (sym (r .left v w hv hw) ∙ a) .0
+            | inr b ↦ taken-in v w hv hw (sym (r .out v w hv hw) ∙ b)
+          ])
+
+      -- what is left is what passes
+      pub round-passes : (v w : ℕ) → v < g .n → w < g .n → H′ v w ≡ H v w & testBy mirror g H v w
+      round-passes v w hv hw =
+          r .left v w hv hw ∙ and-under (H v w) (λ t. ap not (r .out v w hv hw) ∙ sym (taken-fails f v w hv hw t))
+
+      pub fallen-next : Fallen g H′ lost′
+      fallen-next = record {
+        apart = λ v w hv hw t. r .left v w hv hw ∙ and-none _ _ (λ h. ap not t);
+        passed = λ v w hv hw t.
+            sym (test-same g H (both H′ lost′) v w round-whole) ∙ testBy-test mirror H v w (and-out (sym (round-passes v w hv hw) ∙ t) .1);
+      }
+
+      pub mirrored-next : So mirror → Mirrored g H′
+      unfolding mirroredBy
+      mirrored-next m v w hv hw =
+          r .left v w hv hw
+          ∙ ap₂ (λ a b. a & not b) (mirrored m v w hv hw) (r .out v w hv hw ∙ turn mirror m ∙ sym (r .out w v hw hv))
+          ∙ sym (r .left w v hw hv)
+        where
+          turn : (m : Bool) → So m → taken m g H lost v w ≡ taken m g H lost w v
+          turn true t = or-flip (loses g H lost v w) (loses g H lost w v)
+          turn false t = clash t refl
+
+  -- ---- rounds are passes
+
+  equal-mirrored : (H : Rel) → ((v w : ℕ) → v < g .n → w < g .n → H v w ≡ equalPriority g g v w) → Mirrored g H
+  unfolding equalPriority
+  equal-mirrored H e v w hv hw = e v w hv hw ∙ eqb-flip (g .priority v) (g .priority w) ∙ sym (e w v hw hv)
 
   -- pass 0 takes out the unequal priorities
   pub round-start : Total g → (H lost : Rel) → ((v w : ℕ) → v < g .n → w < g .n → H v w ≡ equalPriority g g v w)
-      → ((v w : ℕ) → v < g .n → w < g .n → lost v w ≡ not (H v w)) → AfterRound g 0 H lost
-  round-start total H lost e l = record {
-    pass = after-start (g .n) (test even g g) (equalPriority g g) test-same H e;
+      → ((v w : ℕ) → v < g .n → w < g .n → lost v w ≡ not (H v w)) → (mirror : Bool) → AfterRound mirror g 0 H lost
+  round-start total H lost e l mirror = record {
+    pass = after-start (g .n) (testBy mirror g) (equalPriority g g) (testBy-same mirror) H e;
     fallen = fallen-start total H lost l;
+    mirrored = λ m. equal-mirrored H e;
   }
 
-  module _ (k : ℕ) (H lost : Rel) (p : AfterRound g k H lost) where
+  module _ (mirror : Bool) (k : ℕ) (H lost : Rel) (p : AfterRound mirror g k H lost) where
     -- a round that takes something out isn't the last
-    pub round-next : (H′ lost′ : Rel) → Round g H lost H′ lost′ → (v w : ℕ) → v < g .n → w < g .n → So (lost′ v w) → AfterRound g (k + 1) H′ lost′
-    unfolding loses
+    pub round-next : (H′ lost′ : Rel) → Round mirror g H lost H′ lost′ → (v w : ℕ) → v < g .n → w < g .n → So (lost′ v w) → AfterRound mirror g (k + 1) H′ lost′
     round-next H′ lost′ r v w hv hw t =
-        let a = and-out (sym (r .out v w hv hw) ∙ t) in record {
+        let o = sym (r .out v w hv hw) ∙ t in
+        let a = taken-in mirror H lost (p .mirrored) v w hv hw o in record {
           pass =
-              after-next (g .n) (test even g g) (equalPriority g g) test-same k H (p .pass) H′ (round-passes H lost H′ lost′ (p .fallen) r) v w hv hw (a .0)
-              (round-fails H lost (p .fallen) v w hv hw (a .0) ∙ ap not (a .1));
-          fallen = fallen-next H lost H′ lost′ (p .fallen) r;
+              after-next (g .n) (testBy mirror g) (equalPriority g g) (testBy-same mirror) k H (p .pass) H′
+              (round-passes mirror H lost (p .mirrored) H′ lost′ (p .fallen) r) v w hv hw a
+              (taken-fails mirror H lost (p .mirrored) (p .fallen) v w hv hw a ∙ ap not o);
+          fallen = fallen-next mirror H lost (p .mirrored) H′ lost′ (p .fallen) r;
+          mirrored = mirrored-next mirror H lost (p .mirrored) H′ lost′ (p .fallen) r;
         }
 
     -- it clears as many marks as the pass
-    pub round-count : (H′ lost′ : Rel) → Round g H lost H′ lost′ → cleared (g .n) H H′ ≡ clearedBy (g .n) (test even g g) (equalPriority g g) k
+    pub round-count : (H′ lost′ : Rel) → Round mirror g H lost H′ lost′ → cleared (g .n) H H′ ≡ clearedBy (g .n) (testBy mirror g) (equalPriority g g) k
     round-count H′ lost′ r =
-        round-clears (g .n) (test even g g) (equalPriority g g) test-same k H (p .pass) H′ (round-passes H lost H′ lost′ (p .fallen) r)
+        round-clears (g .n) (testBy mirror g) (equalPriority g g) (testBy-same mirror) k H (p .pass) H′
+        (round-passes mirror H lost (p .mirrored) H′ lost′ (p .fallen) r)
 
     -- a round that takes nothing out is
-    module _ (none : (v w : ℕ) → v < g .n → w < g .n → loses g H lost v w ≡ false) where
-      all-passes : (v w : ℕ) → v < g .n → w < g .n → So (H v w) → So (test even g g H v w)
-      unfolding loses
-      all-passes v w hv hw t = round-fails H lost (p .fallen) v w hv hw t ∙ not-in (and-rest _ _ (none v w hv hw) t)
+    module _ (none : (v w : ℕ) → v < g .n → w < g .n → taken mirror g H lost v w ≡ false) where
+      all-passes : (v w : ℕ) → v < g .n → w < g .n → So (H v w) → So (testBy mirror g H v w)
+      all-passes v w hv hw t = taken-fails mirror H lost (p .mirrored) (p .fallen) v w hv hw t ∙ not-in (none v w hv hw)
 
-      pub last-count : k + 1 ≡ orderPasses g
-      unfolding orderPasses
-      last-count = last-passes (g .n) (test even g g) (equalPriority g g) test-same k H (p .pass) all-passes
+      pub last-count : k + 1 ≡ passesBy mirror g
+      last-count = last-passes (g .n) (testBy mirror g) (equalPriority g g) (testBy-same mirror) k H (p .pass) all-passes ∙ passes-by g mirror
 
-      pub last-order : (v w : ℕ) → v < g .n → w < g .n → H v w ≡ marked (orderMarks g) (v * g .n + w)
-      unfolding orderMarks marksBetween
-      last-order = last-marks (g .n) (test even g g) (equalPriority g g) test-same k H (p .pass) all-passes
+      pub last-left : (v w : ℕ) → v < g .n → w < g .n → H v w ≡ marked (marksBy mirror g) (v * g .n + w)
+      last-left v w hv hw =
+          last-marks (g .n) (testBy mirror g) (equalPriority g g) (testBy-same mirror) k H (p .pass) all-passes v w hv hw
+          ∙ ap (λ (m : Marks). marked m (v * g .n + w)) (marks-by g mirror)
 
   -- the marks of pass 0 are what the passes of the order clear, and the order
   pub order-counts : sum (orderPasses g) (clearedBy (g .n) (test even g g) (equalPriority g g)) + relationSize (g .n) (order g)
       ≡ relationSize (g .n) (equalPriority g g)
   unfolding orderPasses order orderMarks marksBetween largest
-  order-counts = counts-add (g .n) (test even g g) (equalPriority g g) test-same
+  order-counts = counts-add (g .n) (test even g g) (equalPriority g g) (test-same g)

@@ -2,6 +2,7 @@
 use mathlib.Core.Path.{_≡_, sym, ap, _∙_}
 use mathlib.Core.List.{[]}
 use native.Mathlib.Omega.{arith}
+use Rattle.theory.specs.Order.{orderMarks, orderPasses}
 use Rattle.table.specs.Table.{vertexCount}
 use Rattle.table.specs.Verdict.{accepted, judge}
 use Rattle.table.specs.WellFormed.{WellSized}
@@ -61,7 +62,7 @@ returns : tie.Need-returns
 returns c =
     let t = c .before .enum-told .given in
     rw (c .refusal-of .ensures, t .1)
-    (carry-order _ _ _ _ _ _ _ _ _ (order-handed _ _ _ (t .0 .0) (rw (t .1) at (c .before .before .before .read .ensures)) .verdict))
+    (carry-order _ _ _ _ _ _ _ _ _ (order-handed orderMarks orderPasses _ _ _ (t .0 .0) (rw (t .1) at (c .before .before .before .read .ensures)) .verdict))
 
 length-for-requires : tie.Need-length-for-requires
 length-for-requires c κs = let s = sized (c .before) in omega (arith, s .vertices, s .well .vertices)
@@ -69,14 +70,14 @@ length-for-requires c κs = let s = sized (c .before) in omega (arith, s .vertic
 returns-2 : tie.Need-returns-2
 returns-2 c =
     let n = needed (c .before) in
-    rw n (carry-order _ _ _ _ _ _ _ _ _ (order-short-marks _ _ _ _ (answer (c .before .before .before)) (rw n at (c .if1 .taken)) .verdict))
+    rw n (carry-order _ _ _ _ _ _ _ _ _ (order-short-marks orderMarks orderPasses _ _ _ (sized (c .before .before .before) .well) (rw n at (c .if1 .taken)) .verdict))
 
 returns-3 : tie.Need-returns-3
 returns-3 c =
     let n = needed (c .before .before) in
     rw n
     (carry-order _ _ _ _ _ _ _ _ _
-    (order-short-spare _ _ _ _ (answer (c .before .before .before .before)) (rw n at (c .before .if1 .left)) (rw n at (c .if2 .taken)) .verdict))
+    (order-short-spare orderMarks orderPasses _ _ _ (sized (c .before .before .before .before) .well) (rw n at (c .before .if1 .left)) (rw n at (c .if2 .taken)) .verdict))
 
 judge-plan-requires : tie.Need-judge-plan-requires
 judge-plan-requires c κs = fits c .game

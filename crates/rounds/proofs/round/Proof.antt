@@ -30,11 +30,17 @@ lose-all-requires c κs = let s = c .before .before .before .before .before .bef
       ),
     )
 
+complete-requires : tie.Need-complete-requires
+complete-requires c κs = let p = c .before .before .before .before .before .before .before .before .before .before .before .before .before .before .before .before .before .before .before .before .before .before .before .before .before .before .pre in
+    let k = c .before .before .before .before .before .before .lose-all .kept in
+    (omega (arith, p .1, k), omega (arith, p .0, c .before .before .before .before .before .before .before .before .before .before .before .before .before .before .before .put .kept .0, k))
+
 take-all-requires : tie.Need-take-all-requires
-take-all-requires c κs = let s = c .before .before .before .before .before .before .before .before .before .before .before .before .before .before .before .before .before .before .before .before .before .before .before .before .before .before .before .before .before in
-    let fit = s .pre .1 in
-    let k = c .before .before .before .before .before .before .before .before .before .lose-all .kept in
-    ((s .pre .0 .0, omega (arith, fit, k), omega (arith, s .pre .0, c .before .before .before .before .before .before .before .before .before .before .before .before .before .before .before .before .before .before .put .kept .0, k)), (fit .0, fit .1, fit .2))
+take-all-requires c κs = let p = c .before .before .before .before .before .before .before .before .before .before .before .before .before .before .before .before .before .before .before .before .before .before .before .before .before .before .before .before .before .before .before .before .before .before .before .before .pre in
+    let fit = p .1 in
+    let k = c .before .before .before .before .before .before .before .before .before .before .before .before .before .before .before .before .lose-all .kept in
+    let q = c .before .before .before .before .before .before .before .before .before .complete .kept in
+    ((p .0 .0, omega (arith, fit, k, q), omega (arith, p .0, c .before .before .before .before .before .before .before .before .before .before .before .before .before .before .before .before .before .before .before .before .before .before .before .before .before .put .kept .0, k, q)), (fit .0, fit .1, fit .2))
 
 same-length : tie.Need-same-length
 same-length c = search needs
@@ -52,10 +58,9 @@ same-length-5 : tie.Need-same-length-5
 same-length-5 c = search needs
 
 returns : tie.Need-returns
-returns c = let s = c .before .before .before .before .before .before .before .before .before .before .before .before .before .before .before .before .before .before .before .before .before .before .before .before .before .before .before .before .before .before .before .before .before .before .before .before in
-    let a = s .args in
-    λ G r f.
-    round-of G _ _ _ _ _ _ _ _ _ r f (λ x h. c .before .before .before .before .before .before .before .before .before .before .before .before .before .before .before .before .before .before .before .before .before .before .before .before .before .before .before .before .row .ensures x h ∙ cell-row (a .changed .now) x) (c .before .before .before .before .before .before .before .before .before .before .before .before .before .before .before .before .before .before .before .before .before .before .before .before .before .before .before .unite .ensures) (c .before .before .before .before .before .before .before .before .before .before .before .before .before .before .before .before .lose-all .ensures) _ _ _ _ (c .before .before .before .before .before .before .take-all .ensures)
+returns c = let a = c .before .before .before .before .before .before .before .before .before .before .before .before .before .before .before .before .before .before .before .before .before .before .before .before .before .before .before .before .before .before .before .before .before .before .before .before .before .before .before .before .before .before .before .args in
+    λ G r f m.
+    round-of G _ _ _ _ _ _ _ _ _ r f (λ x h. c .before .before .before .before .before .before .before .before .before .before .before .before .before .before .before .before .before .before .before .before .before .before .before .before .before .before .before .before .before .before .before .before .before .before .before .row .ensures x h ∙ cell-row (a .changed .now) x) (c .before .before .before .before .before .before .before .before .before .before .before .before .before .before .before .before .before .before .before .before .before .before .before .before .before .before .before .before .before .before .before .before .before .before .unite .ensures) (c .before .before .before .before .before .before .before .before .before .before .before .before .before .before .before .before .before .before .before .before .before .before .before .lose-all .ensures) _ _ _ (c .before .before .before .before .before .before .before .before .before .before .before .before .before .before .before .before .complete .ensures) m _ _ _ _ (c .before .before .before .before .before .before .take-all .ensures)
 
 pub round-spec : {M : Type 1} → statement M
 round-spec =
@@ -66,6 +71,7 @@ round-spec =
     put-requires
     slice-aggregate-lose-all
     lose-all-requires
+    complete-requires
     take-all-requires
     same-length
     same-length-2

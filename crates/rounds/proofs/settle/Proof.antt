@@ -15,17 +15,17 @@ use Rattle.rounds.proofs.settle.Statement.{statement}
 use Rattle.rounds.proofs.settle.Tie as tie
 
 abbrev Inv-loop : tie.InvT-loop
-Inv-loop game edges related₀ lost₀ falls₀ next₀ changed₀ passes₀ related lost falls next changed passes =
+Inv-loop game edges related₀ lost₀ falls₀ next₀ changed₀ mirror passes₀ related lost falls next changed passes =
     (length related ≡ length related₀)
     × (length lost ≡ length lost₀)
     × (length falls ≡ length falls₀)
     × (length next ≡ length next₀)
     × (length changed ≡ length changed₀)
     × Fell (gameOf game) related lost falls changed
-    × AfterRound (gameOf game) passes (cell related) (struck changed lost)
+    × AfterRound mirror (gameOf game) passes (cell related) (struck changed lost)
 
 abbrev μ-loop : tie.MeasureT-loop
-μ-loop game edges related₀ lost₀ falls₀ next₀ changed₀ passes₀ related lost falls next changed passes = pairCount game - passes
+μ-loop game edges related₀ lost₀ falls₀ next₀ changed₀ mirror passes₀ related lost falls next changed passes = pairCount game - passes
 
 abbrev start : tie.At-loop Inv-loop μ-loop → tie.Start Inv-loop μ-loop
 start c = c .before .before .before .before .before .before .before .before
@@ -37,13 +37,13 @@ few c = let well = start c .pre .0 in (c .loop .inv .6 .pass .few, mul-le-mul (w
 
 -- what the round did to the rows of the game
 done : (c : tie.After-round Inv-loop μ-loop) → let l = c .before .before .before .before .before .before in
-    RoundOf (gameOf (start l .args .game .now)) (l .loop .related) (l .loop .lost) (l .loop .changed) (c .round .result)
+    RoundOf (start l .args .mirror) (gameOf (start l .args .game .now)) (l .loop .related) (l .loop .lost) (l .loop .changed) (c .round .result)
     (c .round .last .1 .0) (c .round .last .1 .1 .0) (c .round .last .1 .1 .1 .0) (c .round .last .1 .1 .1 .1 .1 .0)
 done c = let l = c .before .before .before .before .before .before in
-    c .round .ensures (gameOf (start l .args .game .now)) (start l .pre .1 .0 .0) (l .loop .inv .5)
+    c .round .ensures (gameOf (start l .args .game .now)) (start l .pre .1 .0 .0) (l .loop .inv .5) (l .loop .inv .6 .mirrored)
 
 loop-holds : tie.Need-loop-holds Inv-loop μ-loop
-loop-holds c = let b = c .before .before .before .before .before .before .before .pre .1 .1 .1 in (refl, refl, refl, refl, refl, b .fell, b .after)
+loop-holds c = let b = c .before .before .before .before .before .before .before .pre .1 .1 .1 in (refl, refl, refl, refl, refl, b .fell, b .after _)
 
 add-passes : tie.Need-add-passes Inv-loop μ-loop
 add-passes c = omega (arith, few c)
@@ -74,12 +74,12 @@ same-length-5 c = search needs
 
 returns : tie.Need-returns Inv-loop μ-loop
 returns c = let r = c .before .before .before .before .before .before .before .before .before .before .before in
-    after-last _ _ _ _ _ _ _ _ _ _ (r .before .before .before .before .before .before .loop .inv .6) (done r) (c .if1 .taken)
+    after-last _ _ _ _ _ _ _ _ _ _ _ (r .before .before .before .before .before .before .loop .inv .6) (done r) (c .if1 .taken)
 
 -- one pass more
 more : (c : tie.Else1 Inv-loop μ-loop) → let r = c .before .before .before .before .before .before .before .before .before .before .before in
-    AfterRound (gameOf (start (r .before .before .before .before .before .before) .args .game .now)) (r .before .before .before .before .before .before .loop .passes + 1) (cell (r .round .last .1 .0)) (struck (r .round .last .1 .1 .1 .1 .1 .0) (r .round .last .1 .1 .0))
-more c = let r = c .before .before .before .before .before .before .before .before .before .before .before in after-more _ _ _ _ _ _ _ _ _ _ (r .before .before .before .before .before .before .loop .inv .6) (done r) (c .if1 .left)
+    AfterRound (start (r .before .before .before .before .before .before) .args .mirror) (gameOf (start (r .before .before .before .before .before .before) .args .game .now)) (r .before .before .before .before .before .before .loop .passes + 1) (cell (r .round .last .1 .0)) (struck (r .round .last .1 .1 .1 .1 .1 .0) (r .round .last .1 .1 .0))
+more c = let r = c .before .before .before .before .before .before .before .before .before .before .before in after-more _ _ _ _ _ _ _ _ _ _ _ (r .before .before .before .before .before .before .loop .inv .6) (done r) (c .if1 .left)
 
 loop-less : tie.Need-loop-less Inv-loop μ-loop
 unfolding gameOf

@@ -3,23 +3,23 @@ use borrow.Author.Needs.{needs}
 use native.Mathlib.Omega.{arith}
 use mathlib.Core.Path.{_≡_, sym, _∙_}
 use Prim.Native.Nat.{_-_, _≤_}
-use Rattle.relation.specs.RelationCall.{firstFailing}
+use Rattle.relation.specs.RelationCall.{pairBy, firstFailing}
 use Rattle.relation.specs.RowSearch.{failingFrom}
 use Rattle.relation.specs.RowSearchLaws.{failing-start, failing-step, failing-hit, failing-row, failing-end}
 use Rattle.relation.proofs.failing.first_failing.Statement.{statement}
 use Rattle.relation.proofs.failing.first_failing.Tie as tie
 
 abbrev Inv-loop : tie.InvT-loop
-Inv-loop game starts targets marks n v w₀ w = (w ≤ n) × (firstFailing game marks ≡ failingFrom game marks v w)
+Inv-loop game starts targets marks mirror n v w₀ w = (w ≤ n) × (firstFailing (pairBy mirror) game marks ≡ failingFrom (pairBy mirror) game marks v w)
 
 abbrev μ-loop : tie.MeasureT-loop
-μ-loop game starts targets marks n v w₀ w = n - w
+μ-loop game starts targets marks mirror n v w₀ w = n - w
 
 abbrev Inv-rows : tie.InvT-rows
-Inv-rows game starts targets marks n v₀ v = (v ≤ n) × (firstFailing game marks ≡ failingFrom game marks v 0)
+Inv-rows game starts targets marks mirror n v₀ v = (v ≤ n) × (firstFailing (pairBy mirror) game marks ≡ failingFrom (pairBy mirror) game marks v 0)
 
 abbrev μ-rows : tie.MeasureT-rows
-μ-rows game starts targets marks n v₀ v = n - v
+μ-rows game starts targets marks mirror n v₀ v = n - v
 
 shared-slice-read-n : tie.Need-shared-slice-read-n Inv-loop μ-loop Inv-rows μ-rows
 shared-slice-read-n c = search needs
@@ -28,7 +28,7 @@ cast-n : tie.Need-cast-n Inv-loop μ-loop Inv-rows μ-rows
 cast-n c = search needs
 
 rows-holds : tie.Need-rows-holds Inv-loop μ-loop Inv-rows μ-rows
-rows-holds c = (search needs, failing-start _ _)
+rows-holds c = (search needs, failing-start _ _ _)
 
 loop-holds : tie.Need-loop-holds Inv-loop μ-loop Inv-rows μ-rows
 loop-holds c = search needs
@@ -48,7 +48,7 @@ loop-again : tie.Need-loop-again Inv-loop μ-loop Inv-rows μ-rows
 loop-again c =
     let a = c .before .before .before in (
       search needs,
-      a .loop .inv .1 ∙ failing-step _ _ _ _ (a .before .if1 .left) (c .before .before .loop-test .taken) (rw (← c .before .pair-fails .ensures) (c .if2 .left)),
+      a .loop .inv .1 ∙ failing-step _ _ _ _ _ (a .before .if1 .left) (c .before .before .loop-test .taken) (rw (← c .before .pair-fails .ensures) (c .if2 .left)),
     )
 
 add-v : tie.Need-add-v Inv-loop μ-loop Inv-rows μ-rows
@@ -58,15 +58,15 @@ rows-less : tie.Need-rows-less Inv-loop μ-loop Inv-rows μ-rows
 rows-less c = search needs
 
 rows-again : tie.Need-rows-again Inv-loop μ-loop Inv-rows μ-rows
-rows-again c = (search needs, c .before .loop .inv .1 ∙ failing-row _ _ _ _ (omega arith))
+rows-again c = (search needs, c .before .loop .inv .1 ∙ failing-row _ _ _ _ _ (omega arith))
 
 returns : tie.Need-returns Inv-loop μ-loop Inv-rows μ-rows
-returns c = sym (c .before .rows .inv .1 ∙ failing-end _ _ _ _ (c .if1 .taken))
+returns c = sym (c .before .rows .inv .1 ∙ failing-end _ _ _ _ _ (c .if1 .taken))
 
 returns-2 : tie.Need-returns-2 Inv-loop μ-loop Inv-rows μ-rows
 returns-2 c =
     let a = c .before .before .before in
-    sym (a .loop .inv .1 ∙ failing-hit _ _ _ _ (a .before .if1 .left) (c .before .before .loop-test .taken) (rw (← c .before .pair-fails .ensures) (c .if2 .taken)))
+    sym (a .loop .inv .1 ∙ failing-hit _ _ _ _ _ (a .before .if1 .left) (c .before .before .loop-test .taken) (rw (← c .before .pair-fails .ensures) (c .if2 .taken)))
 
 pub first-failing-spec : {M : Type 1} → statement M
 first-failing-spec =

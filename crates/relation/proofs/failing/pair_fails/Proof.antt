@@ -1,53 +1,55 @@
--- The three ways out: not marked, unequal priorities, the test.
+-- The ways out: the test fails, no reverse is asked, the pair is unmarked, the reverse.
+use mathlib.Core.Path.{sym, ap, _∙_}
+use mathlib.Core.Bool.{not}
 use borrow.Author.Needs.{needs}
 use borrow.Author.Tests.{not-true, not-false}
-use Rattle.theory.specs.Bools.{_&_}
-use Rattle.relation.specs.RelationCall.{fails}
+use Rattle.relation.specs.RelationCallLaws.{fails-direct, fails-plain, fails-unmarked, fails-reverse}
 use Rattle.relation.proofs.failing.pair_fails.Statement.{statement}
 use Rattle.relation.proofs.failing.pair_fails.Tie as tie
 
-shared-slice-read-is-marked : tie.Need-shared-slice-read-is-marked
-shared-slice-read-is-marked c = search needs
+test-fails-requires : tie.Need-test-fails-requires
+test-fails-requires c κs = search needs
 
-cast-is-marked : tie.Need-cast-is-marked
-cast-is-marked c = search needs
+returns : tie.Need-returns
+returns c = let a = c .before .before .before .before .before .before .args in
+    sym (fails-direct (a .game .now) (a .marks .now) (a .v) (a .w) (a .mirror) (sym (c .before .test-fails .ensures) ∙ c .if1 .taken))
+
+returns-2 : tie.Need-returns-2
+returns-2 c = let a = c .before .before .before .before .before .before .before .args in
+    sym (fails-plain (a .game .now) (a .marks .now) (a .v) (a .w) (a .mirror) (c .if2 .taken) (sym (c .before .before .test-fails .ensures) ∙ c .before .if1 .left))
+
+shared-slice-read-n : tie.Need-shared-slice-read-n
+shared-slice-read-n c = search needs
+
+cast-n : tie.Need-cast-n
+cast-n c = search needs
 
 is-marked-requires : tie.Need-is-marked-requires
 is-marked-requires c κs = search needs
 
-returns : tie.Need-returns
-unfolding fails _&_
-returns c = rw (← c .before .is-marked .ensures, not-true (c .before .is-marked .result) (c .if1 .taken))
-
-same-priority-requires : tie.Need-same-priority-requires
-same-priority-requires c κs = search needs
-
-returns-2 : tie.Need-returns-2
-unfolding fails _&_
-returns-2 c =
-    let p = c .before in
-    let m = p .before .before .is-marked in
-    rw (← m .ensures, not-false (m .result) (p .before .if1 .left), ← p .same-priority .ensures, not-true (p .same-priority .result) (c .if2 .taken))
-
-pair-passes-requires : tie.Need-pair-passes-requires
-pair-passes-requires c κs = search needs
-
 returns-3 : tie.Need-returns-3
-unfolding fails _&_
-returns-3 c =
-    let p = c .before .before in
-    let m = p .before .before .is-marked in
-    rw (← m .ensures, not-false (m .result) (p .before .if1 .left), ← p .same-priority .ensures, not-false (p .same-priority .result) (c .before .if2 .left), c .pair-passes .ensures)
+returns-3 c = let a = c .before .before .before .before .before .before .before .before .before .before .args in
+    sym (fails-unmarked (a .game .now) (a .marks .now) (a .v) (a .w) (a .mirror) (sym (c .before .is-marked .ensures) ∙ not-true _ (c .if3 .taken)))
+
+is-marked-requires-2 : tie.Need-is-marked-requires-2
+is-marked-requires-2 c κs = search needs
+
+returns-4 : tie.Need-returns-4
+returns-4 c = let a = c .before .before .before .before .before .before .before .before .before .before .before .args in
+    ap not (c .is-marked2 .ensures)
+    ∙ sym (fails-reverse (a .game .now) (a .marks .now) (a .v) (a .w) (a .mirror) (c .before .before .before .before .if2 .left) (sym (c .before .before .before .before .before .before .test-fails .ensures) ∙ c .before .before .before .before .before .if1 .left)
+    (sym (c .before .before .is-marked .ensures) ∙ not-false _ (c .before .if3 .left)))
 
 pub pair-fails-spec : {M : Type 1} → statement M
 pair-fails-spec =
     tie.close
     (tie.spec
-    shared-slice-read-is-marked
-    cast-is-marked
-    is-marked-requires
+    test-fails-requires
     returns
-    same-priority-requires
     returns-2
-    pair-passes-requires
-    returns-3)
+    shared-slice-read-n
+    cast-n
+    is-marked-requires
+    returns-3
+    is-marked-requires-2
+    returns-4)

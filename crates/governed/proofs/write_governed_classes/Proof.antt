@@ -1,0 +1,60 @@
+-- The reader's refusal is handed on; the rest is the part that both relations share.
+use Rattle.theory.specs.Governed.{marksBy, relationBy}
+use Rattle.table.specs.WellFormed.{WellSized}
+use Rattle.table.specs.ReadingLaws.{reading-accepted}
+use Rattle.classes.specs.ClassesCallLaws.{classes-handed}
+use borrow.Author.Needs.{needs}
+use Rattle.governed.proofs.write_governed_classes.Statement.{statement}
+use Rattle.governed.proofs.write_governed_classes.Tie as tie
+
+-- the reader accepted
+sized : (c : tie.After-reading) → WellSized (c .before .before .before .before .before .before .before .args .game .now) (c .reading .given .0 .0)
+sized c = reading-accepted _ _ (rw (c .reading .given .1) at (c .before .before .read .ensures))
+
+read-requires : tie.Need-read-requires
+read-requires c κs = search needs
+
+enum-known-reading : tie.Need-enum-known-reading
+enum-known-reading c = search needs
+
+enum-told : tie.Need-enum-told
+enum-told c = search needs
+
+refusal-of-requires : tie.Need-refusal-of-requires
+refusal-of-requires c κs = search needs
+
+returns : tie.Need-returns
+returns c =
+    let t = c .before .enum-told .given in
+    rw (c .refusal-of .ensures, t .1) (classes-handed _ _ _ _ (t .0 .0) (rw (t .1) at (c .before .before .before .read .ensures)))
+
+write-numbered-requires : tie.Need-write-numbered-requires
+write-numbered-requires c κs = let s = sized (c .before .before .before .before) in (s .well, s .vertices)
+
+same-length : tie.Need-same-length
+same-length c = search needs
+
+same-length-2 : tie.Need-same-length-2
+same-length-2 c = search needs
+
+same-length-3 : tie.Need-same-length-3
+same-length-3 c = search needs
+
+returns-2 : tie.Need-returns-2
+unfolding marksBy relationBy
+returns-2 c = c .before .before .before .before .before .before .write-numbered .ensures
+
+pub write-governed-classes-spec : {M : Type 1} → statement M
+write-governed-classes-spec =
+    tie.close
+    (tie.spec
+    read-requires
+    enum-known-reading
+    enum-told
+    refusal-of-requires
+    returns
+    write-numbered-requires
+    same-length
+    same-length-2
+    same-length-3
+    returns-2)

@@ -1,0 +1,4 @@
+pub mod GovernedCall
+pub mod GovernedRules
+pub mod GovernedRulesLaws
+pub mod SameGovernedLaws
