@@ -125,6 +125,21 @@ extern "C" {
         spare: *mut u8, spare_len: usize,
         classes: *mut u16, classes_len: usize,
     ) -> RaskjomiAnswer;
+    fn raskjomi_governed_order(
+        game: *const u16, game_len: usize,
+        marks: *mut u8, marks_len: usize,
+        spare: *mut u8, spare_len: usize,
+    ) -> RaskjomiAnswer;
+    fn raskjomi_accept_governed(
+        game: *const u16, game_len: usize,
+        marks: *const u8, marks_len: usize,
+    ) -> RaskjomiAnswer;
+    fn raskjomi_governed_classes(
+        game: *const u16, game_len: usize,
+        marks: *mut u8, marks_len: usize,
+        spare: *mut u8, spare_len: usize,
+        classes: *mut u16, classes_len: usize,
+    ) -> RaskjomiAnswer;
     fn raskjomi_kind(number: u32) -> u32;
 }
 
@@ -317,6 +332,26 @@ pub fn replay(
 ) -> RaskjomiAnswer {
     let (words, count) = (trace.as_ptr(), trace.len());
     call!(raskjomi_replay; shared; lent table then words and count, marks, spare, classes)
+}
+
+/// The largest governed bisimulation.
+pub fn governed_order(game: &[u16], marks: &mut [u8], spare: &mut [u8]) -> RaskjomiAnswer {
+    call!(raskjomi_governed_order; shared game; lent marks, spare)
+}
+
+/// The acceptor of governed bisimulations.
+pub fn accept_governed(game: &[u16], marks: &[u8]) -> RaskjomiAnswer {
+    call!(raskjomi_accept_governed; shared game, marks; lent)
+}
+
+/// The classes of the largest governed bisimulation.
+pub fn governed_classes(
+    game: &[u16],
+    marks: &mut [u8],
+    spare: &mut [u8],
+    classes: &mut [u16],
+) -> RaskjomiAnswer {
+    call!(raskjomi_governed_classes; shared game; lent marks, spare, classes)
 }
 
 /// The kind of a refusal number.

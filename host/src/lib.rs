@@ -9,7 +9,7 @@
 //! such tables, writes their direct simulation order, classes, quotient and reduced game, judges
 //! foreign relations and winning plans, carries a plan to another vertex, draws games by a seed,
 //! converts games where the highest priority decides, adds and removes edges, previews that, and replays
-//! traces of such edits.
+//! traces of such edits. It also writes and judges governed bisimulations, a finer relation than the order.
 //! Every call works in memory that the caller lends, of any length and content. docs/CONTRACT.md in
 //! the repository has the definitions, each call's checks in order, every refusal, and what each buffer
 //! holds afterwards.
@@ -542,4 +542,54 @@ pub fn replay(
 ) -> Replay {
     let answer = exports::replay(table, trace, marks, spare, classes);
     Replay { verdict: verdict(answer).map(edited), entries: answer.entries as usize }
+}
+
+/// Writes the largest governed bisimulation into the first n × n bytes of both buffers: byte v × n + w is
+/// 1 if v and w are bisimilar, else 0. Gives the number of passes. It is an equivalence, and finer than
+/// the order: bisimilar vertices are below each other.
+///
+/// ```
+/// // Vertex 0 has the move of 3 and a worse one; all are Even's. 0 and 3 are below each other, not bisimilar.
+/// let game = [4, 5, 2, 1, 0, 2, 0, 0, 0, 0, 0, 0, 1, 2, 3, 1, 2, 1, 2, 2];
+/// let (mut marks, mut spare) = ([0; 16], [0; 16]);
+/// raskjomi::governed_order(&game, &mut marks, &mut spare)?;
+/// assert_eq!(marks, [1, 0, 0, 0, 0, 1, 0, 0, 0, 0, 1, 0, 0, 0, 0, 1]);
+/// # Ok::<(), raskjomi::Refusal>(())
+/// ```
+pub fn governed_order(game: &[u16], marks: &mut [u8], spare: &mut [u8]) -> Result<u32, Refusal> {
+    verdict(exports::governed_order(game, marks, spare)).map(|answer| answer.passes)
+}
+
+/// Judges a relation: whether the pairs that the first n × n bytes mark form a governed bisimulation, a
+/// direct simulation that has the reverse of each of its pairs.
+///
+/// ```
+/// let game = [3, 3, 0, 1, 0, 0, 0, 1, 0, 1, 2, 1, 1, 1];
+/// assert!(raskjomi::accept_governed(&game, &[1, 0, 1, 0, 1, 0, 1, 0, 1]).is_ok());
+/// // (0, 2) is marked, and (2, 0) isn't.
+/// let refusal = raskjomi::accept_governed(&game, &[1, 0, 1, 0, 1, 0, 0, 0, 1]).unwrap_err();
+/// assert_eq!((refusal.number, refusal.place), (10, 2));
+/// ```
+pub fn accept_governed(game: &[u16], marks: &[u8]) -> Result<(), Refusal> {
+    verdict(exports::accept_governed(game, marks)).map(|_| ())
+}
+
+/// Writes the largest governed bisimulation as [`governed_order`] does, and the class of each vertex by it
+/// into the first n class words. Gives the number of classes. Each lies inside one class of the order.
+///
+/// ```
+/// let game = [3, 3, 0, 1, 0, 0, 0, 1, 0, 1, 2, 1, 1, 1];
+/// let (mut marks, mut spare, mut classes) = ([0; 9], [0; 9], [0; 3]);
+/// assert_eq!(raskjomi::governed_classes(&game, &mut marks, &mut spare, &mut classes)?, 2);
+/// assert_eq!(classes, [0, 1, 0]);
+/// # Ok::<(), raskjomi::Refusal>(())
+/// ```
+pub fn governed_classes(
+    game: &[u16],
+    marks: &mut [u8],
+    spare: &mut [u8],
+    classes: &mut [u16],
+) -> Result<usize, Refusal> {
+    let answer = exports::governed_classes(game, marks, spare, classes);
+    verdict(answer).map(|answer| answer.classes as usize)
 }

@@ -182,10 +182,11 @@ const GAME: [Explanation; 8] = [
 const RELATION: [Explanation; 2] = [
     row("a mark is above 1", "the first such byte", "write 1 for a pair in the relation, else 0"),
     row(
-        "a marked pair has unequal priorities or fails the test on successors",
+        "a marked pair has unequal priorities or fails the test on successors, or, in a check for \
+         governed bisimulation, its reverse is unmarked",
         "the first such pair (v, w), as v × n + w",
-        "the relation is no direct simulation: unmark the pair, or mark the pairs of successors \
-         that it needs",
+        "the relation is no direct simulation, or isn't symmetric: unmark the pair, or mark the pairs \
+         that it needs, of successors or its reverse",
     ),
 ];
 

@@ -93,7 +93,7 @@ fn functions_are_those_of_the_exports() {
     let block = between(&declarations, "extern \"C\" {", "}");
     let declared = functions(block, "fn ");
     assert_eq!(declared, exports_in_rattle());
-    assert_eq!(declared.len(), 17);
+    assert_eq!(declared.len(), 20);
 }
 
 #[test]

@@ -2,10 +2,14 @@
 use mathlib.Core.Path.{_≡_}
 use mathlib.Core.List.{List}
 use Prim.Native.Nat.{ℕ}
+use Rattle.theory.specs.Passes.{Marks}
 use Rattle.theory.specs.Game.{Game}
+use Rattle.theory.specs.Order.{orderMarks, orderPasses}
+use Rattle.theory.specs.Governed.{governedMarks, governed, governedPasses}
 use Rattle.table.specs.Verdict.{Answer}
-use Rattle.order.specs.OrderCall.{OrderCall}
-use Rattle.classes.specs.ClassesCall.{ClassesCall}
+use Rattle.order.specs.OrderCall.{MarksCall}
+use Rattle.classes.specs.ClassesCall.{classTotal, classWords, totalOf, NumberedCall}
+use Rattle.governed.specs.GovernedCall.{governedWords}
 use Rattle.reduction.specs.TableCall.{TableCall}
 use Rattle.seed.specs.SeedCall.{SeedCall}
 use Rattle.convert.specs.ConvertCall.{ConvertCall}
@@ -13,15 +17,30 @@ use Rattle.carry.specs.CarryCall.{CarryCall, CarryClassCall}
 use Rattle.answer.specs.Fields.{orderFields, classesFields, tableFields, fillFields, carryFields, classCarryFields}
 use Rattle.answer.specs.declared.RaskjomiAnswer.{RaskjomiAnswer}
 
-pub record OrderExport (game marks spare : List ℕ) (r : RaskjomiAnswer) (marks′ spare′ : List ℕ) : Type 0 where
+-- the order, or another relation by passes
+pub record MarksExport (relation : Game → Marks) (passes : Game → ℕ) (game marks spare : List ℕ) (r : RaskjomiAnswer) (marks′ spare′ : List ℕ) : Type 0 where
   pub answer : Answer
   pub fields : r ≡ orderFields answer
-  pub call : OrderCall game marks spare answer marks′ spare′
+  pub call : MarksCall relation passes game marks spare answer marks′ spare′
 
-pub record ClassesExport (game marks spare classes : List ℕ) (r : RaskjomiAnswer) (marks′ spare′ classes′ : List ℕ) : Type 0 where
+abbrev pub OrderExport : List ℕ → List ℕ → List ℕ → RaskjomiAnswer → List ℕ → List ℕ → Type 0
+OrderExport = MarksExport orderMarks orderPasses
+
+abbrev pub GovernedExport : List ℕ → List ℕ → List ℕ → RaskjomiAnswer → List ℕ → List ℕ → Type 0
+GovernedExport = MarksExport governedMarks governedPasses
+
+-- the classes of either
+pub record NumberedExport (relation : Game → Marks) (total : List ℕ → ℕ) (words : List ℕ → List ℕ) (game marks spare classes : List ℕ) (r : RaskjomiAnswer)
+    (marks′ spare′ classes′ : List ℕ) : Type 0 where
   pub answer : Answer
   pub fields : r ≡ classesFields answer
-  pub call : ClassesCall game marks spare classes answer marks′ spare′ classes′
+  pub call : NumberedCall relation total words game marks spare classes answer marks′ spare′ classes′
+
+abbrev pub ClassesExport : List ℕ → List ℕ → List ℕ → List ℕ → RaskjomiAnswer → List ℕ → List ℕ → List ℕ → Type 0
+ClassesExport = NumberedExport orderMarks classTotal classWords
+
+abbrev pub GovernedClassesExport : List ℕ → List ℕ → List ℕ → List ℕ → RaskjomiAnswer → List ℕ → List ℕ → List ℕ → Type 0
+GovernedClassesExport = NumberedExport governedMarks (totalOf governed) governedWords
 
 pub record TableExport (K : Game → Game) (game marks spare classes output : List ℕ) (r : RaskjomiAnswer) (marks′ spare′ classes′ output′ : List ℕ) : Type 0 where
   pub answer : Answer

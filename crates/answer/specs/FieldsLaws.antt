@@ -8,7 +8,9 @@ use borrow.Author.Tests.{ltb-false}
 use Rattle.theory.specs.BoolsLaws.{or-fails}
 use Rattle.theory.specs.Game.{Game, edgeCount}
 use Rattle.theory.specs.Order.{order}
-use Rattle.theory.specs.Passes.{Rel}
+use Rattle.theory.specs.Passes.{Marks, Rel}
+use Rattle.theory.specs.Governed.{governedMarks, governed}
+use Rattle.theory.specs.GovernedLaws.{governed-equivalence}
 use Rattle.theory.specs.Plan.{Plan}
 use Rattle.theory.specs.Reduction.{reduced}
 use Rattle.theory.specs.SizeLaws.{reduced-size, reduced-edges}
@@ -26,7 +28,7 @@ use Rattle.table.specs.declared.Reading.{Reading}
 use Rattle.table.specs.Filling.{fillingAnswer}
 use Rattle.table.specs.declared.Filling.{Filling}
 use Rattle.table.specs.declared.Reading.the-variants.{Accepted, Refused}
-use Rattle.classes.specs.ClassesCall.{classRows, classTotal, classesAnswer, classificationAnswer, ClassesCall}
+use Rattle.classes.specs.ClassesCall.{classRows, classTotal, totalOf, wordsOf, totalAnswer, classificationAnswer, NumberedCall, ClassesCall}
 use Rattle.classes.specs.declared.Classification.{Classification}
 use Rattle.reduction.specs.TableCall.{tableRows, classTable, tabulationAnswer, TableCall}
 use Rattle.reduction.specs.declared.Tabulation.{Tabulation}
@@ -99,13 +101,27 @@ total-le : (game : List ℕ) → classTotal game ≤ vertexCount game
 unfolding classTotal gameOf
 total-le game = classCount-le (vertexCount game) (order (gameOf game)) (order-preorder (gameOf game))
 
+-- whatever relation has the classes
+count-small : {relation : Game → Marks} {total : List ℕ → ℕ} {words : List ℕ → List ℕ} → ((game : List ℕ) → total game ≤ vertexCount game)
+    → (game marks spare classes : List ℕ) (c : Classification) (marks′ spare′ classes′ : List ℕ)
+    → NumberedCall relation total words game marks spare classes (classificationAnswer c) marks′ spare′ classes′ → SmallCount c
+unfolding totalAnswer
+count-small few game marks spare classes (Classification.Accepted count) marks′ spare′ classes′ call =
+    let a = judge-accepted (classRows game marks spare classes) _ _ (sym (call .verdict)) in
+    omega (arith, first-count (a .1), few game, classes-well game marks spare classes (a .0) .vertices)
+count-small few game marks spare classes (Classification.Refused refusal) marks′ spare′ classes′ call = tt
+
 pub classification-small : (game marks spare classes : List ℕ) (c : Classification) (marks′ spare′ classes′ : List ℕ)
     → ClassesCall game marks spare classes (classificationAnswer c) marks′ spare′ classes′ → SmallCount c
-unfolding classesAnswer
-classification-small game marks spare classes (Classification.Accepted count) marks′ spare′ classes′ call =
-    let a = judge-accepted (classRows game marks spare classes) _ _ (sym (call .verdict)) in
-    omega (arith, first-count (a .1), total-le game, classes-well game marks spare classes (a .0) .vertices)
-classification-small game marks spare classes (Classification.Refused refusal) marks′ spare′ classes′ call = tt
+classification-small = count-small total-le
+
+governed-le : (game : List ℕ) → totalOf governed game ≤ vertexCount game
+unfolding totalOf gameOf
+governed-le game = classCount-le (vertexCount game) (governed (gameOf game)) (governed-equivalence (gameOf game) .preorder)
+
+pub governed-small : (game marks spare classes : List ℕ) (c : Classification) (marks′ spare′ classes′ : List ℕ)
+    → NumberedCall governedMarks (totalOf governed) (wordsOf governed) game marks spare classes (classificationAnswer c) marks′ spare′ classes′ → SmallCount c
+governed-small = count-small governed-le
 
 -- ---- a table's counts, for a game K of classes that is no larger
 

@@ -10,13 +10,13 @@ use Rattle.table.specs.Verdict.{Answer, judge, written, after}
 use Rattle.table.specs.Reading.{lacksEdge, firstOwner, firstEnd, firstLacking, gameRowsBy, readAnswer}
 use Rattle.table.specs.TableWords.{ownerWord, tableWords}
 use Rattle.pairs.specs.Marks.{bytes, isMark, relation, firstHigh}
-use Rattle.order.specs.OrderCall.{orderRows, orderAnswer, OrderCall}
-use Rattle.relation.specs.RelationCall.{fails, firstFailing, relationRows, relationAnswer}
+use Rattle.order.specs.OrderCall.{orderRows, passesAnswer, OrderCall}
+use Rattle.relation.specs.RelationCall.{directPair, fails, firstFailing, acceptorRows, acceptorAnswer}
 use Rattle.links.specs.PlanTable.{anyLink, hasLink}
 use Rattle.links.specs.Refusals.{badSize, beyond, firstBeyond, strays, firstStray}
 use Rattle.returns.specs.Returns.{reaches, returns, positionPriority, returnsWrong, firstReturn}
 use Rattle.plan.specs.Acceptance.{answers, lacksLink, firstLackingLink, planRows, planAnswer}
-use Rattle.classes.specs.ClassesCall.{classRows, classTotal, classWords, classesAnswer, ClassesCall}
+use Rattle.classes.specs.ClassesCall.{classRows, classTotal, classWords, totalAnswer, ClassesCall}
 use Rattle.reduction.specs.TableCall.{tableRows, TableCall}
 use Rattle.claims.specs.Cases.{Call, Outcome, answered, lentMarks, lentClasses, lentOutput, Promised, outcome, Case, cases, AllHold}
 use Rattle.claims.specs.Cases.Call.{read, writeOrder, acceptRelation, writeClasses, writeTable, acceptPlan}
@@ -60,7 +60,7 @@ pub cases-hold : map (λ (c : Case). outcome (c .call)) cases ≡ map (λ (c : C
 unfolding compute
     gameOf playerOf isEdge judge written after
     readAnswer gameRowsBy firstOwner firstEnd firstLacking lacksEdge
-    bytes isMark relation orderRows orderAnswer fails firstHigh firstFailing relationRows relationAnswer ownerWord tableWords classRows tableRows classTotal classWords classesAnswer
+    bytes isMark relation orderRows passesAnswer directPair fails firstHigh firstFailing acceptorRows acceptorAnswer ownerWord tableWords classRows tableRows classTotal classWords totalAnswer
     badSize beyond firstBeyond strays firstStray anyLink answers lacksLink firstLackingLink reaches returns positionPriority hasLink returnsWrong firstReturn planRows planAnswer
 cases-hold = refl
 

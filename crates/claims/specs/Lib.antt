@@ -7,3 +7,5 @@ pub mod SentencesLaws
 pub mod Smallest
 pub mod SmallestLaws
 pub mod Applied
+pub mod GovernedSentences
+pub mod GovernedSentencesLaws

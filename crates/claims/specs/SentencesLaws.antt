@@ -13,9 +13,9 @@ use Rattle.table.specs.Verdict.{Row, Answer, accepted, judge, Clean}
 use Rattle.table.specs.VerdictLaws.{judge-clean, judge-accepted, clean-split}
 use Rattle.table.specs.RulesLaws.{clean-none}
 use Rattle.table.specs.Acceptance.{acceptanceAnswer}
-use Rattle.order.specs.OrderCall.{orderRows, orderAnswer, orderingAnswer, OrderCall}
+use Rattle.order.specs.OrderCall.{orderRows, passesAnswer, orderingAnswer, OrderCall}
 use Rattle.relation.specs.RelationCall.{relationAnswer}
-use Rattle.classes.specs.ClassesCall.{classRows, classesAnswer, ClassesCall}
+use Rattle.classes.specs.ClassesCall.{classRows, totalAnswer, ClassesCall}
 use Rattle.reduction.specs.TableCall.{tableRows, tableCounts, TableCall}
 use Rattle.carry.specs.CarryCall.{judgedRows, carryRows, CarryCall, carryClassRows, CarryClassCall}
 use Rattle.carry.specs.CarryMemoryLaws.{Numbers, numbers-append, game-numbers, passed-first, carry-passed, carry-class-passed}
@@ -53,7 +53,7 @@ once-map o f = record { accepts = λ counts e. f (o .accepts counts e); refuses 
 
 pub orders : {game marks spare : List ℕ} {answer : Answer} {marks′ spare′ : List ℕ} → OrderCall game marks spare answer marks′ spare′
     → Orders game marks spare answer marks′ spare′
-unfolding orderAnswer
+unfolding passesAnswer
 orders {game} {marks} {spare} call =
     let clean = passed (orderRows game marks spare) _ (call .verdict) in record {
       call = call;
@@ -63,7 +63,7 @@ orders {game} {marks} {spare} call =
 
 pub classifies : {game marks spare classes : List ℕ} {answer : Answer} {marks′ spare′ classes′ : List ℕ}
     → ClassesCall game marks spare classes answer marks′ spare′ classes′ → Classifies game marks spare classes answer marks′ spare′ classes′
-unfolding classesAnswer
+unfolding totalAnswer
 classifies {game} {marks} {spare} {classes} call =
     let clean = passed (classRows game marks spare classes) _ (call .verdict) in record {
       call = call;

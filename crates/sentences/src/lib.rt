@@ -17,6 +17,7 @@ ghost use Rattle.arrival.specs.PlanWords.{carryingAnswer};
 ghost use Rattle.carry.specs.CarryCall.{classCarryingAnswer};
 ghost use Rattle.edges.specs.declared.Edit.the-variants.{Arrival, Leaving};
 ghost use Rattle.claims.specs.Sentences.{Orders, Classifies, Tabulates, Contains, Carries, CarriesClass, Edits, Previews, Replays};
+ghost use Rattle.claims.specs.GovernedSentences.{Governs, GovernsClasses};
 
 // Judges a relation, then writes the order.
 pub fn contains(game: &[u16], relation: &[u8], marks: &mut [u8], spare: &mut [u8]) -> Containment
@@ -186,4 +187,23 @@ pub fn replays(
     ensures { λ r. ⌜ Replays (now (buffer .entry)) (now (trace .entry)) (now (marks .entry)) (now (spare .entry)) (now (classes .entry)) (tabulationAnswer (r .verdict)) (r .entries) (now (buffer .exit)) (now (marks .exit)) (now (spare .exit)) (now (classes .exit)) ⌝ }
 {
     replay::replay(buffer, trace, marks, spare, classes)
+}
+
+// Writes the largest governed bisimulation.
+pub fn governs(game: &[u16], marks: &mut [u8], spare: &mut [u8]) -> Ordering
+    ensures { λ r. ⌜ Governs (now (game .entry)) (now (marks .entry)) (now (spare .entry)) (orderingAnswer r) (now (marks .exit)) (now (spare .exit)) ⌝ }
+{
+    governed::write_governed(game, marks, spare)
+}
+
+// Writes its classes.
+pub fn governs_classes(
+    game: &[u16],
+    marks: &mut [u8],
+    spare: &mut [u8],
+    classes: &mut [u16],
+) -> Classification
+    ensures { λ r. ⌜ GovernsClasses (now (game .entry)) (now (marks .entry)) (now (spare .entry)) (now (classes .entry)) (classificationAnswer r) (now (marks .exit)) (now (spare .exit)) (now (classes .exit)) ⌝ }
+{
+    governed::write_governed_classes(game, marks, spare, classes)
 }

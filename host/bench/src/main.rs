@@ -4,6 +4,7 @@
 
 mod baseline;
 mod edits;
+mod governed;
 mod measure;
 mod rows;
 
@@ -219,8 +220,9 @@ fn main() {
     let heads = ["game", "n", "m", "passes", library, plain, "ratio", baseline, "ratio", "KiB"];
     println!("{}", line(heads));
     let (mut largest, mut largest_to_plain, mut watched) = (0f64, 0f64, 0f64);
-    for row in rows::rows() {
-        let (ratio, to_plain) = show(&row);
+    let rows = rows::rows();
+    for row in &rows {
+        let (ratio, to_plain) = show(row);
         if row.game[0] == 256 {
             largest = largest.max(ratio);
         }
@@ -233,4 +235,5 @@ fn main() {
     println!("largest ratio to the bit rows at n 256: {largest:.2}");
     println!("largest ratio to plain passes: {largest_to_plain:.2}");
     println!("{WATCHED}: at least {:.1} times as fast as plain passes", 1.0 / watched);
+    governed::show(&rows);
 }

@@ -176,11 +176,29 @@ impl Oracle {
 
     pub(crate) fn write_order(&self, game: &Game, memory: &mut Memory) -> (Relation, u32) {
         let (order, passes) = self.order_of(game);
-        self.write(&mut memory.marks, &order.bytes());
-        if !self.falls_for(Trap::SpareLeftOld) {
-            self.write(&mut memory.spare, &order.bytes());
-        }
+        self.write_relation(&order, memory);
         (order, passes)
+    }
+
+    /// Writes a relation into marks and spare.
+    pub(crate) fn write_relation(&self, relation: &Relation, memory: &mut Memory) {
+        self.write(&mut memory.marks, &relation.bytes());
+        if !self.falls_for(Trap::SpareLeftOld) {
+            self.write(&mut memory.spare, &relation.bytes());
+        }
+    }
+
+    /// Writes the classes of a relation; their number.
+    pub(crate) fn write_class_words(
+        &self,
+        game: &Game,
+        relation: &Relation,
+        memory: &mut Memory,
+    ) -> Answer {
+        let classes = self.classes_of(game, relation);
+        let words: Vec<u16> = classes.of.iter().map(|&class| class as u16).collect();
+        self.write(&mut memory.classes, &words);
+        Answer { classes: classes.count() as u32, ..Answer::default() }
     }
 
     pub(crate) fn write_classes(

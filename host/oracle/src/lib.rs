@@ -1,5 +1,5 @@
 //! A second implementation of every call, for tests: written from document 01 and its change requests
-//! CR 1 to CR 4 and CR 6 to CR 9, which docs/CONTRACT.md renders, by their definitions, slow and plain, and sharing no
+//! CR 1 to CR 4, CR 6 to CR 10 and CR 12, which docs/CONTRACT.md renders, by their definitions, slow and plain, and sharing no
 //! code with the library that it is compared with.
 //!
 //! Each [`Trap`] is a misreading of the contract. An [`Oracle`] that falls for one gives the answers
@@ -11,6 +11,7 @@ mod carry;
 mod convert;
 mod edit;
 mod game;
+mod governed;
 mod plan;
 mod reduction;
 mod relation;

@@ -34,7 +34,7 @@ impl Relation {
     }
 
     /// Takes the pair out.
-    fn unmark(&mut self, v: usize, w: usize) {
+    pub(crate) fn unmark(&mut self, v: usize, w: usize) {
         self.cells[v * self.columns + w] = false;
     }
 }
@@ -42,7 +42,7 @@ impl Relation {
 impl Oracle {
     /// The test for v of `left` and w of `right`: the pair of owners decides which of the
     /// four conditions on their successors holds.
-    fn test(&self, left: &Game, right: &Game, v: usize, w: usize, h: &Relation) -> bool {
+    pub(crate) fn test(&self, left: &Game, right: &Game, v: usize, w: usize, h: &Relation) -> bool {
         let (xs, ys) = (&left.successors[v], &right.successors[w]);
         let in_h = |x: &usize, y: &usize| h.has(*x, *y);
         let mut owners = (left.owner[v], right.owner[w]);
@@ -70,13 +70,23 @@ impl Oracle {
 
     /// The same between two games: v of `left` is below w of `right`.
     pub fn order_between(&self, left: &Game, right: &Game) -> (Relation, u32) {
+        self.settled(left, right, |marks| self.pass(left, right, marks))
+    }
+
+    /// What passes leave of the pairs of equal priority, and their number.
+    pub(crate) fn settled(
+        &self,
+        left: &Game,
+        right: &Game,
+        pass: impl Fn(&Relation) -> Relation,
+    ) -> (Relation, u32) {
         let all = self.falls_for(Trap::PassZeroMarksAll);
         let alike = |v: usize, w: usize| all || left.priority[v] == right.priority[w];
         let mut marks = Relation::of(left.n(), right.n(), alike);
         let mut passes = 0;
         loop {
             passes += 1;
-            let next = self.pass(left, right, &marks);
+            let next = pass(&marks);
             if next == marks {
                 let last = self.falls_for(Trap::LastPassUncounted) as u32;
                 return (marks, passes - last);
@@ -110,13 +120,22 @@ impl Oracle {
 
     /// Judges marks from anywhere: refusals 9 and 10. The marks are at least n × n bytes.
     pub(crate) fn judge_relation(&self, game: &Game, marks: &[u8]) -> Result<(), Refusal> {
+        self.judge_marks(game, marks, |h| h.pairs().find(|&(v, w)| self.pair_fails(game, v, w, h)))
+    }
+
+    /// The same for any search for a bad pair.
+    pub(crate) fn judge_marks(
+        &self,
+        game: &Game,
+        marks: &[u8],
+        find: impl Fn(&Relation) -> Option<(usize, usize)>,
+    ) -> Result<(), Refusal> {
         let n = game.n();
         let judged = if self.falls_for(Trap::BytesBeyondJudged) { marks.len() } else { n * n };
         let bad_byte = marks[..judged].iter().position(|&byte| byte > 1);
         let bad_byte = bad_byte.filter(|_| !self.falls_for(Trap::AnyByteMarks));
         let h = Relation::of(n, n, |v, w| marks[v * n + w] >= 1);
-        let bad_pair = h.pairs().find(|&(v, w)| self.pair_fails(game, v, w, &h));
-        let bad_pair = bad_pair.map(|(v, w)| v * n + w);
+        let bad_pair = find(&h).map(|(v, w)| v * n + w);
         let together = self.falls_for(Trap::BytesAndPairsTogether);
         match (bad_byte, bad_pair) {
             (Some(byte), Some(pair)) if together && pair < byte => refuse_at(bad_pair, 10),
@@ -126,7 +145,7 @@ impl Oracle {
     }
 
     /// Whether the pair has unequal priorities or fails the test.
-    fn pair_fails(&self, game: &Game, v: usize, w: usize, h: &Relation) -> bool {
+    pub(crate) fn pair_fails(&self, game: &Game, v: usize, w: usize, h: &Relation) -> bool {
         let taken = self.falls_for(Trap::UnequalPrioritiesPass);
         let unequal = game.priority[v] != game.priority[w] && !taken;
         unequal || !self.test(game, game, v, w, h)

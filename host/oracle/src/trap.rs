@@ -193,6 +193,19 @@ pub enum Trap {
     /// The target of an entry stands behind its source.
     EntriesInPairs,
 
+    /// The governed relation is the pairs that the order has both ways.
+    MutualPairsOfTheOrder,
+    /// The reverse of a pair is tested under the marks that the pass has left so far.
+    ReverseUnderLaterMarks,
+    /// The governed classes are those of the order.
+    ClassesOfTheOrder,
+    /// The governed acceptor doesn't ask for the reverse of a mark.
+    ReverseUnasked,
+    /// It looks for unmarked reverses once no test fails.
+    ReversesAfterTests,
+    /// It names a pair whose reverse fails the test.
+    ReverseTestedToo,
+
     /// Numbers between two ranges have the kind of the range below.
     KindsWithoutGaps,
     /// The report drops a last half word.
@@ -213,7 +226,7 @@ pub enum Trap {
 
 impl Trap {
     /// The traps of the calls, those of document 01 first.
-    pub const OF_CALLS: [Trap; 90] = [
+    pub const OF_CALLS: [Trap; 96] = [
         Trap::SomeMemberHasEdge,
         Trap::LittleBrothersByProse,
         Trap::MixedRowsExchanged,
@@ -303,6 +316,12 @@ impl Trap {
         Trap::ClassesBeforeTrace,
         Trap::LongTraceAccepted,
         Trap::EntriesInPairs,
+        Trap::MutualPairsOfTheOrder,
+        Trap::ReverseUnderLaterMarks,
+        Trap::ClassesOfTheOrder,
+        Trap::ReverseUnasked,
+        Trap::ReversesAfterTests,
+        Trap::ReverseTestedToo,
         Trap::KindsWithoutGaps,
     ];
 

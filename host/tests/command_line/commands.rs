@@ -22,6 +22,7 @@ fn expected(command: &str, name: &str) -> Memory {
     let mut memory = Memory { marks, spare, classes, output, ..Memory::default() };
     let answer = match command {
         "quotient" => Oracle::exact().quotient(&game, &mut memory),
+        "governed" => Oracle::exact().governed_classes(&game, &mut memory),
         _ => Oracle::exact().reduce(&game, &mut memory),
     };
     assert_eq!(answer.number, 0);
@@ -101,6 +102,31 @@ fn classes_in_each_form() {
     }
     let text = run(&["classes", "games/d.txt"]).text();
     assert!(text.starts_with("# classes 5\n# class 0: 0 and 5\n"), "{text}");
+}
+
+#[test]
+fn governed_in_each_form() {
+    for name in GAMES {
+        let Memory { marks, classes, .. } = expected("governed", name);
+        let game = path(name);
+        let text = run(&["governed", "order", &game]).text();
+        let read: Vec<u8> = numbers(&text).iter().map(|&mark| mark as u8).collect();
+        assert_eq!(read, marks);
+        assert_eq!(run(&["governed", "order", &game, "--as", "words"]).bytes(), marks);
+        let check = ["governed", "check", &game, "-"];
+        assert_eq!(run_on(&check, text.as_bytes()).text(), "accepted\n");
+        assert_eq!(run_on(&["check-relation", &game, "-"], &marks).text(), "accepted\n");
+        assert_eq!(numbers(&run(&["governed", "classes", &game]).text()), classes);
+        let words_of = run(&["governed", "classes", &game, "--as", "words"]).bytes();
+        assert_eq!(words(&words_of), classes);
+    }
+    let text = run(&["governed", "order", "games/d.txt"]).text();
+    let title = "# governed: row v, column w is 1 if v and w are bisimilar; passes 3";
+    assert_eq!(text.lines().next(), Some(title));
+    let text = run(&["governed", "classes", "games/d.txt"]).text();
+    assert!(text.starts_with("# classes 6\n# class 0: 0\n"), "{text}");
+    let dot = run(&["governed", "order", "games/c.txt", "--as", "dot"]).text();
+    assert!(!dot.contains("  1 -> 2;\n"), "{dot}");
 }
 
 #[test]

@@ -33,6 +33,19 @@ fn commands_and_options() {
 }
 
 #[test]
+fn governed_bisimulations() {
+    let usage = "usage: raskjomi governed order|classes|check GAME [RELATION]";
+    bad(&["governed", "order"], &["arguments: 1 instead of 2 to 3", usage]);
+    bad(&["governed", "reduce", "games/c.txt"], &["governed: no `reduce`", "governed classes"]);
+    bad(&["governed", "check", "games/c.txt"], &["governed check GAME RELATION"]);
+    bad(&["governed", "order", "games/c.txt", "a"], &["a game alone", "governed check"]);
+    bad(&["governed", "classes", "games/c.txt", "a"], &["a game alone", "governed check"]);
+    bad(&["governed", "check", "games/c.txt", "a", "--as=text"], &["without --as"]);
+    bad(&["governed", "order", "games/c.txt", "--as=svg"], &["no form `svg`"]);
+    bad(&["governed", "check", "-", "-"], &["both inputs", "name a file"]);
+}
+
+#[test]
 fn numbers() {
     bad(&["explain"], &["arguments: 0 instead of 1"]);
     bad(&["explain", "-1"], &["no option -1"]);

@@ -65,6 +65,12 @@ fn relations() {
         let out = run(&["check-relation", "games/b.txt", &relation]).fails(1, &parts);
         assert_eq!(out, format!("refused {verdict}\n"));
     }
+    // A mark without its reverse is refused by the governed check alone.
+    let relation = file("relation.txt", b"1 0 1\n0 1 0\n0 0 1");
+    assert_eq!(run(&["check-relation", "games/b.txt", &relation]).text(), "accepted\n");
+    let parts = ["relation.txt: line 1, word 3 (pair 0, 2): refused 10 at 2: "];
+    let out = run(&["governed", "check", "games/b.txt", &relation]).fails(1, &parts);
+    assert_eq!(out, "refused 10 at 2\n");
     run_on(&["check-relation", "games/b.txt", "-"], &[0, 1, 2, 0, 0, 0, 0, 0, 0])
         .fails(1, &["standard input: byte 2 from 0 (mark 2), read as binary ", ": refused 9 at 2"]);
 }

@@ -24,11 +24,14 @@ pub enum Call {
     PreviewRemove,
     Replay,
     Seed,
+    GovernedOrder,
+    AcceptGoverned,
+    GovernedClasses,
 }
 
 impl Call {
     /// The calls on a game and lent memory.
-    pub const ON_MEMORY: [Call; 7] = [
+    pub const ON_MEMORY: [Call; 10] = [
         Call::Read,
         Call::Order,
         Call::AcceptRelation,
@@ -36,6 +39,9 @@ impl Call {
         Call::Quotient,
         Call::Reduce,
         Call::Convert,
+        Call::GovernedOrder,
+        Call::AcceptGoverned,
+        Call::GovernedClasses,
     ];
 
     /// The calls that carry a plan.
@@ -59,9 +65,9 @@ impl Call {
         let own: &[RangeInclusive<u32>] = match self {
             Call::Seed => return vec![31, 32],
             Call::Read => &[],
-            Call::Order => &[21..=22],
-            Call::AcceptRelation => &[9..=10, 21..=21],
-            Call::Classes => &[21..=23],
+            Call::Order | Call::GovernedOrder => &[21..=22],
+            Call::AcceptRelation | Call::AcceptGoverned => &[9..=10, 21..=21],
+            Call::Classes | Call::GovernedClasses => &[21..=23],
             Call::Quotient | Call::Reduce => &[21..=24],
             Call::Convert => &[24..=24, 36..=36],
             Call::AcceptPlan => &[11..=16],
@@ -172,6 +178,9 @@ impl Case {
             Call::PreviewRemove => oracle.preview(Edit::Remove, self.edge, game, &mut memory),
             Call::Replay => oracle.replay(&self.trace, &mut memory),
             Call::Seed => oracle.seed(self.seed, &mut memory),
+            Call::GovernedOrder => oracle.governed_order(game, &mut memory),
+            Call::AcceptGoverned => oracle.accept_governed(game, &memory),
+            Call::GovernedClasses => oracle.governed_classes(game, &mut memory),
         };
         Outcome { answer, memory }
     }
@@ -206,6 +215,9 @@ impl Case {
             Call::PreviewRemove => exports::preview_remove(game, from, to, t, m, s, c),
             Call::Replay => exports::replay(t, &self.trace, m, s, c),
             Call::Seed => exports::seed(seed, n, degree, priorities, o),
+            Call::GovernedOrder => exports::governed_order(game, m, s),
+            Call::AcceptGoverned => exports::accept_governed(game, m),
+            Call::GovernedClasses => exports::governed_classes(game, m, s, c),
         };
         let memory = Memory {
             table: table.content(),
@@ -292,6 +304,14 @@ impl Case {
             Call::Seed => {
                 let [seed, n, degree, priorities] = self.seed;
                 raskjomi::seed(seed, n, degree, priorities, output).map(of_filled)
+            }
+            Call::GovernedOrder => raskjomi::governed_order(game, marks, spare)
+                .map(|passes| Answer { passes, ..Answer::default() }),
+            Call::AcceptGoverned => {
+                raskjomi::accept_governed(game, marks).map(|()| Answer::default())
+            }
+            Call::GovernedClasses => {
+                raskjomi::governed_classes(game, marks, spare, classes).map(of_classes)
             }
         };
         let refused = |Refusal { number, place }| Answer { number, place, ..Answer::default() };

@@ -34,8 +34,11 @@ pub fn largest_cases() -> Vec<Case> {
         let words = table.words();
         let mut with_order = exact_memory(&table);
         Oracle::exact().order(&words, &mut with_order);
+        let mut with_governed = exact_memory(&table);
+        Oracle::exact().governed_order(&words, &mut with_governed);
         cases.extend(Call::ON_MEMORY.map(|call| match call {
             Call::AcceptRelation => Case::on_memory(call, &words, with_order.clone()),
+            Call::AcceptGoverned => Case::on_memory(call, &words, with_governed.clone()),
             _ => Case::on_memory(call, &words, exact_memory(&table)),
         }));
     }

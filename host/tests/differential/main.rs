@@ -10,6 +10,7 @@ mod carries;
 mod conversions;
 mod edits;
 mod families;
+mod governed;
 mod limits;
 mod previews;
 mod minimal;

@@ -10,7 +10,14 @@ use generator::{any_game, chain, same_game, Lcg, Table};
 use oracle::{Answer, Memory, Oracle};
 
 /// The calls that write.
-const WRITING: [Call; 4] = [Call::Order, Call::Classes, Call::Quotient, Call::Reduce];
+const WRITING: [Call; 6] = [
+    Call::Order,
+    Call::Classes,
+    Call::Quotient,
+    Call::Reduce,
+    Call::GovernedOrder,
+    Call::GovernedClasses,
+];
 
 /// What the reader answers where it accepts.
 fn sizes(vertices: u32, edges: u32, different: u32) -> Answer {
@@ -35,9 +42,14 @@ pub fn all_calls_agree(table: &Table) {
     let words = table.words();
     let mut with_order = exact_memory(table);
     Oracle::exact().order(&words, &mut with_order);
+    let mut with_governed = exact_memory(table);
+    Oracle::exact().governed_order(&words, &mut with_governed);
     for call in Call::ON_MEMORY {
-        let relation = call == Call::AcceptRelation;
-        let memory = if relation { with_order.clone() } else { exact_memory(table) };
+        let memory = match call {
+            Call::AcceptRelation => with_order.clone(),
+            Call::AcceptGoverned => with_governed.clone(),
+            _ => exact_memory(table),
+        };
         assert_eq!(agree(&Case::on_memory(call, &words, memory)), 0, "{call:?}");
     }
     let solution = generator::solve(table);

@@ -42,19 +42,26 @@ fn memory(lcg: &mut Lcg, table: &Table) -> Memory {
     }
 }
 
-/// Relations made from the order, with random bytes beyond their end.
+/// Relations made from the order, and from the governed one, with random bytes beyond their end.
 pub fn foreign_relations(lcg: &mut Lcg, table: &Table) -> Vec<Case> {
     let game = Oracle::exact().game(&table.words()).expect("a whole table");
     let order = Oracle::exact().order_of(&game).0.bytes();
-    let mut relation_case = || {
-        let mut marks = relation(lcg, &order, table.n());
+    let governed = Oracle::exact().governed_of(&game).0.bytes();
+    let mut relation_case = |call, largest: &[u8]| {
+        let mut marks = relation(lcg, largest, table.n());
         if lcg.once_in(2) {
             marks.extend(old_bytes(lcg, 5));
         }
         let memory = Memory { marks, ..Memory::default() };
-        Case::on_memory(Call::AcceptRelation, &table.words(), memory)
+        Case::on_memory(call, &table.words(), memory)
     };
-    vec![relation_case(), relation_case()]
+    vec![
+        relation_case(Call::AcceptRelation, &order),
+        relation_case(Call::AcceptRelation, &order),
+        relation_case(Call::AcceptGoverned, &governed),
+        relation_case(Call::AcceptGoverned, &governed),
+        relation_case(Call::AcceptGoverned, &order),
+    ]
 }
 
 /// Plans on a game: the winner's, unfolded ones, bent ones, any strategy, and the wrong player.

@@ -6,7 +6,15 @@ use super::game::Game;
 
 /// Writes the order into both buffers, whose length is n × n; the number of passes.
 pub fn write_order(game: &Game, marks: &mut [u8], spare: &mut [u8]) -> u32 {
-    let mut rounds = Rounds::start(game);
+    write(Rounds::start(game, false), game, marks, spare)
+}
+
+/// The same of the largest governed bisimulation.
+pub fn write_governed(game: &Game, marks: &mut [u8], spare: &mut [u8]) -> u32 {
+    write(Rounds::start(game, true), game, marks, spare)
+}
+
+fn write(mut rounds: Rounds, game: &Game, marks: &mut [u8], spare: &mut [u8]) -> u32 {
     let mut passes = 1;
     while rounds.pass() != 0 {
         passes += 1;
@@ -34,11 +42,13 @@ struct Rounds {
     falls: Rows,
     /// What rows lose in this pass.
     losses: Rows,
+    /// Whether the reverse of what is lost is lost too.
+    mirror: bool,
 }
 
 impl Rounds {
     /// The rows of a game, and pass 0.
-    fn start(game: &Game) -> Rounds {
+    fn start(game: &Game, mirror: bool) -> Rounds {
         let none = [Row::EMPTY; 256];
         let mut rounds = Rounds {
             odd: Row::EMPTY,
@@ -49,6 +59,7 @@ impl Rounds {
             lost: none,
             falls: none,
             losses: none,
+            mirror,
         };
         rounds.odd = Row::of(game.owners, |&owner| owner == 1);
         for v in 0..game.priorities.len() {
@@ -84,7 +95,23 @@ impl Rounds {
             self.losses[v] = self.loss(v);
             !self.losses[v].is_empty()
         });
+        let losing = if self.mirror { self.mirrored(losing) } else { losing };
         self.take_out(losing)
+    }
+
+    /// Adds the reverse of each loss of these rows; the rows that lose something then.
+    fn mirrored(&mut self, rows: Row) -> Row {
+        let mut losing = rows;
+        rows.each(|v| {
+            self.losses[v].each(|w| {
+                if !losing.has(w) {
+                    self.losses[w] = Row::EMPTY;
+                    losing.insert(w);
+                }
+                self.losses[w].insert(v);
+            })
+        });
+        losing
     }
 
     /// What v loses, which has a successor whose row changed.

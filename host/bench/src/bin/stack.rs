@@ -10,7 +10,7 @@ use std::os::unix::process::ExitStatusExt;
 use std::process::{Command, ExitStatus, Stdio};
 use std::thread;
 
-const CALLS: [&str; 18] = [
+const CALLS: [&str; 21] = [
     "no call",
     "kind",
     "read",
@@ -29,6 +29,9 @@ const CALLS: [&str; 18] = [
     "preview_add",
     "preview_remove",
     "replay",
+    "governed_order",
+    "accept_governed",
+    "governed_classes",
 ];
 /// The sizes tried, in KiB: a page, the least that Rust gives a thread, and what it gives by default.
 const PAGE: usize = 4;
@@ -83,6 +86,9 @@ fn call(name: &str) -> impl FnOnce() -> u32 + Send + 'static {
                 let (source, target) = edited.edges[0];
                 exports::replay(&mut table, &[2, source, 0, target, absent as u16], m, s, c)
             }
+            "governed_order" => exports::governed_order(&game, m, s),
+            "accept_governed" => exports::accept_governed(&game, m),
+            "governed_classes" => exports::governed_classes(&game, m, s, c),
             _ => exports::reduce(&game, m, s, c, o),
         };
         answer.number

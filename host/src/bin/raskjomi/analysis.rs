@@ -12,7 +12,7 @@ pub struct Game {
     pub size: Size,
 }
 
-/// The order's marks and its passes.
+/// A relation's marks and its passes.
 pub struct Order {
     pub marks: Vec<u8>,
     pub passes: u32,
@@ -32,6 +32,9 @@ pub struct Edit {
     pub target: u32,
 }
 
+/// A call of the library that writes a relation, and one that writes its classes too.
+type WriteMarks = fn(&[u16], &mut [u8], &mut [u8]) -> Result<u32, Refusal>;
+type WriteClasses = fn(&[u16], &mut [u8], &mut [u8], &mut [u16]) -> Result<usize, Refusal>;
 /// A call of the library that writes a table.
 type WriteTable = fn(&[u16], &mut [u8], &mut [u8], &mut [u16], &mut [u16]) -> Result<Size, Refusal>;
 
@@ -56,16 +59,34 @@ impl Game {
 
     /// The order.
     pub fn order(&self) -> Result<Order, Failure> {
+        self.relation(raskjomi::order)
+    }
+
+    /// The largest governed bisimulation.
+    pub fn governed_order(&self) -> Result<Order, Failure> {
+        self.relation(raskjomi::governed_order)
+    }
+
+    fn relation(&self, write: WriteMarks) -> Result<Order, Failure> {
         let (mut marks, mut spare) = self.marks();
-        let passes = raskjomi::order(&self.input.numbers, &mut marks, &mut spare);
+        let passes = write(&self.input.numbers, &mut marks, &mut spare);
         Ok(Order { marks, passes: self.told(passes)? })
     }
 
     /// The classes alone.
     pub fn classes(&self) -> Result<Vec<u16>, Failure> {
+        self.numbered(raskjomi::classes)
+    }
+
+    /// The classes of the largest governed bisimulation.
+    pub fn governed_classes(&self) -> Result<Vec<u16>, Failure> {
+        self.numbered(raskjomi::governed_classes)
+    }
+
+    fn numbered(&self, write: WriteClasses) -> Result<Vec<u16>, Failure> {
         let (mut marks, mut spare) = self.marks();
         let mut classes = vec![0; self.size.vertices];
-        self.told(raskjomi::classes(&self.input.numbers, &mut marks, &mut spare, &mut classes))?;
+        self.told(write(&self.input.numbers, &mut marks, &mut spare, &mut classes))?;
         Ok(classes)
     }
 

@@ -79,6 +79,11 @@ impl Arguments {
         self.files.get(index).map_or("-", String::as_str)
     }
 
+    /// Whether there is an argument at the index.
+    pub fn has_file(&self, index: usize) -> bool {
+        index < self.files.len()
+    }
+
     /// Whether the option is there.
     pub fn has(&self, option: &str) -> bool {
         self.options.contains_key(option)

@@ -1,6 +1,6 @@
 //! The commands.
 
-use crate::analysis::{members, Edit, Game, Merged};
+use crate::analysis::{members, Edit, Game, Merged, Order};
 use crate::arguments::{name_of, Arguments, Form};
 use crate::failure::Failure;
 use crate::help::{self, Command, COMMANDS};
@@ -10,7 +10,7 @@ use crate::locate::{
 };
 use crate::table::Table;
 use crate::{dot as picture, tell, text};
-use raskjomi::Kind;
+use raskjomi::{Kind, Refusal};
 
 /// What a command writes to standard output, or how it fails.
 type Written = Result<Vec<u8>, Failure>;
@@ -87,11 +87,21 @@ fn vertex_sentence(game: &Game, reduced: &Merged, vertex: &str) -> Result<String
 
 /// `order`.
 pub fn order(arguments: &Arguments) -> Written {
+    marks(arguments, 0, Game::order, text::ORDER)
+}
+
+/// The marks that a call writes, under a title, for the game that is argument number `file`.
+fn marks(
+    arguments: &Arguments,
+    file: usize,
+    write: fn(&Game) -> Result<Order, Failure>,
+    title: &str,
+) -> Written {
     let form = arguments.form()?;
-    let game = Game::load(arguments.file(0))?;
-    let (order, table) = (game.order()?, game.table());
+    let game = Game::load(arguments.file(file))?;
+    let (order, table) = (write(&game)?, game.table());
     Ok(match form {
-        Form::Text => text::marks(&order.marks, table.n(), order.passes).into(),
+        Form::Text => text::marks(title, &order.marks, table.n(), order.passes).into(),
         Form::Words => order.marks,
         Form::Dot => picture::order(&table, &order.marks).into(),
     })
@@ -99,9 +109,17 @@ pub fn order(arguments: &Arguments) -> Written {
 
 /// `classes`.
 pub fn classes(arguments: &Arguments) -> Written {
+    class_list(arguments, 0, Game::classes)
+}
+
+fn class_list(
+    arguments: &Arguments,
+    file: usize,
+    write: fn(&Game) -> Result<Vec<u16>, Failure>,
+) -> Written {
     let form = arguments.form()?;
-    let game = Game::load(arguments.file(0))?;
-    let classes = game.classes()?;
+    let game = Game::load(arguments.file(file))?;
+    let classes = write(&game)?;
     Ok(match form {
         Form::Text => text::classes(&classes).into(),
         Form::Words => text::bytes(&classes),
@@ -135,25 +153,53 @@ fn table(
     })
 }
 
-/// Both inputs of a check, of which one at most is standard input.
-fn two_inputs(arguments: &Arguments, unit: Unit) -> Result<(Input, Input), Failure> {
-    if arguments.file(0) == "-" && arguments.file(1) == "-" {
+/// Both inputs of a check, of which one at most is standard input; the game is argument number `file`.
+fn two_inputs(arguments: &Arguments, file: usize, unit: Unit) -> Result<(Input, Input), Failure> {
+    let (game, other) = (arguments.file(file), arguments.file(file + 1));
+    if game == "-" && other == "-" {
         return Err(Failure::usage("both inputs are standard input; name a file for one of them"));
     }
-    Ok((Input::read(arguments.file(0), Unit::Word)?, Input::read(arguments.file(1), unit)?))
+    Ok((Input::read(game, Unit::Word)?, Input::read(other, unit)?))
 }
 
-/// `check-relation`. Like the library, it judges the first n × n marks alone.
+/// `check-relation`.
 pub fn check_relation(arguments: &Arguments) -> Written {
-    let (game, relation) = two_inputs(arguments, Unit::Byte)?;
+    judged(arguments, 0, raskjomi::accept_relation)
+}
+
+/// A relation judged. Like the library, it judges the first n × n marks alone.
+fn judged(
+    arguments: &Arguments,
+    file: usize,
+    accept: fn(&[u16], &[u8]) -> Result<(), Refusal>,
+) -> Written {
+    let (game, relation) = two_inputs(arguments, file, Unit::Byte)?;
     let marks: Vec<u8> = relation.numbers.iter().map(|&mark| mark as u8).collect();
-    let verdict = raskjomi::accept_relation(&game.numbers, &marks);
+    let verdict = accept(&game.numbers, &marks);
     if !verdict.is_err_and(|refusal| refusal.kind() == Kind::Game) {
         tell_surplus(&relation, Table::new(&game.numbers).n().pow(2));
     }
     match verdict {
         Ok(()) => Ok("accepted\n".into()),
         Err(refusal) => Err(relation_refused(refusal, &game, &relation).with_verdict()),
+    }
+}
+
+/// `governed`: as `order`, `classes` and `check-relation`, of governed bisimulations.
+pub fn governed(arguments: &Arguments) -> Written {
+    match arguments.file(0) {
+        "order" | "classes" if arguments.has_file(2) => Err(Failure::usage(
+            "governed: a game alone; a relation is for governed check GAME RELATION",
+        )),
+        "check" if !arguments.has_file(2) || arguments.has("--as") => {
+            Err(Failure::usage("governed: write governed check GAME RELATION, without --as"))
+        }
+        "order" => marks(arguments, 1, Game::governed_order, text::GOVERNED),
+        "classes" => class_list(arguments, 1, Game::governed_classes),
+        "check" => judged(arguments, 1, raskjomi::accept_governed),
+        other => Err(Failure::usage(format!(
+            "governed: no `{other}`; write governed order, governed classes or governed check"
+        ))),
     }
 }
 
@@ -169,7 +215,7 @@ fn tell_surplus(relation: &Input, pairs: usize) {
 /// `check-plan`.
 pub fn check_plan(arguments: &Arguments) -> Written {
     let player = arguments.player()?;
-    let (game, plan) = two_inputs(arguments, Unit::Word)?;
+    let (game, plan) = two_inputs(arguments, 0, Unit::Word)?;
     match raskjomi::accept_plan(&game.numbers, player, &plan.numbers) {
         Ok(()) => Ok("accepted\n".into()),
         Err(refusal) => Err(plan_refused(refusal, &game, &plan).with_verdict()),
@@ -180,7 +226,7 @@ pub fn check_plan(arguments: &Arguments) -> Written {
 pub fn carry(arguments: &Arguments) -> Written {
     let (player, vertex) = (arguments.player()?, vertex_to(arguments)?);
     let as_words = as_words(arguments, "carry", "")?;
-    let (game, plan) = two_inputs(arguments, Unit::Word)?;
+    let (game, plan) = two_inputs(arguments, 0, Unit::Word)?;
     let game = Game::of(game)?;
     let class = arguments.has("--class");
     let write = if class { Game::carry_class } else { Game::carry };

@@ -210,6 +210,21 @@ pub const COMMANDS: [Command; 14] = [
         run: commands::replay,
     },
     Command {
+        name: "governed",
+        usage: "governed order|classes|check GAME [RELATION] [--as text|words|dot]",
+        summary: "the same of governed bisimulations, which tell more vertices apart",
+        details:
+            "A governed bisimulation is a direct simulation that has the reverse of each of its pairs. \
+                  `governed order` writes the largest one, as `order` writes the order; `governed \
+                  classes` writes its classes, each of which lies inside one class of the order; \
+                  `governed check` judges a relation, as `check-relation` does, and refuses a mark \
+                  without its reverse, too.",
+        example: "./raskjomi governed order games/d.txt | ./raskjomi governed check games/d.txt -",
+        files: 2..=3,
+        options: AS,
+        run: commands::governed,
+    },
+    Command {
         name: "explain",
         usage: "explain NUMBER",
         summary: "what a refusal number means, what its place counts, and what to do",

@@ -62,10 +62,13 @@ pub fn plan(sentence: &str, words: &[u16]) -> String {
 }
 
 /// The marks, a row for each vertex.
-pub fn marks(marks: &[u8], n: usize, passes: u32) -> String {
-    let title = format!("# order: row v, column w is 1 if v is below w; passes {passes}\n");
-    title + &lines(marks, n)
+pub fn marks(title: &str, marks: &[u8], n: usize, passes: u32) -> String {
+    format!("# {title}; passes {passes}\n") + &lines(marks, n)
 }
+
+/// What a mark says: in the order, and in the largest governed bisimulation.
+pub const ORDER: &str = "order: row v, column w is 1 if v is below w";
+pub const GOVERNED: &str = "governed: row v, column w is 1 if v and w are bisimilar";
 
 /// The class of each vertex, under the members of each class.
 pub fn classes(classes: &[u16]) -> String {

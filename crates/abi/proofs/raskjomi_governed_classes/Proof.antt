@@ -1,0 +1,35 @@
+-- An accepted game has few classes, so the count fits its field.
+use Rattle.answer.specs.FieldsLaws.{governed-small}
+use borrow.Author.Needs.{needs}
+use Rattle.abi.proofs.raskjomi_governed_classes.Statement.{statement}
+use Rattle.abi.proofs.raskjomi_governed_classes.Tie as tie
+
+write-governed-classes-requires : tie.Need-write-governed-classes-requires
+write-governed-classes-requires c κs = search needs
+
+of-classification-requires : tie.Need-of-classification-requires
+of-classification-requires c κs =
+    governed-small _ _ _ _ (c .before .before .before .before .before .before .write-governed-classes .result) _ _ _ (c .before .before .before .before .before .before .write-governed-classes .ensures)
+
+same-length : tie.Need-same-length
+same-length c = search needs
+
+same-length-2 : tie.Need-same-length-2
+same-length-2 c = search needs
+
+same-length-3 : tie.Need-same-length-3
+same-length-3 c = search needs
+
+returns : tie.Need-returns
+returns c = search needs
+
+pub raskjomi-governed-classes-spec : {M : Type 1} → statement M
+raskjomi-governed-classes-spec =
+    tie.close
+    (tie.spec
+    write-governed-classes-requires
+    of-classification-requires
+    same-length
+    same-length-2
+    same-length-3
+    returns)
