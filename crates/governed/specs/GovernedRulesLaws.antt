@@ -7,13 +7,13 @@ use mathlib.Core.List.{List, [], _∷_}
 use Prim.Native.Nat.{ℕ, suc, _+_, _*_, _/_, _%_, _≤_, _<_}
 use native.Mathlib.Omega.{arith}
 use native.Mathlib.Nat.{div-add-mod'}
-use lib.ListN.{length, getD}
+use lib.ListN.{getD}
 use Rattle.theory.specs.Bools.{bit}
 use Rattle.theory.specs.BoolsLaws.{and-in, and-out, bit-in, bit-out, bit-le}
 use Rattle.theory.specs.CountLaws.{row-lt, col-lt}
 use Rattle.theory.specs.SimulationLaws.{moves-mono}
-use Rattle.theory.specs.Governed.{GovernedBisimulation, Bisimilar, governedMarks, governed, governedPasses}
-use Rattle.theory.specs.GovernedLaws.{governed-in, governed-out, governed-bisimulation, length-governedMarks, governedPasses-le}
+use Rattle.theory.specs.Governed.{GovernedBisimulation, Bisimilar, governed, governedPasses}
+use Rattle.theory.specs.GovernedLaws.{governed-in, governed-out, length-governedMarks, governedPasses-le}
 use Rattle.table.specs.Table.{vertexCount, pairCount, gameOf}
 use Rattle.table.specs.TableLaws.{game-n}
 use Rattle.table.specs.Verdict.{accepted, refused}
@@ -24,8 +24,7 @@ use Rattle.order.specs.OrderCall.{passesAnswer}
 use Rattle.order.specs.OrderRules.{orderRules, OrderFits}
 use Rattle.order.specs.OrderRulesLaws.{passes-refused, passes-accepted, passes-accepts, marks-of, length-left, passes-bound}
 use Rattle.relation.specs.RelationCall.{governedPair, relationAnswer}
-use Rattle.relation.specs.RelationRules.{Direct}
-use Rattle.relation.specs.RelationRulesLaws.{under, direct-is, acceptor-refused, acceptor-accepted, acceptor-accepts, empty-accepted, relation-accepts}
+use Rattle.relation.specs.RelationRulesLaws.{under, direct-is, acceptor-refused, acceptor-accepted, acceptor-accepts, relation-accepts}
 use Rattle.governed.specs.GovernedCall.{GovernedCall, governedAnswer}
 use Rattle.governed.specs.GovernedRules.{Governed, governedRules, GovernedPasses}
 

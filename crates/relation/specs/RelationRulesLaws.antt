@@ -10,14 +10,13 @@ use native.Mathlib.Nat.{div-add-mod'}
 use lib.Arith.{digits-lt, digits-div, digits-mod}
 use lib.Dec.{ltb}
 use lib.ListN.{length, getD}
-use borrow.Author.Tests.{eqb-true, eq-eqb, ltb-true, ltb-false, lt-ltb, le-ltb}
-use Rattle.theory.specs.Bools.{_&_}
+use borrow.Author.Tests.{ltb-true, ltb-false, lt-ltb, le-ltb}
 use Rattle.theory.specs.BoolsLaws.{clash, decide, So-not, and-in, and-out, not-in, not-out, bit-le}
 use Rattle.theory.specs.RangeLaws.{none-found, found-none}
 use Rattle.theory.specs.CountLaws.{row-lt, col-lt}
 use Rattle.theory.specs.Passes.{Rel}
 use Rattle.theory.specs.Game.{even, Game}
-use Rattle.theory.specs.Simulation.{PassesTest, Below}
+use Rattle.theory.specs.Simulation.{Below}
 use Rattle.theory.specs.SimulationLaws.{moves-mono}
 use Rattle.theory.specs.OrderLaws.{passes-in, passes-out}
 use Rattle.table.specs.Table.{vertexCount, pairCount, gameOf}

@@ -3,19 +3,18 @@ use mathlib.Core.Path.{_≡_, refl, sym, ap, ap₂, _∙_, subst}
 use mathlib.Core.Logic.{inl, inr}
 use mathlib.Core.Bool.{Bool, true, false, not, So}
 use mathlib.Core.List.{List}
-use Prim.Native.Nat.{ℕ, _+_, _*_, _≤_, _<_}
+use Prim.Native.Nat.{ℕ, _+_, _*_, _<_}
 use native.Mathlib.Decide.{ℕ-discrete}
 use native.Mathlib.Omega.{arith}
 use lib.Dec.{eqb}
 use lib.ListN.{getD}
 use borrow.Author.Tests.{eqb-true, eq-eqb, ne-eqb}
 use Rattle.theory.specs.Bools.{_&_, _or_}
-use Rattle.theory.specs.BoolsLaws.{decide, clash, So-ext, and-in, and-out, and-true, and-first, and-one, or-left, or-right, or-out, or-first, or-flip, or-false}
+use Rattle.theory.specs.BoolsLaws.{clash, So-ext, and-in, and-out, and-true, and-one, or-left, or-right, or-out, or-first, or-false}
 use Rattle.theory.specs.Range.{anyBelow, first}
 use Rattle.theory.specs.RangeLaws.{any-in, any-out, any-ext, any-append}
-use Rattle.theory.specs.Passes.{Rel}
 use Rattle.theory.specs.Rows.{mirroredBy}
-use Rattle.bits.specs.Bits.{wordBits, rowBits, rowWords, digit, has, RowIs, cell, Put, Added, Lowest, Rest}
+use Rattle.bits.specs.Bits.{rowBits, rowWords, has, RowIs, cell, Put, Added, Lowest, Rest}
 use Rattle.bits.specs.RowLaws.{has-at}
 use Rattle.bits.specs.MatrixLaws.{cell-row}
 use Rattle.bits.specs.LeftLaws.{Left, done, or-start, or-next, or-end}

@@ -1,5 +1,5 @@
-// Passes of the order, or of the governed bisimulation, as rounds over rows of bits: from the rows that lost something in the round before to what they can lose now. Parts of
-// the calls; no host calls these.
+// Passes of the order, or of the governed bisimulation, as rounds over rows of bits: from the rows that lost something in the round before to
+// what they can lose now. Parts of the calls; no host calls these.
 mod mirroring;
 mod start;
 mod taking;
@@ -21,7 +21,8 @@ ghost use Rattle.bits.specs.Bits.{rowWords};
 ghost use Rattle.board.specs.Board.{edgeWords, EdgeRows};
 ghost use Rattle.rounds.specs.Rounds.{RowsFit, Begun, RoundDone, Settled};
 
-// A round: what fails is taken out, and with `mirror` its reverse; how many pairs that is. `changed` holds the rows that the round before changed, and then those of this one.
+// A round: what fails is taken out, and with `mirror` its reverse; how many pairs that is. `changed` holds the rows that the round before changed,
+// and then those of this one.
 pub fn round(
     edges: &[u64],
     related: &mut [u64],

@@ -96,6 +96,16 @@ pub D-governed-passes : governedPasses gameD ≡ 3
 unfolding compute gameD
 D-governed-passes = refl
 
+-- The pair and its reverse are tested under the marks before the pass: pass 1 takes (0, 1), (1, 3) and their reverses out, and pass 2 (0, 3) and its
+-- reverse. With the reverse tested under what pass 1 leaves, pass 1 would take all of them out, and the count would be 2.
+unfoldable pub stepped : Game
+unfolding listGame
+stepped = listGame (0 ∷ 0 ∷ 1 ∷ 0 ∷ []) [] ((0, 1) ∷ (1, 2) ∷ (2, 2) ∷ (3, 3) ∷ [])
+
+pub stepped-passes : governedPasses stepped ≡ 3
+unfolding compute stepped
+stepped-passes = refl
+
 -- ---- a plan for each player: vertices 0 (priority 0, Even's) and 1 (priority 1, Odd's) form a cycle; 2 (priority 1, Odd's) has a loop
 -- and an edge to 0
 

@@ -12,8 +12,8 @@ use Rattle.theory.specs.PassesLaws.{length-finalMarks, largest-start, la
 use Rattle.theory.specs.Game.{Player, even, Game, own, Succ}
 use Rattle.theory.specs.Simulation.{PassesTest, Compose}
 use Rattle.theory.specs.SimulationLaws.{moves-mono, simulation-refl, simulation-compose}
-use Rattle.theory.specs.Order.{equalPriority, test, marksBetween, orderMarks, order, orderPasses, Holds, Preorder}
-use Rattle.theory.specs.OrderLaws.{passes-out, test-holds, order-largest, order-out, length-orderMarks, orderPasses-le}
+use Rattle.theory.specs.Order.{equalPriority, marksBetween, orderMarks, order, orderPasses, Holds, Preorder}
+use Rattle.theory.specs.OrderLaws.{passes-out, test-holds, order-largest, order-out, length-orderMarks}
 use Rattle.theory.specs.Governed.{GovernedBisimulation, Bisimilar, governedTest, governedMarks, governed, governedPasses, Equivalence, testBy, marksBy, relationBy, passesBy}
 use Rattle.theory.specs.Plan.{Won}
 use Rattle.theory.specs.Reduction.{sameClass, classNumber, classOf}
@@ -147,8 +147,3 @@ module _ (g : Game) where
   unfolding marksBy
   length-by false = length-orderMarks g
   length-by true = length-governedMarks
-
-  pub passesBy-le : (mirror : Bool) → passesBy mirror g + g .n ≤ suc (g .n * g .n)
-  unfolding passesBy
-  passesBy-le false = orderPasses-le g
-  passesBy-le true = governedPasses-le

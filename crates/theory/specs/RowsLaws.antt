@@ -11,8 +11,7 @@ use Rattle.theory.specs.Bools.{_&_, _or_, imp}
 use Rattle.theory.specs.BoolsLaws.{decide, clash, So-ext, eqb-flip, So-not, not-in, not-out, and-in, and-out, and-one, imp-in, imp-out, or-left, or-right, or-out, or-flip}
 use Rattle.theory.specs.Passes.{Marks, Rel, marked, largest}
 use Rattle.theory.specs.Game.{even, Game, own, Succ, Total}
-use Rattle.theory.specs.SimulationLaws.{moves-mono}
-use Rattle.theory.specs.Order.{allNext, anyNext, moves, equalPriority, test, marksBetween, orderMarks, order, orderPasses, Holds}
+use Rattle.theory.specs.Order.{allNext, anyNext, moves, equalPriority, test, marksBetween, orderMarks, order, orderPasses}
 use Rattle.theory.specs.OrderLaws.{allNext-in, allNext-out, anyNext-in, anyNext-out, test-same}
 use Rattle.theory.specs.Governed.{governedTest, testBy, marksBy, passesBy}
 use Rattle.theory.specs.GovernedLaws.{passes-by, marks-by}

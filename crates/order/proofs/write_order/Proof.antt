@@ -1,6 +1,5 @@
 -- The reader's refusal is handed on; the rest is the part that both relations share.
 use borrow.Author.Needs.{needs}
-use mathlib.Core.Path.{_≡_}
 use Rattle.theory.specs.Governed.{marksBy, passesBy}
 use Rattle.table.specs.WellFormed.{WellSized}
 use Rattle.table.specs.ReadingLaws.{reading-accepted}
