@@ -1,28 +1,29 @@
 -- Laws of the searches among a table's edges: for the edge from s to t, and for another edge of s, which is one that stays.
-use mathlib.Core.Path.{_≡_, refl, sym, _∙_}
+use mathlib.Core.Path.{_≡_, refl, sym, ap, ap₂, _∙_}
 use mathlib.Core.Logic.{inl, inr, _↔_}
 use mathlib.Core.Bool.{Bool, true, false, not, cond, So}
-use mathlib.Core.List.{List, [], _∷_, _++_}
-use Prim.Native.Nat.{ℕ, _+_, _*_, _≤_, _<_}
-use native.Mathlib.Decide.{ℕ-discrete}
+use mathlib.Core.List.{List, [], _∷_, _++_, append-nil, append-assoc}
+use Prim.Native.Nat.{ℕ, zero, suc, _+_, _-_, _*_, _≤_, _<_, min}
+use native.Mathlib.Decide.{ℕ-discrete, decLt}
 use native.Mathlib.Numerals.{add-one}
 use native.Mathlib.Omega.{arith}
 use lib.Dec.{eqb}
-use lib.ListN.{length, getD, set}
+use lib.ListN.{length, getD, take, drop}
+use lib.Seq.{getD-take, getD-drop}
 use borrow.Author.Tests.{eqb-true, eqb-false, eq-eqb, ne-eqb}
 use Rattle.theory.specs.Bools.{_&_}
 use Rattle.theory.specs.BoolsLaws.{decide, clash, So-ext, So-not, not-in, not-out, and-in, and-out}
-use Rattle.theory.specs.Range.{anyBelow, tabulate}
-use Rattle.theory.specs.RangeLaws.{any-in, any-out, any-fails}
-use Rattle.theory.specs.ListLaws.{length-tabulate, tabulate-snoc}
+use Rattle.theory.specs.Range.{anyBelow, first, tabulate}
+use Rattle.theory.specs.RangeLaws.{any-in, any-out, any-fails, first-ge, first-le, first-before, first-passes}
+use Rattle.theory.specs.ListLaws.{length-tabulate, tabulate-ext, tabulate-snoc, map-tabulate}
 use Rattle.table.specs.Table.{tableEdges, sourceAt, targetAt, isEdge, Listed, gameOf}
 use Rattle.table.specs.TableLaws.{edge-in, edge-out}
 use Rattle.table.specs.Reading.{lacksEdge}
-use Rattle.table.specs.PlacingLaws.{placed-one}
-use Rattle.table.specs.Listing.{Appended}
+use Rattle.table.specs.Placing.{placed}
+use Rattle.table.specs.Listing.{sourcesOf, targetsOf, Appended}
 use Rattle.table.specs.ListingLaws.{appended-none}
 use Rattle.edges.specs.Edges.{others, edited}
-use Rattle.edges.specs.Making.{Formed, leads}
+use Rattle.edges.specs.Making.{Formed, leads, edgesPart}
 use Rattle.edges.specs.EdgesLaws.{others-append, length-others}
 use Rattle.edges.specs.EditedLaws.{left-edge}
 use Rattle.edges.specs.declared.Edit.the-variants.{Leaving}
@@ -131,17 +132,75 @@ pub others-start : (g : List ℕ) (s t : ℕ) (sources ends : List ℕ) → Appe
 unfolding tabulate others
 others-start g s t sources ends = appended-none 0 sources ends
 
--- an edge from s to t is left out, and any other is put behind those before it
-module _ {g : List ℕ} {n m : ℕ} (f : Formed g n m) (j s t : ℕ) (e : ℕ) (sources ends : List ℕ) where
-  pub others-taken : So (leads g s t true j) → Appended (others s t ((sourceAt g j, targetAt g j) ∷ [])) e sources sources ends ends e
-  unfolding leads others
-  others-taken x = rw x (appended-none e sources ends)
+-- an edge from s to t is left out, and any other stays
+others-copy : (g : List ℕ) (s t j : ℕ) → So (leads g s t true j) → others s t ((sourceAt g j, targetAt g j) ∷ []) ≡ []
+unfolding leads others
+others-copy g s t j x = rw x
 
-  pub others-kept : leads g s t true j ≡ false → e < length sources → e < length ends
-      → Appended (others s t ((sourceAt g j, targetAt g j) ∷ [])) e sources (set sources e (getD g (2 + 2 * n + j) 0)) ends (set ends e (getD g (2 + 2 * n + m + j) 0)) (e + 1)
-  unfolding leads others
-  others-kept x hs ht = rw (x, formed-source f j, formed-target f j) (record {
-    count = refl;
-    sources-after = placed-one e (sourceAt g j) sources hs;
-    targets-after = placed-one e (targetAt g j) ends ht;
-  })
+others-other : (g : List ℕ) (s t j : ℕ) → leads g s t true j ≡ false → others s t ((sourceAt g j, targetAt g j) ∷ []) ≡ (sourceAt g j, targetAt g j) ∷ []
+unfolding leads others
+others-other g s t j x = rw x
+
+-- edges among which there is no copy stay, all of them
+others-run : (g : List ℕ) (s t j c : ℕ) → ((i : ℕ) → j ≤ i → i < j + c → leads g s t true i ≡ false)
+    → others s t (edgesBelow g (j + c)) ≡ others s t (edgesBelow g j) ++ tabulate c (λ i. (sourceAt g (j + i), targetAt g (j + i)))
+unfolding tabulate
+others-run g s t j zero none = let z : j + zero ≡ j = omega arith in rw z (sym (append-nil (others s t (edgesBelow g j))))
+others-run g s t j (suc c) none =
+    let q : j + suc c ≡ j + c + 1 = omega arith in
+    let before = others s t (edgesBelow g j) in
+    let f : ℕ → ℕ × ℕ = λ i. (sourceAt g (j + i), targetAt g (j + i)) in
+    ap (λ (i : ℕ). others s t (edgesBelow g i)) q ∙ others-more g s t (j + c)
+    ∙ ap₂ _++_ (others-run g s t j c (λ i a b. none i a (omega arith))) (others-other g s t (j + c) (none (j + c) (omega arith) (omega arith)))
+    ∙ append-assoc before (tabulate c f) (f c ∷ []) ∙ ap (λ (l : List (ℕ × ℕ)). before ++ l) (sym (tabulate-snoc {A = ℕ × ℕ} c f))
+
+-- from j on up to the next copy, or to the end
+module _ (g : List ℕ) (s t m j : ℕ) (h : j ≤ m) (k : ℕ) (found : k ≡ first (leads g s t true) j m) where
+  pub part-low : j ≤ k
+  part-low = rw found (first-ge (leads g s t true) j m)
+
+  pub part-high : k ≤ m
+  part-high = rw found (first-le (leads g s t true) j m h)
+
+  stays : others s t (edgesBelow g k) ≡ others s t (edgesBelow g j) ++ edgesPart g j k
+  stays =
+      let q : j + (k - j) ≡ k = omega (arith, part-low) in
+      let r = others-run g s t j (k - j) (λ i a b. first-before (leads g s t true) j m i a (omega (arith, part-low, found))) in
+      ap (λ (i : ℕ). others s t (edgesBelow g i)) (sym q) ∙ r
+
+  pub others-part : others s t (edgesBelow g (min (k + 1) m)) ≡ others s t (edgesBelow g j) ++ edgesPart g j k
+  others-part = elim (decLt k m) [
+    | yes l ↦ (
+        let q : min (k + 1) m ≡ k + 1 = omega arith in
+        let hit : So (leads g s t true k) = rw found (first-passes (leads g s t true) j m h (omega (arith, found))) in
+        rw q (others-more g s t k ∙ ap₂ _++_ stays (others-copy g s t k hit) ∙ append-nil _))
+    | no d ↦ (let q : min (k + 1) m ≡ k = omega (arith, part-high) in rw q stays)
+  ]
+
+-- the words of such a part
+module _ {g : List ℕ} {n m : ℕ} (f : Formed g n m) (a b : ℕ) (low : a ≤ b) (high : b ≤ m) where
+  -- the words from a place on
+  abbrev from : ℕ → List ℕ
+  from at = take (length g - at) (drop at g)
+
+  pub part-sources : tabulate (b - a) (λ i. getD (from (2 + 2 * n + a)) i 0) ≡ sourcesOf (edgesPart g a b)
+  part-sources =
+      tabulate-ext (b - a) _ (λ i. sourceAt g (a + i)) (λ i h.
+      getD-take (length g - (2 + 2 * n + a)) (drop (2 + 2 * n + a) g) i 0 (omega (arith, f .well .size, f .vertices, f .edges))
+      ∙ getD-drop (2 + 2 * n + a) g i 0 ∙ rw (f .vertices) (ap (λ (k : ℕ). getD g k 0) (omega arith)))
+      ∙ sym (map-tabulate (λ (e : ℕ × ℕ). e .0) (b - a) (λ i. (sourceAt g (a + i), targetAt g (a + i))))
+
+  pub part-targets : tabulate (b - a) (λ i. getD (from (2 + 2 * n + m + a)) i 0) ≡ targetsOf (edgesPart g a b)
+  part-targets =
+      tabulate-ext (b - a) _ (λ i. targetAt g (a + i)) (λ i h.
+      getD-take (length g - (2 + 2 * n + m + a)) (drop (2 + 2 * n + m + a) g) i 0 (omega (arith, f .well .size, f .vertices, f .edges))
+      ∙ getD-drop (2 + 2 * n + m + a) g i 0 ∙ rw (f .vertices, f .edges) (ap (λ (k : ℕ). getD g k 0) (omega arith)))
+      ∙ sym (map-tabulate (λ (e : ℕ × ℕ). e .1) (b - a) (λ i. (sourceAt g (a + i), targetAt g (a + i))))
+
+  pub part-listed : (e : ℕ) (s s′ t t′ : List ℕ) → s′ ≡ placed e (tabulate (b - a) (λ i. getD (from (2 + 2 * n + a)) i 0)) s
+      → t′ ≡ placed e (tabulate (b - a) (λ i. getD (from (2 + 2 * n + m + a)) i 0)) t → Appended (edgesPart g a b) e s s′ t t′ (e + (b - a))
+  part-listed e s s′ t t′ p q = record {
+    count = rw (length-tabulate {A = ℕ × ℕ} (b - a) (λ i. (sourceAt g (a + i), targetAt g (a + i))));
+    sources-after = p ∙ rw part-sources;
+    targets-after = q ∙ rw part-targets;
+  }

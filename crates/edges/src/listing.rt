@@ -1,13 +1,13 @@
 // Searches among a table's edges, and the edges that a leaving keeps.
+use table::words;
 ghost use mathlib.Core.Path.{_≡_};
-ghost use mathlib.Core.List.{[], _∷_};
-ghost use Prim.Native.Nat.{_<_, _≤_};
+ghost use Prim.Native.Nat.{_+_, _<_, _≤_};
 ghost use lib.ListN.{length};
-ghost use Rattle.theory.specs.Range.{anyBelow};
-ghost use Rattle.table.specs.Table.{sourceAt, targetAt};
+ghost use mathlib.Core.Bool.{true};
+ghost use Rattle.theory.specs.Range.{anyBelow, first};
 ghost use Rattle.table.specs.Listing.{Appended};
 ghost use Rattle.edges.specs.Edges.{edgesIn, others};
-ghost use Rattle.edges.specs.Making.{Formed, leads};
+ghost use Rattle.edges.specs.Making.{Formed, leads, edgesPart};
 
 // Whether edge j leads from s to t or, where `there` is false, from s to another vertex.
 fn leads_so(table: &[u16], n: usize, m: usize, j: usize, s: usize, t: usize, there: bool) -> bool
@@ -39,31 +39,46 @@ pub fn has_edge(table: &[u16], n: usize, m: usize, s: usize, t: usize, there: bo
     found
 }
 
-// Puts edge j behind the first e edges unless it leads from s to t. Returns how many there are then.
-fn keep_edge(
+// The first edge from j on that leads from s to t, or m where there is none.
+fn find_edge(table: &[u16], n: usize, m: usize, s: usize, t: usize, j: usize) -> usize
+    requires { ⌜ Formed (now table) n m × (j ≤ m) ⌝ }
+    ensures { λ r. ⌜ r ≡ first (leads (now (table .entry)) s t true) j m ⌝ }
+{
+    let mut k = j;
+    let found = loop {
+        if k >= m {
+            break k;
+        }
+        if leads_so(table, n, m, k, s, t, true) {
+            break k;
+        }
+        k += 1;
+    };
+    found
+}
+
+// Puts the edges from a on, below b, behind the first e edges. Returns how many there are then.
+fn list_part(
     table: &[u16],
     n: usize,
     m: usize,
-    j: usize,
-    s: usize,
-    t: usize,
+    a: usize,
+    b: usize,
     sources: &mut [u16],
     ends: &mut [u16],
     e: usize,
 ) -> usize
-    requires { ⌜ Formed (now table) n m × (j < m) ⌝ }
-    requires { ⌜ (e < length (now sources)) × (e < length (now ends)) ⌝ }
-    ensures { λ r. ⌜ Appended (others s t ((sourceAt (now (table .entry)) j, targetAt (now (table .entry)) j) ∷ [])) e (now (sources .entry)) (now (sources .exit)) (now (ends .entry)) (now (ends .exit)) r ⌝ }
+    requires { ⌜ Formed (now table) n m × (a ≤ b) × (b ≤ m) ⌝ }
+    requires { ⌜ (e + b ≤ length (now sources) + a) × (e + b ≤ length (now ends) + a) × (e ≤ a) ⌝ }
+    ensures { λ r. ⌜ Appended (edgesPart (now (table .entry)) a b) e (now (sources .entry)) (now (sources .exit)) (now (ends .entry)) (now (ends .exit)) r ⌝ }
 {
-    if leads_so(table, n, m, j, s, t, true) {
-        return e;
-    }
-    sources[e] = table[2 + 2 * n + j];
-    ends[e] = table[2 + 2 * n + m + j];
-    e + 1
+    let count = b - a;
+    words::copy(sources, e, &table[2 + 2 * n + a..], count);
+    words::copy(ends, e, &table[2 + 2 * n + m + a..], count);
+    e + count
 }
 
-// Lists the edges other than those from s to t, in sequence. Returns how many there are.
+// Lists the edges other than those from s to t, in sequence, those between two copies at once. Returns how many there are.
 pub fn list_others(
     table: &[u16],
     n: usize,
@@ -80,8 +95,9 @@ pub fn list_others(
     let mut e = 0;
     let mut j = 0;
     while j < m {
-        e = keep_edge(table, n, m, j, s, t, sources, ends, e);
-        j += 1;
+        let k = find_edge(table, n, m, s, t, j);
+        e = list_part(table, n, m, j, k, sources, ends, e);
+        j = k + 1;
     }
     e
 }
