@@ -6,7 +6,7 @@ use native.Mathlib.Nat.{zero-add, add-zero}
 use native.Mathlib.Numerals.{add-one}
 use native.Mathlib.Omega.{arith}
 use lib.ListN.{length, take, drop, set, length-append, take-append-drop}
-use lib.Seq.{length-take-le, take-at, drop-at, drop-drop, set-split}
+use lib.Seq.{length-take-le, take-at, drop-at, drop-drop}
 use Rattle.theory.specs.Range.{tabulate}
 use Rattle.theory.specs.ListLaws.{length-tabulate, tabulate-snoc}
 use Rattle.table.specs.Verdict.{written}
@@ -38,11 +38,6 @@ placed-snoc at new old x h =
     let l = length-head at new old (omega arith) in
     let s = written-snoc (take at old ++ new) old x (omega arith) in
     rw (placed-head at new old (omega arith), placed-head at (new ++ (x ∷ [])) old (omega arith)) (rw (l, append-assoc (take at old) new (x ∷ [])) at s)
-
--- a word
-pub placed-one : (at x : ℕ) (old : List ℕ) → at < length old → set old at x ≡ placed at (x ∷ []) old
-unfolding placed
-placed-one at x old h = set-split old at x h ∙ rw (add-one at)
 
 -- more words behind those
 pub placed-join : (at : ℕ) (new more old : List ℕ) → at + length new ≤ length old

@@ -172,7 +172,7 @@ pub fn cases_of_previews(lcg: &mut Lcg, table: &Table) -> Vec<Case> {
 pub fn case_of_replay(lcg: &mut Lcg, table: &Table) -> Case {
     let entries = trace(lcg, table);
     let trace = if lcg.once_in(6) { damaged_trace(lcg, &entries) } else { trace_words(&entries) };
-    let words = if lcg.once_in(8) { damaged_table(lcg, table) } else { table.words() };
+    let words = if lcg.once_in(4) { damaged_table(lcg, table) } else { table.words() };
     let buffer = [words, words_behind(lcg)].concat();
     Case::of_replay(trace, Memory { table: buffer, ..memory(lcg, table) })
 }

@@ -83,8 +83,8 @@ fn call(name: &str) -> impl FnOnce() -> u32 + Send + 'static {
                 exports::preview_remove(&edited, source, target, &mut table, m, s, c)
             }
             "replay" => {
-                let (source, target) = edited.edges[0];
-                exports::replay(&mut table, &[2, source, 0, target, absent as u16], m, s, c)
+                let trace = [2, source as u16, 0, target as u16, absent as u16];
+                exports::replay(&mut table, &trace, m, s, c)
             }
             "governed_order" => exports::governed_order(&game, m, s),
             "accept_governed" => exports::accept_governed(&game, m),

@@ -59,7 +59,7 @@ const TABLES: &str = "Text and words are game tables, which every command reads.
                       the game, with the members of each class.";
 
 /// The commands, in the sequence of the help.
-pub const COMMANDS: [Command; 14] = [
+pub const COMMANDS: [Command; 15] = [
     Command {
         name: "report",
         usage: "report [GAME] [--vertex V]",
