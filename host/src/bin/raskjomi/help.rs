@@ -51,7 +51,7 @@ const GAMES: &str = "A game comes from a file, or from standard input, whose nam
 /// Where to read on, and why a run can take long.
 const MORE: &str =
     "docs/CONTRACT.md has the definitions, the formats and every refusal. ./raskjomi proves and \
-     builds what has changed; all of it takes 4 to 5 minutes on two idle cores.";
+     builds what has changed; all of it takes 5 to 7 minutes on two idle cores.";
 
 /// The output of the commands that write a game.
 const TABLES: &str = "Text and words are game tables, which every command reads. The edges are \
