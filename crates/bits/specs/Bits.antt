@@ -1,42 +1,21 @@
 -- Rows of bits: sets of numbers below the limit of vertices, in words of 64 bits. Bit x of a row is digit x % 64 of its word x / 64.
 use mathlib.Core.Path.{_≡_}
-use mathlib.Core.Bool.{Bool, not, So}
+use mathlib.Core.Bool.{Bool, not}
 use mathlib.Core.List.{List}
-use Prim.Native.Nat.{ℕ, _+_, _*_, _/_, _%_, _^_, _≤_, _<_}
+use Prim.Native.Nat.{ℕ, _+_, _*_, _/_, _%_, _≤_, _<_}
 use lib.Dec.{eqb}
 use lib.ListN.{length, getD}
 use Rattle.theory.specs.Bools.{_&_, _or_}
-use Rattle.theory.specs.Range.{anyBelow, first}
+use Rattle.theory.specs.Range.{anyBelow}
+use Rattle.word.specs.Word.{wordBits, digit}
 use Rattle.table.specs.Limits.{vertexLimit}
 
--- bits of a word and of a row, and words of a row
-abbrev pub wordBits : ℕ
-wordBits = 64
-
+-- bits of a row, and its words
 abbrev pub rowBits : ℕ
 rowBits = vertexLimit
 
 abbrev pub rowWords : ℕ
 rowWords = rowBits / wordBits
-
--- binary digit k of x is set
-unfoldable pub digit : ℕ → ℕ → Bool
-digit x k = eqb (x / 2 ^ k % 2) 1
-
--- the lowest digit that is set
-unfoldable pub lowestBit : ℕ → ℕ
-lowestBit x = first (digit x) 0 wordBits
-
--- k is that digit
-pub record Lowest (x k : ℕ) : Type 0 where
-  pub is : k ≡ lowestBit x
-  pub inside : k < wordBits
-  pub set : So (digit x k)
-
--- r is x without it
-pub record Rest (x r : ℕ) : Type 0 where
-  pub digits : (k : ℕ) → digit r k ≡ digit x k & not (eqb k (lowestBit x))
-  pub less : r < x
 
 -- x is in the row
 unfoldable pub has : List ℕ → ℕ → Bool

@@ -15,8 +15,9 @@ use Rattle.theory.specs.Range.{anyBelow}
 use Rattle.theory.specs.RangeLaws.{any-append, any-ext}
 use Rattle.theory.specs.CountLaws.{digits-one, digits-same}
 use Rattle.theory.specs.ListLaws.{zeros}
-use Rattle.bits.specs.Bits.{wordBits, rowBits, rowWords, digit, has, cell, Put, Added, unitedRows}
-use Rattle.bits.specs.WordLaws.{digit-zero}
+use Rattle.word.specs.Word.{wordBits, digit}
+use Rattle.bits.specs.Bits.{rowBits, rowWords, has, cell, Put, Added, unitedRows}
+use Rattle.word.specs.WordLaws.{digit-zero}
 use Rattle.bits.specs.RowLaws.{has-at, word-set, same-bit}
 
 -- digit k of word j of row v

@@ -17,8 +17,9 @@ use Rattle.theory.specs.Range.{allBelow, anyBelow, count, first}
 use Rattle.theory.specs.RangeLaws.{all-out, any-in, any-out, any-append, any-ext, first-is, first-ge, first-passes, first-before, first-skip}
 use Rattle.theory.specs.CountLaws.{count-append, count-ext}
 use Rattle.theory.specs.ListLaws.{zeros}
-use Rattle.bits.specs.Bits.{wordBits, rowBits, rowWords, digit, has, RowIs}
-use Rattle.bits.specs.WordLaws.{digit-zero}
+use Rattle.word.specs.Word.{wordBits, digit}
+use Rattle.bits.specs.Bits.{rowBits, rowWords, has, RowIs}
+use Rattle.word.specs.WordLaws.{digit-zero}
 
 -- digit k of word j
 pub has-at : (a : List ℕ) (j k : ℕ) → k < wordBits → has a (j * 64 + k) ≡ digit (getD a j 0) k

@@ -5,14 +5,14 @@ use crate::row::either;
 use crate::row::is_some;
 use crate::row::meets;
 use crate::row::without;
-use crate::word;
 ghost use mathlib.Core.Path.{_≡_};
 ghost use mathlib.Core.Bool.{not};
 ghost use Prim.Native.Nat.{ℕ, _+_, _*_, _<_, _≤_};
 ghost use lib.ListN.{length};
 ghost use Rattle.theory.specs.Bools.{_&_, _or_};
 ghost use Rattle.theory.specs.Range.{anyBelow};
-ghost use Rattle.bits.specs.Bits.{wordBits, rowBits, digit, has, RowIs, rowWords, cell, InRows, Put, Added, unitedRows, apart};
+ghost use Rattle.word.specs.Word.{wordBits, digit};
+ghost use Rattle.bits.specs.Bits.{rowBits, has, RowIs, rowWords, cell, InRows, Put, Added, unitedRows, apart};
 
 // Row v.
 pub fn row(words: &[u64], v: usize) -> Row

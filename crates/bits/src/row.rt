@@ -1,17 +1,25 @@
 // A row: a set of numbers below the limit of vertices, in words of 64 bits.
-use crate::word;
 use table::limits::VERTICES;
 ghost use mathlib.Core.Path.{_≡_};
 ghost use mathlib.Core.Bool.{not};
-ghost use Prim.Native.Nat.{_≤_};
+ghost use Prim.Native.Nat.{_+_, _≤_, min};
 ghost use lib.ListN.{length};
 ghost use Rattle.theory.specs.Bools.{_&_, _or_};
 ghost use Rattle.theory.specs.Range.{anyBelow, count, first};
+ghost use Rattle.word.specs.Word.{wordBits};
 ghost use Rattle.bits.specs.Bits.{rowBits, rowWords, has, RowIs};
 
 pub const WORDS: usize = VERTICES / 64;
 
 pub type Row = [u64; WORDS];
+
+// The end of the numbers of a row's word that starts at `base`, and at most n.
+pub fn end_of(base: usize, n: usize) -> usize
+    requires { ⌜ base ≤ rowBits ⌝ }
+    ensures { λ r. ⌜ r ≡ min n (base + wordBits) ⌝ }
+{
+    if base + 64 < n { base + 64 } else { n }
+}
 
 // What is in either.
 pub fn either(a: Row, b: Row) -> Row

@@ -18,8 +18,9 @@ use Rattle.theory.specs.Order.{anyNext}
 use Rattle.theory.specs.OrderLaws.{anyNext-in, anyNext-out}
 use Rattle.theory.specs.Rows.{united, fall, unitedLost, fails, loses}
 use Rattle.theory.specs.RowsLaws.{any-same, fall-same, fall-none}
-use Rattle.bits.specs.Bits.{wordBits, rowBits, digit, lowestBit, Lowest, Rest, has, RowIs, cell, Put, Added, unitedRows, apart}
-use Rattle.bits.specs.LeftLaws.{Onward, rest-above, onward-between}
+use Rattle.word.specs.Word.{wordBits, digit, lowestBit, Lowest, Rest}
+use Rattle.bits.specs.Bits.{rowBits, has, RowIs, cell, Put, Added, unitedRows, apart}
+use Rattle.word.specs.LeftLaws.{Onward, rest-above, onward-between}
 use Rattle.bits.specs.RowLaws.{has-at}
 use Rattle.bits.specs.MatrixLaws.{cell-base}
 use Rattle.bits.specs.MembersLaws.{kept-none, kept-skip, kept-step, members-skip, members-step}

@@ -10,7 +10,6 @@ use bits::row::Row;
 use bits::row::WORDS;
 use bits::row::common;
 use bits::row::is_some;
-use bits::word;
 use table::limits::VERTICES;
 ghost use mathlib.Core.Path.{_≡_};
 ghost use mathlib.Core.Bool.{false};
@@ -18,7 +17,8 @@ ghost use Prim.Native.Nat.{ℕ, _+_, _*_, _<_, _≤_};
 ghost use lib.ListN.{length};
 ghost use Rattle.theory.specs.Game.{Game};
 ghost use Rattle.theory.specs.Rows.{loses};
-ghost use Rattle.bits.specs.Bits.{wordBits, rowBits, rowWords, has, RowIs, cell};
+ghost use Rattle.word.specs.Word.{wordBits};
+ghost use Rattle.bits.specs.Bits.{rowBits, rowWords, has, RowIs, cell};
 ghost use Rattle.board.specs.Board.{edgeWords, EdgeRows, relationWords, struck, Fell, oddLoss, LossesTo};
 
 // What an Odd vertex v loses, where `gone` is what the rows of its successors lost. It ends early where other successors still have all of it.

@@ -1,11 +1,12 @@
 // Vertices by their words in a table.
 use bits::row::Row;
 use bits::row::WORDS;
-use bits::word;
+use bits::row::end_of;
 ghost use mathlib.Core.Path.{_≡_};
 ghost use Prim.Native.Nat.{ℕ, _+_, _<_, _≤_};
 ghost use lib.ListN.{length};
-ghost use Rattle.bits.specs.Bits.{wordBits, rowBits, digit, RowIs};
+ghost use Rattle.word.specs.Word.{wordBits, digit};
+ghost use Rattle.bits.specs.Bits.{rowBits, RowIs};
 ghost use Rattle.board.specs.Board.{differs};
 
 // Those of 64 vertices from `base` on, below n, whose word from `from` on isn't the value.
@@ -13,7 +14,7 @@ fn differing_word(words: &[u16], from: usize, n: usize, value: u16, base: usize)
     requires { ⌜ (from + n ≤ length (now words)) × (base ≤ rowBits) ⌝ }
     ensures { λ r. ⌜ ((k : ℕ) → k < wordBits → digit r k ≡ differs (now (words .entry)) from n value (base + k)) ⌝ }
 {
-    let end = word::end_of(base, n);
+    let end = end_of(base, n);
     let mut out: u64 = 0;
     let mut w = base;
     while w < end {

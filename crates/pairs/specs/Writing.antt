@@ -6,7 +6,8 @@ use Prim.Native.Nat.{ℕ, _+_, _*_, _/_, _%_, _≤_, _<_}
 use lib.ListN.{length, getD}
 use Rattle.theory.specs.Range.{tabulate}
 use Rattle.table.specs.Verdict.{written}
-use Rattle.bits.specs.Bits.{digit, cell}
+use Rattle.word.specs.Word.{digit}
+use Rattle.bits.specs.Bits.{cell}
 use Rattle.pairs.specs.Marks.{bytes}
 
 -- what held the marks before number `at` now holds `count` more, the first bits of the word

@@ -15,7 +15,8 @@ use Rattle.theory.specs.CountLaws.{row-lt, col-lt}
 use Rattle.theory.specs.Passes.{Marks, marked}
 use Rattle.table.specs.Verdict.{written}
 use Rattle.table.specs.VerdictLaws.{getD-written}
-use Rattle.bits.specs.Bits.{rowWords, digit, cell}
+use Rattle.word.specs.Word.{digit}
+use Rattle.bits.specs.Bits.{rowWords, cell}
 use Rattle.bits.specs.MatrixLaws.{cell-at}
 use Rattle.pairs.specs.Marks.{bytes}
 use Rattle.pairs.specs.MarksLaws.{fill-more}

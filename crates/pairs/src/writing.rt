@@ -1,10 +1,11 @@
 // A relation in rows of bits, written as marks.
 use bits::row::WORDS;
-use bits::word;
+use bits::row::end_of;
 ghost use Prim.Native.Nat.{_+_, _*_, _<_, _≤_};
 ghost use lib.ListN.{length};
 ghost use Rattle.table.specs.Limits.{vertexLimit};
-ghost use Rattle.bits.specs.Bits.{wordBits, rowWords};
+ghost use Rattle.word.specs.Word.{wordBits};
+ghost use Rattle.bits.specs.Bits.{rowWords};
 ghost use Rattle.pairs.specs.Marks.{marksLength};
 ghost use Rattle.pairs.specs.Writing.{BitsWritten, RowWritten, RowsWritten, Copied};
 
@@ -30,7 +31,7 @@ fn write_row(rows: &[u64], n: usize, v: usize, marks: &mut [u8])
     let row = v * n;
     let mut w = 0;
     while w < n {
-        let end = word::end_of(w, n);
+        let end = end_of(w, n);
         write_bits(marks, row + w, rows[v * WORDS + w / 64], end - w);
         w = end;
     }

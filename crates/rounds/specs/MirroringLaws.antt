@@ -14,10 +14,11 @@ use Rattle.theory.specs.BoolsLaws.{clash, So-ext, and-in, and-out, and-true, an
 use Rattle.theory.specs.Range.{anyBelow, first}
 use Rattle.theory.specs.RangeLaws.{any-in, any-out, any-ext, any-append}
 use Rattle.theory.specs.Rows.{mirroredBy}
-use Rattle.bits.specs.Bits.{rowBits, rowWords, has, RowIs, cell, Put, Added, Lowest, Rest}
+use Rattle.word.specs.Word.{Lowest, Rest}
+use Rattle.bits.specs.Bits.{rowBits, rowWords, has, RowIs, cell, Put, Added}
 use Rattle.bits.specs.RowLaws.{has-at}
 use Rattle.bits.specs.MatrixLaws.{cell-row}
-use Rattle.bits.specs.LeftLaws.{Left, done, or-start, or-next, or-end}
+use Rattle.word.specs.LeftLaws.{Left, done, or-start, or-next, or-end}
 use Rattle.bits.specs.MembersLaws.{kept, kept-start, kept-next, kept-end}
 use Rattle.board.specs.Board.{struck}
 use Rattle.rounds.specs.Mirroring.{LosesToo, onePair, wordPairs, columnPairs, Completed}

@@ -7,11 +7,11 @@ use bits::matrix::row;
 use bits::row::Row;
 use bits::row::WORDS;
 use bits::row::first_from;
-use bits::word;
 use table::limits::VERTICES;
 ghost use Prim.Native.Nat.{_+_, _<_, _≤_};
 ghost use lib.ListN.{length};
-ghost use Rattle.bits.specs.Bits.{wordBits, rowBits, rowWords};
+ghost use Rattle.word.specs.Word.{wordBits};
+ghost use Rattle.bits.specs.Bits.{rowBits, rowWords};
 ghost use Rattle.board.specs.Board.{relationWords};
 ghost use Rattle.rounds.specs.Mirroring.{LosesToo, onePair, wordPairs, columnPairs, Completed};
 

@@ -4,9 +4,10 @@ use Prim.Native.Nat.{ℕ, _+_, _-_, _<_}
 use lib.Dec.{eqb}
 use Rattle.theory.specs.Bools.{_&_, _or_}
 use Rattle.theory.specs.RangeLaws.{any-ext}
-use Rattle.bits.specs.Bits.{wordBits, rowBits, digit, has, apart}
-use Rattle.bits.specs.WordLaws.{digit-zero}
-use Rattle.bits.specs.LeftLaws.{Left, left-start, left-next, picked, picked-start, picked-next, picked-end}
+use Rattle.word.specs.Word.{wordBits, digit}
+use Rattle.bits.specs.Bits.{rowBits, has, apart}
+use Rattle.word.specs.WordLaws.{digit-zero}
+use Rattle.word.specs.LeftLaws.{Left, left-start, left-next, picked, picked-start, picked-next, picked-end}
 use borrow.Author.Needs.{needs}
 use Rattle.bits.proofs.matrix.apart_word.Statement.{statement}
 use Rattle.bits.proofs.matrix.apart_word.Tie as tie

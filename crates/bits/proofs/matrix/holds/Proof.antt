@@ -1,5 +1,5 @@
 use Rattle.bits.specs.Bits.{cell}
-use Rattle.bits.specs.WordLaws.{digit-read}
+use Rattle.word.specs.WordLaws.{digit-read}
 use borrow.Author.Needs.{needs}
 use Rattle.bits.proofs.matrix.holds.Statement.{statement}
 use Rattle.bits.proofs.matrix.holds.Tie as tie

@@ -5,7 +5,7 @@ use Rattle.theory.specs.Bools.{_&_}
 use Rattle.theory.specs.BoolsLaws.{not-out}
 use Rattle.theory.specs.RangeLaws.{any-fails}
 use Rattle.bits.specs.Bits.{rowBits, has, RowIs, cell}
-use Rattle.bits.specs.LeftLaws.{Left, left-start, left-next, done, not-start, not-next, not-end, not-early}
+use Rattle.word.specs.LeftLaws.{Left, left-start, left-next, done, not-start, not-next, not-end, not-early}
 use borrow.Author.Needs.{needs}
 use Rattle.bits.proofs.matrix.strip_word.Statement.{statement}
 use Rattle.bits.proofs.matrix.strip_word.Tie as tie

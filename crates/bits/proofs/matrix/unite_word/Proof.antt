@@ -2,7 +2,7 @@ use mathlib.Core.Path.{ap₂, _∙_}
 use Prim.Native.Nat.{_+_, _-_}
 use Rattle.theory.specs.Bools.{_or_}
 use Rattle.bits.specs.Bits.{has, RowIs, cell}
-use Rattle.bits.specs.LeftLaws.{Left, left-start, left-next, done, or-start, or-next, or-end}
+use Rattle.word.specs.LeftLaws.{Left, left-start, left-next, done, or-start, or-next, or-end}
 use borrow.Author.Needs.{needs}
 use Rattle.bits.proofs.matrix.unite_word.Statement.{statement}
 use Rattle.bits.proofs.matrix.unite_word.Tie as tie

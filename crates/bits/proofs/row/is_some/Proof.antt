@@ -5,8 +5,9 @@ use Rattle.theory.specs.Bools.{_or_}
 use lib.ListN.{getD}
 use Rattle.theory.specs.Range.{anyBelow}
 use Rattle.theory.specs.RangeLaws.{any-ext}
-use Rattle.bits.specs.Bits.{wordBits, rowWords, has, digit}
-use Rattle.bits.specs.WordLaws.{digit-or, some-none}
+use Rattle.word.specs.Word.{wordBits, digit}
+use Rattle.bits.specs.Bits.{rowWords, has}
+use Rattle.word.specs.WordLaws.{digit-or, some-none}
 use Rattle.bits.specs.RowLaws.{any-words, any-or}
 use borrow.Author.Needs.{needs}
 use Rattle.bits.proofs.row.is_some.Statement.{statement}

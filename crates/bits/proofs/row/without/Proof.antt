@@ -3,7 +3,7 @@ use mathlib.Core.Bool.{not}
 use Prim.Native.Nat.{_-_, _≤_}
 use Rattle.theory.specs.Bools.{_&_}
 use Rattle.bits.specs.Bits.{rowWords, has}
-use Rattle.bits.specs.WordLaws.{digit-less}
+use Rattle.word.specs.WordLaws.{digit-less}
 use Rattle.bits.specs.RowLaws.{has-at, Filled, filled-start, filled-next, filled-end}
 use borrow.Author.Needs.{needs}
 use Rattle.bits.proofs.row.without.Statement.{statement}

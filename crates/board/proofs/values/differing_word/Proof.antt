@@ -5,8 +5,8 @@ use native.Mathlib.Omega.{arith}
 use lib.Dec.{eqb}
 use lib.ListN.{getD}
 use Rattle.theory.specs.Bools.{_&_, _or_}
-use Rattle.bits.specs.Bits.{wordBits, digit}
-use Rattle.bits.specs.WordLaws.{digit-zero}
+use Rattle.word.specs.Word.{wordBits, digit}
+use Rattle.word.specs.WordLaws.{digit-zero}
 use Rattle.board.specs.ValuesLaws.{differsTo, differs-start, differs-next, differs-end}
 use borrow.Author.Needs.{needs}
 use Rattle.board.proofs.values.differing_word.Statement.{statement}

@@ -7,8 +7,8 @@ use lib.ListN.{length, length-set}
 use lib.Pow.{shr-shr}
 use Rattle.theory.specs.Bools.{bit}
 use Rattle.theory.specs.BoolsLaws.{bit-le}
-use Rattle.bits.specs.Bits.{digit}
-use Rattle.bits.specs.WordLaws.{digit-byte}
+use Rattle.word.specs.Word.{digit}
+use Rattle.word.specs.WordLaws.{digit-byte}
 use Rattle.pairs.specs.Writing.{BitsWritten}
 use Rattle.pairs.specs.WritingLaws.{bits-start, bits-next}
 use borrow.Author.Needs.{needs}

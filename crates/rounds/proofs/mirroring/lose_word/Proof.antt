@@ -1,7 +1,7 @@
 use mathlib.Core.Path.{_≡_, refl, _∙_}
 use native.Mathlib.Omega.{arith}
 use lib.ListN.{length}
-use Rattle.bits.specs.LeftLaws.{Left, left-start, left-next}
+use Rattle.word.specs.LeftLaws.{Left, left-start, left-next}
 use Rattle.rounds.specs.MirroringLaws.{WordTo, word-start, word-next, word-end}
 use borrow.Author.Needs.{needs}
 use Rattle.rounds.proofs.mirroring.lose_word.Statement.{statement}

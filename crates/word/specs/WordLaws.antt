@@ -17,7 +17,7 @@ use Rattle.theory.specs.BoolsLaws.{clash, So-ext, So-not, not-in, not-out, and-
 use Rattle.theory.specs.Range.{anyBelow, count, first}
 use Rattle.theory.specs.RangeLaws.{any-in, any-out, first-is, first-le, first-none}
 use Rattle.theory.specs.CountLaws.{count-ext, count-append}
-use Rattle.bits.specs.Bits.{wordBits, digit, lowestBit, Lowest, Rest}
+use Rattle.word.specs.Word.{wordBits, digit, lowestBit, Lowest, Rest}
 
 -- ---- bitwise operations
 

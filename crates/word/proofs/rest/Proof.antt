@@ -1,7 +1,7 @@
-use Rattle.bits.specs.WordLaws.{rest-is}
+use Rattle.word.specs.WordLaws.{rest-is}
 use borrow.Author.Needs.{needs}
-use Rattle.bits.proofs.word.rest.Statement.{statement}
-use Rattle.bits.proofs.word.rest.Tie as tie
+use Rattle.word.proofs.rest.Statement.{statement}
+use Rattle.word.proofs.rest.Tie as tie
 
 sub-result : tie.Need-sub-result
 sub-result c = search needs

@@ -1,18 +1,10 @@
-// A word of 64 bits.
+// Words of 64 bits. Parts of the calls; no host calls these.
 ghost use mathlib.Core.Path.{_≡_};
-ghost use Prim.Native.Nat.{ℕ, _+_, _<_, _≤_, min};
+ghost use Prim.Native.Nat.{ℕ, _<_, _≤_};
 ghost use lib.Dec.{eqb};
 ghost use Rattle.theory.specs.Bools.{_&_, _or_};
 ghost use Rattle.theory.specs.Range.{anyBelow, count, first};
-ghost use Rattle.bits.specs.Bits.{wordBits, rowBits, digit, Lowest, Rest};
-
-// The end of a word's numbers that starts at `base`, and at most n.
-pub fn end_of(base: usize, n: usize) -> usize
-    requires { ⌜ base ≤ rowBits ⌝ }
-    ensures { λ r. ⌜ r ≡ min n (base + wordBits) ⌝ }
-{
-    if base + 64 < n { base + 64 } else { n }
-}
+ghost use Rattle.word.specs.Word.{wordBits, digit, Lowest, Rest};
 
 // Whether a bit is set.
 pub fn is_some(word: u64) -> bool

@@ -1,7 +1,7 @@
 use native.Mathlib.Omega.{arith}
-use Rattle.bits.specs.WordLaws.{lowest-is}
-use Rattle.bits.proofs.word.lowest.Statement.{statement}
-use Rattle.bits.proofs.word.lowest.Tie as tie
+use Rattle.word.specs.WordLaws.{lowest-is}
+use Rattle.word.proofs.lowest.Statement.{statement}
+use Rattle.word.proofs.lowest.Tie as tie
 
 cast-result : tie.Need-cast-result
 cast-result c = omega (arith, lowest-is _ (c .fits .word .fits) (c .pre) .inside)

@@ -1,12 +1,12 @@
 use Prim.Native.Nat.{_+_, _/_, _^_, _<_}
 use lib.Count.{trailingZeros}
-use Rattle.bits.specs.Bits.{wordBits, digit}
+use Rattle.word.specs.Word.{wordBits, digit}
 use native.Mathlib.Omega.{arith}
-use Rattle.bits.specs.WordLaws.{first-none-left, first-inside, first-digit}
+use Rattle.word.specs.WordLaws.{first-none-left, first-inside, first-digit}
 use Rattle.theory.specs.RangeLaws.{first-end}
 use borrow.Author.Needs.{needs}
-use Rattle.bits.proofs.word.first_from.Statement.{statement}
-use Rattle.bits.proofs.word.first_from.Tie as tie
+use Rattle.word.proofs.first_from.Statement.{statement}
+use Rattle.word.proofs.first_from.Tie as tie
 
 returns : tie.Need-returns
 returns c = omega (arith, c .before .pre, c .if1 .taken, first-end (digit (c .before .args .word)) (c .before .args .k) wordBits (c .if1 .taken))

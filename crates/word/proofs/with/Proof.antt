@@ -1,7 +1,7 @@
-use Rattle.bits.specs.WordLaws.{with-bit, with-none}
+use Rattle.word.specs.WordLaws.{with-bit, with-none}
 use borrow.Author.Needs.{needs}
-use Rattle.bits.proofs.word.with.Statement.{statement}
-use Rattle.bits.proofs.word.with.Tie as tie
+use Rattle.word.proofs.with.Statement.{statement}
+use Rattle.word.proofs.with.Tie as tie
 
 shl-result : tie.Need-shl-result
 shl-result c = search needs

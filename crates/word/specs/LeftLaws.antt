@@ -11,8 +11,8 @@ use Rattle.theory.specs.Bools.{_&_, _or_}
 use Rattle.theory.specs.BoolsLaws.{clash, So-ext, So-not, and-in, and-out, and-true, or-left, or-right, or-out, or-false, not-in, not-out, and-neither}
 use Rattle.theory.specs.Range.{anyBelow}
 use Rattle.theory.specs.RangeLaws.{any-in, any-out, any-ext, first-le, first-before, first-passes, first-none}
-use Rattle.bits.specs.Bits.{wordBits, digit, lowestBit, Lowest, Rest}
-use Rattle.bits.specs.WordLaws.{digit-zero}
+use Rattle.word.specs.Word.{wordBits, digit, lowestBit, Lowest, Rest}
+use Rattle.word.specs.WordLaws.{digit-zero}
 
 module _ (which : ℕ) where
   -- what is left is a part of the word

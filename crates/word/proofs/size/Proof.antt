@@ -1,0 +1,9 @@
+use Rattle.word.specs.WordLaws.{word-size}
+use Rattle.word.proofs.size.Statement.{statement}
+use Rattle.word.proofs.size.Tie as tie
+
+returns : tie.Need-returns
+returns c = word-size _ (c .fits .word .fits)
+
+pub size-spec : {M : Type 1} → statement M
+size-spec = tie.close (tie.spec returns)
