@@ -1,6 +1,2 @@
-pub mod Taking
-pub mod TakingLaws
-pub mod Mirroring
-pub mod MirroringLaws
 pub mod Rounds
 pub mod RoundsLaws

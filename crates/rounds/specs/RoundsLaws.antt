@@ -25,9 +25,9 @@ use Rattle.bits.specs.MatrixLaws.{cell-row}
 use Rattle.bits.specs.MembersLaws.{kept-end}
 use Rattle.board.specs.Board.{differs, EdgeRows, struck, Fell, Losses, LossesTo}
 use Rattle.board.specs.BoardLaws.{near-is, next-vertex, loses-vertex}
-use Rattle.rounds.specs.Taking.{TakenTo}
-use Rattle.rounds.specs.TakingLaws.{out-count}
-use Rattle.rounds.specs.Mirroring.{Completed}
+use Rattle.removal.specs.Taking.{TakenTo}
+use Rattle.removal.specs.TakingLaws.{out-count}
+use Rattle.removal.specs.Mirroring.{Completed}
 use Rattle.rounds.specs.Rounds.{unequal, Parted, Started, Begun, RoundOf, Settled}
 
 below-next : (q : ℕ → Bool) (v u : ℕ) → ((eqb u v & q v) or (ltb u v & q u)) ≡ ltb u (v + 1) & q u

@@ -1,18 +1,16 @@
 // Passes of the order, or of the governed bisimulation, as rounds over rows of bits: from the rows that lost something in the round before to
 // what they can lose now. Parts of the calls; no host calls these.
-mod mirroring;
 mod start;
-mod taking;
 
 use bits::matrix::put;
 use bits::matrix::row;
 use bits::matrix::unite;
 use bits::row::WORDS;
 use board::losses::lose_all;
-use mirroring::complete;
+use removal::mirroring::complete;
+use removal::taking::take_all;
 use start::begin;
 use table::limits::VERTICES;
-use taking::take_all;
 ghost use Prim.Native.Nat.{_≤_};
 ghost use lib.ListN.{length};
 ghost use Rattle.table.specs.Table.{gameOf};

@@ -10,7 +10,7 @@ ghost use Prim.Native.Nat.{_<_, _≤_};
 ghost use lib.ListN.{length};
 ghost use Rattle.bits.specs.Bits.{rowBits, rowWords, cell};
 ghost use Rattle.board.specs.Board.{edgeWords, relationWords};
-ghost use Rattle.rounds.specs.Taking.{RowTaken, TakenTo};
+ghost use Rattle.removal.specs.Taking.{RowTaken, TakenTo};
 
 // Takes row a of `next` out of `related`, and works out its fall; how many pairs it holds.
 fn take_row(

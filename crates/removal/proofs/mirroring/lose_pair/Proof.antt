@@ -2,10 +2,10 @@ use mathlib.Core.Path.{sym, _∙_}
 use Rattle.bits.specs.Bits.{rowWords}
 use Rattle.bits.specs.RowLaws.{row-zero}
 use Rattle.bits.specs.MatrixLaws.{cell-row}
-use Rattle.rounds.specs.MirroringLaws.{pair-added, pair-new}
+use Rattle.removal.specs.MirroringLaws.{pair-added, pair-new}
 use borrow.Author.Needs.{needs}
-use Rattle.rounds.proofs.mirroring.lose_pair.Statement.{statement}
-use Rattle.rounds.proofs.mirroring.lose_pair.Tie as tie
+use Rattle.removal.proofs.mirroring.lose_pair.Statement.{statement}
+use Rattle.removal.proofs.mirroring.lose_pair.Tie as tie
 
 holds-requires : tie.Need-holds-requires
 holds-requires c κs = search needs

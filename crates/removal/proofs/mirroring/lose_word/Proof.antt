@@ -2,10 +2,10 @@ use mathlib.Core.Path.{_≡_, refl, _∙_}
 use native.Mathlib.Omega.{arith}
 use lib.ListN.{length}
 use Rattle.word.specs.LeftLaws.{Left, left-start, left-next}
-use Rattle.rounds.specs.MirroringLaws.{WordTo, word-start, word-next, word-end}
+use Rattle.removal.specs.MirroringLaws.{WordTo, word-start, word-next, word-end}
 use borrow.Author.Needs.{needs}
-use Rattle.rounds.proofs.mirroring.lose_word.Statement.{statement}
-use Rattle.rounds.proofs.mirroring.lose_word.Tie as tie
+use Rattle.removal.proofs.mirroring.lose_word.Statement.{statement}
+use Rattle.removal.proofs.mirroring.lose_word.Tie as tie
 
 abbrev Inv-loop : tie.InvT-loop
 Inv-loop next₀ losing₀ base which v left₀ next losing left =

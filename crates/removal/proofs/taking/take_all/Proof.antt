@@ -9,11 +9,11 @@ use Rattle.theory.specs.SumLaws.{sum-le}
 use Rattle.bits.specs.Bits.{rowBits, has, cell}
 use Rattle.bits.specs.MembersLaws.{Reached, reached-start, reached-next}
 use Rattle.board.specs.Board.{struck}
-use Rattle.rounds.specs.Taking.{TakenTo}
-use Rattle.rounds.specs.TakingLaws.{taken-start, taken-next}
+use Rattle.removal.specs.Taking.{TakenTo}
+use Rattle.removal.specs.TakingLaws.{taken-start, taken-next}
 use borrow.Author.Needs.{needs}
-use Rattle.rounds.proofs.taking.take_all.Statement.{statement}
-use Rattle.rounds.proofs.taking.take_all.Tie as tie
+use Rattle.removal.proofs.taking.take_all.Statement.{statement}
+use Rattle.removal.proofs.taking.take_all.Tie as tie
 
 abbrev Inv-loop : tie.InvT-loop
 Inv-loop edges next losing related₀ lost₀ falls₀ cleared₀ a₀ related lost falls cleared a =

@@ -1,7 +1,7 @@
-use Rattle.rounds.specs.TakingLaws.{row-taken}
+use Rattle.removal.specs.TakingLaws.{row-taken}
 use borrow.Author.Needs.{needs}
-use Rattle.rounds.proofs.taking.take_row.Statement.{statement}
-use Rattle.rounds.proofs.taking.take_row.Tie as tie
+use Rattle.removal.proofs.taking.take_row.Statement.{statement}
+use Rattle.removal.proofs.taking.take_row.Tie as tie
 
 row-requires : tie.Need-row-requires
 row-requires c κs = search needs

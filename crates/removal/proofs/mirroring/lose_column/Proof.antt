@@ -3,10 +3,10 @@ use Prim.Native.Nat.{_-_, _≤_}
 use native.Mathlib.Omega.{arith}
 use lib.ListN.{length}
 use Rattle.bits.specs.Bits.{rowWords}
-use Rattle.rounds.specs.MirroringLaws.{ColumnTo, column-start, column-next, column-end}
+use Rattle.removal.specs.MirroringLaws.{ColumnTo, column-start, column-next, column-end}
 use borrow.Author.Needs.{needs}
-use Rattle.rounds.proofs.mirroring.lose_column.Statement.{statement}
-use Rattle.rounds.proofs.mirroring.lose_column.Tie as tie
+use Rattle.removal.proofs.mirroring.lose_column.Statement.{statement}
+use Rattle.removal.proofs.mirroring.lose_column.Tie as tie
 
 abbrev Inv-loop : tie.InvT-loop
 Inv-loop next₀ losing₀ v which j₀ next losing j =

@@ -5,10 +5,10 @@ use lib.ListN.{length}
 use Rattle.theory.specs.RangeLaws.{first-ge}
 use Rattle.bits.specs.Bits.{rowBits, has}
 use Rattle.bits.specs.MembersLaws.{Reached, reached-start, reached-next}
-use Rattle.rounds.specs.MirroringLaws.{MirrorTo, mirror-start, mirror-next, mirror-end, mirror-none}
+use Rattle.removal.specs.MirroringLaws.{MirrorTo, mirror-start, mirror-next, mirror-end, mirror-none}
 use borrow.Author.Needs.{needs}
-use Rattle.rounds.proofs.mirroring.complete.Statement.{statement}
-use Rattle.rounds.proofs.mirroring.complete.Tie as tie
+use Rattle.removal.proofs.mirroring.complete.Statement.{statement}
+use Rattle.removal.proofs.mirroring.complete.Tie as tie
 
 abbrev Inv-loop : tie.InvT-loop
 Inv-loop next₀ losing₀ mirror which v₀ next losing v =

@@ -22,7 +22,7 @@ use Rattle.theory.specs.RowsLaws.{fall-same}
 use Rattle.bits.specs.Bits.{rowBits, has, RowIs, cell, Put}
 use Rattle.bits.specs.MembersLaws.{kept, kept-start, kept-next, members-start, members-next}
 use Rattle.board.specs.Board.{EdgeRows, struck}
-use Rattle.rounds.specs.Taking.{RowTaken, TakenTo}
+use Rattle.removal.specs.Taking.{RowTaken, TakenTo}
 
 -- ---- one row
 

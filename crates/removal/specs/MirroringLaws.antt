@@ -21,7 +21,7 @@ use Rattle.bits.specs.MatrixLaws.{cell-row}
 use Rattle.word.specs.LeftLaws.{Left, done, or-start, or-next, or-end}
 use Rattle.bits.specs.MembersLaws.{kept, kept-start, kept-next, kept-end}
 use Rattle.board.specs.Board.{struck}
-use Rattle.rounds.specs.Mirroring.{LosesToo, onePair, wordPairs, columnPairs, Completed}
+use Rattle.removal.specs.Mirroring.{LosesToo, onePair, wordPairs, columnPairs, Completed}
 
 -- ---- one pair
 

@@ -13,7 +13,7 @@ ghost use lib.ListN.{length};
 ghost use Rattle.word.specs.Word.{wordBits};
 ghost use Rattle.bits.specs.Bits.{rowBits, rowWords};
 ghost use Rattle.board.specs.Board.{relationWords};
-ghost use Rattle.rounds.specs.Mirroring.{LosesToo, onePair, wordPairs, columnPairs, Completed};
+ghost use Rattle.removal.specs.Mirroring.{LosesToo, onePair, wordPairs, columnPairs, Completed};
 
 // One loss more: the pair (w, v).
 fn lose_pair(next: &mut [u64], losing: &mut [u64], w: usize, v: usize)

@@ -1,0 +1,4 @@
+pub mod Taking
+pub mod TakingLaws
+pub mod Mirroring
+pub mod MirroringLaws
