@@ -1,7 +1,6 @@
-// Edges that come and go in a table that begins a buffer: its reader, refusals 37 to 39, and the two edits. Parts of the calls; no host
+// Edges that come and go in a table that begins a buffer: its reader, its edges listed, and refusals 37 to 39. Parts of the calls; no host
 // calls these.
 pub mod buffer;
-mod changes;
 pub mod listing;
 
 use crate::listing::has_edge;
@@ -11,12 +10,10 @@ use table::acceptor::refused;
 use table::limits::EDGES;
 ghost use mathlib.Core.Path.{_≡_};
 ghost use mathlib.Core.List.{[]};
-ghost use lib.ListN.{length};
-ghost use Rattle.table.specs.Table.{tableIn};
-ghost use Rattle.table.specs.Verdict.{judge, Clean};
+ghost use Rattle.table.specs.Verdict.{judge};
 ghost use Rattle.table.specs.Acceptance.{acceptanceAnswer};
 ghost use Rattle.edges.specs.Edges.{misplaced, changeRows, editRows};
-ghost use Rattle.edges.specs.Making.{Formed, Made};
+ghost use Rattle.edges.specs.Making.{Formed};
 
 pub enum Edit {
     Arrival,
@@ -90,23 +87,4 @@ pub fn judge_edit(
         return refused(37, s);
     }
     judge_change(table, n, m, size, edit, s, t)
-}
-
-// Makes an edit that was judged in the buffer. Returns how many edges there are then.
-pub fn make_edit(
-    buffer: &mut [u16],
-    n: usize,
-    m: usize,
-    edit: Edit,
-    source: u32,
-    target: u32,
-) -> usize
-    requires { ⌜ Formed (tableIn (now buffer)) n m ⌝ }
-    requires { ⌜ Clean (editRows edit (tableIn (now buffer)) (length (now buffer)) source target) ⌝ }
-    ensures { λ r. ⌜ Made edit (now (buffer .entry)) source target r (now (buffer .exit)) ⌝ }
-{
-    match edit {
-        Edit::Arrival => changes::arrive(buffer, n, m, source as u16, target as u16),
-        Edit::Leaving => changes::leave(buffer, n, m, source as usize, target as usize),
-    }
 }

@@ -1,11 +1,11 @@
 // Edges that come and go: edits of a table that begins a buffer, with the order and the classes of the new table.
+use changes::make_edit;
 use classes::Memory;
 use classes::fill_memory;
 use classes::judge_memory;
 use edges::Edit;
 use edges::buffer::read_in;
 use edges::judge_edit;
-use edges::make_edit;
 use reduction::TableCounts;
 use reduction::Tabulation;
 use table::Acceptance;

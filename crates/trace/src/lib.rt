@@ -1,8 +1,8 @@
 // A recorded list of edits: refusal 40, and its entries made in a buffer one by one. Parts of the call; no host calls these.
+use changes::make_edit;
 use edges::Edit;
 use edges::judge_change;
 use edges::listing::has_edge;
-use edges::make_edit;
 use table::Acceptance;
 use table::NoCounts;
 use table::Refusal;

@@ -2,10 +2,10 @@
 use mathlib.Core.Path.{_≡_, refl, _∙_}
 use native.Mathlib.Omega.{arith}
 use lib.ListN.{length, length-set}
 use Rattle.edges.specs.MadeLaws.{arrival-made}
 use borrow.Author.Needs.{needs}
-use Rattle.edges.proofs.changes.arrive.Statement.{statement}
-use Rattle.edges.proofs.changes.arrive.Tie as tie
+use Rattle.changes.proofs.arrive.Statement.{statement}
+use Rattle.changes.proofs.arrive.Tie as tie
 
 -- the entry, from behind the targets' copy
 abbrev start : tie.After-copy → tie.Start

@@ -6,11 +6,11 @@ use native.Mathlib.Omega.{arith}
 use lib.ListN.{length, take, length-set}
 use lib.Seq.{length-take-le}
 use Rattle.table.specs.Table.{tableLength, tableIn}
 use Rattle.edges.specs.Making.{Formed}
 use Rattle.edges.specs.MadeLaws.{formed-room, formed-part, leaving-few, leaving-made}
 use borrow.Author.Needs.{needs}
-use Rattle.edges.proofs.changes.leave.Statement.{statement}
-use Rattle.edges.proofs.changes.leave.Tie as tie
+use Rattle.changes.proofs.leave.Statement.{statement}
+use Rattle.changes.proofs.leave.Tie as tie
 
 -- the table is there whole, and is the part that is lent
 room : (s : tie.Start) → let a = s .args in tableLength (a .n) (a .m) ≤ length (a .buffer .now)

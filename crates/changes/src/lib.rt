@@ -1,17 +1,20 @@
-// The two edits, in a buffer that has room for them.
-use crate::listing::list_others;
+// The two edits of a table that begins a buffer. Parts of the calls; no host calls these.
+use edges::Edit;
+use edges::listing::list_others;
 use table::limits::EDGES;
 use table::words;
 ghost use Prim.Native.Nat.{_+_, _<_, _≤_};
 ghost use lib.ListN.{length};
 ghost use Rattle.table.specs.Limits.{edgeLimit};
 ghost use Rattle.table.specs.Table.{tableLength, tableIn};
+ghost use Rattle.table.specs.Verdict.{Clean};
+ghost use Rattle.edges.specs.Edges.{editRows};
 ghost use Rattle.edges.specs.Making.{Formed, Made};
 ghost use Rattle.edges.specs.declared.Edit.the-variants.{Arrival, Leaving};
 
 // Adds the edge at the end of both arrays, so that every target moves up by a word. The targets are meanwhile in a local array of 8,192
 // bytes. Returns how many edges there are then.
-pub fn arrive(buffer: &mut [u16], n: usize, m: usize, s: u16, t: u16) -> usize
+fn arrive(buffer: &mut [u16], n: usize, m: usize, s: u16, t: u16) -> usize
     requires { ⌜ Formed (tableIn (now buffer)) n m × (m < edgeLimit) ⌝ }
     requires { ⌜ tableLength n m + 2 ≤ length (now buffer) ⌝ }
     ensures { λ r. ⌜ Made Arrival (now (buffer .entry)) s t r (now (buffer .exit)) ⌝ }
@@ -28,7 +31,7 @@ pub fn arrive(buffer: &mut [u16], n: usize, m: usize, s: u16, t: u16) -> usize
 
 // Removes every copy of the edge and keeps the others in sequence; the words that are given up become 0. The edges that stay are meanwhile
 // in local arrays of 16,384 bytes. Returns how many there are.
-pub fn leave(buffer: &mut [u16], n: usize, m: usize, s: usize, t: usize) -> usize
+fn leave(buffer: &mut [u16], n: usize, m: usize, s: usize, t: usize) -> usize
     requires { ⌜ Formed (tableIn (now buffer)) n m ⌝ }
     ensures { λ r. ⌜ Made Leaving (now (buffer .entry)) s t r (now (buffer .exit)) ⌝ }
 {
@@ -41,4 +44,23 @@ pub fn leave(buffer: &mut [u16], n: usize, m: usize, s: usize, t: usize) -> usiz
     words::copy(buffer, 2 + 2 * n + e, &ends, e);
     words::fill(buffer, 2 + 2 * n + 2 * e, 2 * (m - e), 0);
     e
+}
+
+// Makes an edit that was judged in the buffer. Returns how many edges there are then.
+pub fn make_edit(
+    buffer: &mut [u16],
+    n: usize,
+    m: usize,
+    edit: Edit,
+    source: u32,
+    target: u32,
+) -> usize
+    requires { ⌜ Formed (tableIn (now buffer)) n m ⌝ }
+    requires { ⌜ Clean (editRows edit (tableIn (now buffer)) (length (now buffer)) source target) ⌝ }
+    ensures { λ r. ⌜ Made edit (now (buffer .entry)) source target r (now (buffer .exit)) ⌝ }
+{
+    match edit {
+        Edit::Arrival => arrive(buffer, n, m, source as u16, target as u16),
+        Edit::Leaving => leave(buffer, n, m, source as usize, target as usize),
+    }
 }

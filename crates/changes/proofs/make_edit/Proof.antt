@@ -4,13 +4,13 @@ use native.Mathlib.Omega.{arith}
 use lib.ListN.{length}
 use Rattle.table.specs.Table.{tableIn}
 use Rattle.table.specs.Verdict.{Clean}
 use Rattle.edges.specs.Edges.{editRows}
 use Rattle.edges.specs.EditedLaws.{Placed, edit-placed, arrival-fits}
 use Rattle.edges.specs.declared.Edit.{Edit}
 use Rattle.edges.specs.declared.Edit.the-variants.{Arrival}
 use borrow.Author.Needs.{needs}
-use Rattle.edges.proofs.make_edit.Statement.{statement}
-use Rattle.edges.proofs.make_edit.Tie as tie
+use Rattle.changes.proofs.make_edit.Statement.{statement}
+use Rattle.changes.proofs.make_edit.Tie as tie
 
 -- the rows of an arrival are passed
 passed : (c : tie.After-enum-told)
