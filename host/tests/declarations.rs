@@ -74,7 +74,7 @@ fn declared(parameter: &str) -> Vec<String> {
 
 fn exports_in_rattle() -> BTreeMap<String, Signature> {
     let source = |name: &str| plain(&rattle(&root().join(format!("crates/{name}/src"))));
-    let source = ["abi", "abi_edit"].map(source).join(" ");
+    let source = ["abi", "abi_carry", "abi_governed", "abi_edit"].map(source).join(" ");
     let exports = functions(&source, "pub extern \"C\" fn ");
     let in_rust = |(name, (parameters, result)): (String, Signature)| {
         let parameters = parameters.iter().flat_map(|parameter| declared(parameter)).collect();

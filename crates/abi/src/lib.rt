@@ -1,9 +1,7 @@
-// The exports for a Rust host: numbers and slices in, one answer by value out. A slice passes as a pointer and a length. Those that edit a table
-// stand in `abi_edit`, so that a check of either is short.
+// The exports for a Rust host: numbers and slices in, one answer by value out. A slice passes as a pointer and a length. Those that carry a plan,
+// are about governed bisimulations or edit a table stand in crates of their own, so that a check of each is short.
 use answer::RaskjomiAnswer;
 use answer::of_acceptance;
-use answer::of_carrying;
-use answer::of_class_carrying;
 use answer::of_classification;
 use answer::of_filling;
 use answer::of_ordering;
@@ -15,9 +13,8 @@ ghost use Rattle.table.specs.Reading.{readAnswer};
 ghost use Rattle.table.specs.Kind.{kindOf};
 ghost use Rattle.relation.specs.RelationCall.{relationAnswer};
 ghost use Rattle.plan.specs.Acceptance.{planAnswer};
-ghost use Rattle.governed.specs.GovernedCall.{governedAnswer};
 ghost use Rattle.answer.specs.Fields.{readFields, acceptFields};
-ghost use Rattle.abi.specs.Exports.{OrderExport, ClassesExport, TableExport, SeedExport, ConvertExport, CarryExport, CarryClassExport, GovernedExport, GovernedClassesExport};
+ghost use Rattle.answer.specs.Exports.{OrderExport, ClassesExport, TableExport, SeedExport, ConvertExport};
 
 // The kind of a refusal number.
 #[no_mangle]
@@ -120,81 +117,4 @@ pub extern "C" fn raskjomi_convert(game: &[u16], output: &mut [u16]) -> Raskjomi
     ensures { λ r. ⌜ ConvertExport (now (game .entry)) (now (output .entry)) r (now (output .exit)) ⌝ }
 {
     of_filling(convert::write_lowest(game, output))
-}
-
-// A plan on the game, carried to the vertex, into output; and the order.
-#[no_mangle]
-pub extern "C" fn raskjomi_carry(
-    game: &[u16],
-    player: u32,
-    plan: &[u16],
-    vertex: u32,
-    marks: &mut [u8],
-    spare: &mut [u8],
-    output: &mut [u16],
-) -> RaskjomiAnswer
-    ensures { λ r. ⌜ CarryExport (now (game .entry)) player (now (plan .entry)) vertex (now (marks .entry)) (now (spare .entry)) (now (output .entry)) r (now (marks .exit)) (now (spare .exit)) (now (output .exit)) ⌝ }
-{
-    of_carrying(carry::carry_plan(game, player, plan, vertex, marks, spare, output))
-}
-
-// A plan on the reduced game, carried to the vertex, into output; the reduced game, the classes and the order.
-#[no_mangle]
-pub extern "C" fn raskjomi_carry_class(
-    game: &[u16],
-    player: u32,
-    plan: &[u16],
-    vertex: u32,
-    marks: &mut [u8],
-    spare: &mut [u8],
-    classes: &mut [u16],
-    reduction: &mut [u16],
-    output: &mut [u16],
-) -> RaskjomiAnswer
-    ensures { λ r. ⌜ CarryClassExport (now (game .entry)) player (now (plan .entry)) vertex (now (marks .entry)) (now (spare .entry)) (now (classes .entry)) (now (reduction .entry)) (now (output .entry)) r (now (marks .exit)) (now (spare .exit)) (now (classes .exit)) (now (reduction .exit)) (now (output .exit)) ⌝ }
-{
-    of_class_carrying(carry::carry_class_plan(
-        game,
-        player,
-        plan,
-        vertex,
-        marks,
-        spare,
-        classes,
-        reduction,
-        output,
-    ))
-}
-
-// The largest governed bisimulation, into marks and spare.
-#[no_mangle]
-pub extern "C" fn raskjomi_governed_order(
-    game: &[u16],
-    marks: &mut [u8],
-    spare: &mut [u8],
-) -> RaskjomiAnswer
-    ensures { λ r. ⌜ GovernedExport (now (game .entry)) (now (marks .entry)) (now (spare .entry)) r (now (marks .exit)) (now (spare .exit)) ⌝ }
-{
-    of_ordering(governed::write_governed(game, marks, spare))
-}
-
-// The acceptor of governed bisimulations.
-#[no_mangle]
-pub extern "C" fn raskjomi_accept_governed(game: &[u16], marks: &[u8]) -> RaskjomiAnswer
-    ensures { λ r. ⌜ r ≡ acceptFields (governedAnswer (now (game .entry)) (now (marks .entry))) ⌝ }
-{
-    of_acceptance(governed::accept_governed(game, marks))
-}
-
-// The classes of the largest governed bisimulation, and it.
-#[no_mangle]
-pub extern "C" fn raskjomi_governed_classes(
-    game: &[u16],
-    marks: &mut [u8],
-    spare: &mut [u8],
-    classes: &mut [u16],
-) -> RaskjomiAnswer
-    ensures { λ r. ⌜ GovernedClassesExport (now (game .entry)) (now (marks .entry)) (now (spare .entry)) (now (classes .entry)) r (now (marks .exit)) (now (spare .exit)) (now (classes .exit)) ⌝ }
-{
-    of_classification(governed::write_governed_classes(game, marks, spare, classes))
 }

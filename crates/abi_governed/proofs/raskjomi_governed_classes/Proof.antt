@@ -1,8 +1,8 @@
 -- An accepted game has few classes, so the count fits its field.
 use Rattle.answer.specs.FieldsLaws.{governed-small}
 use borrow.Author.Needs.{needs}
-use Rattle.abi.proofs.raskjomi_governed_classes.Statement.{statement}
-use Rattle.abi.proofs.raskjomi_governed_classes.Tie as tie
+use Rattle.abi_governed.proofs.raskjomi_governed_classes.Statement.{statement}
+use Rattle.abi_governed.proofs.raskjomi_governed_classes.Tie as tie
 
 write-governed-classes-requires : tie.Need-write-governed-classes-requires
 write-governed-classes-requires c κs = search needs

@@ -2,8 +2,8 @@
 use mathlib.Core.Path.{ap, _∙_}
 use Rattle.answer.specs.Fields.{acceptFields}
 use borrow.Author.Needs.{needs}
-use Rattle.abi.proofs.raskjomi_accept_governed.Statement.{statement}
-use Rattle.abi.proofs.raskjomi_accept_governed.Tie as tie
+use Rattle.abi_governed.proofs.raskjomi_accept_governed.Statement.{statement}
+use Rattle.abi_governed.proofs.raskjomi_accept_governed.Tie as tie
 
 accept-governed-requires : tie.Need-accept-governed-requires
 accept-governed-requires c κs = search needs

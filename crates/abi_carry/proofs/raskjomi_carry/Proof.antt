@@ -1,8 +1,8 @@
 -- A plan that is carried is within the limits, so its counts fit their fields.
 use Rattle.answer.specs.FieldsLaws.{carrying-small}
 use borrow.Author.Needs.{needs}
-use Rattle.abi.proofs.raskjomi_carry.Statement.{statement}
-use Rattle.abi.proofs.raskjomi_carry.Tie as tie
+use Rattle.abi_carry.proofs.raskjomi_carry.Statement.{statement}
+use Rattle.abi_carry.proofs.raskjomi_carry.Tie as tie
 
 carry-plan-requires : tie.Need-carry-plan-requires
 carry-plan-requires c κs = search needs

@@ -1,8 +1,8 @@
 -- The reduced game is no larger than the game, and a plan that is carried is within the limits, so the counts fit their fields.
 use Rattle.answer.specs.FieldsLaws.{class-carrying-small}
 use borrow.Author.Needs.{needs}
-use Rattle.abi.proofs.raskjomi_carry_class.Statement.{statement}
-use Rattle.abi.proofs.raskjomi_carry_class.Tie as tie
+use Rattle.abi_carry.proofs.raskjomi_carry_class.Statement.{statement}
+use Rattle.abi_carry.proofs.raskjomi_carry_class.Tie as tie
 
 carry-class-plan-requires : tie.Need-carry-class-plan-requires
 carry-class-plan-requires c κs = search needs

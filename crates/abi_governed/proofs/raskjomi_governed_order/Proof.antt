@@ -1,7 +1,7 @@
 -- The fields are those of the call's answer.
 use borrow.Author.Needs.{needs}
-use Rattle.abi.proofs.raskjomi_governed_order.Statement.{statement}
-use Rattle.abi.proofs.raskjomi_governed_order.Tie as tie
+use Rattle.abi_governed.proofs.raskjomi_governed_order.Statement.{statement}
+use Rattle.abi_governed.proofs.raskjomi_governed_order.Tie as tie
 
 write-governed-requires : tie.Need-write-governed-requires
 write-governed-requires c κs = search needs
