@@ -1,3 +1,4 @@
 pub mod Word
 pub mod WordLaws
 pub mod LeftLaws
+pub mod NumberLaws

@@ -1,9 +1,9 @@
 -- Words of 64 bits, by their binary digits.
 use mathlib.Core.Path.{_≡_}
 use mathlib.Core.Bool.{Bool, not, So}
-use Prim.Native.Nat.{ℕ, _/_, _%_, _^_, _<_}
+use Prim.Native.Nat.{ℕ, zero, suc, _+_, _*_, _/_, _%_, _^_, _<_}
 use lib.Dec.{eqb}
-use Rattle.theory.specs.Bools.{_&_}
+use Rattle.theory.specs.Bools.{_&_, bit}
 use Rattle.theory.specs.Range.{first}
 
 -- bits of a word
@@ -13,6 +13,11 @@ wordBits = 64
 -- binary digit k of x is set
 unfoldable pub digit : ℕ → ℕ → Bool
 digit x k = eqb (x / 2 ^ k % 2) 1
+
+-- the number with the binary digits f 0, .., f (k - 1), the lowest first
+unfoldable pub number : ℕ → (ℕ → Bool) → ℕ
+number zero f = 0
+number (suc k) f = bit (f 0) + 2 * number k (λ i. f (suc i))
 
 -- the lowest digit that is set
 unfoldable pub lowestBit : ℕ → ℕ

@@ -2,14 +2,14 @@
 use mathlib.Core.Path.{_≡_, refl, sym, ap, ap₂, _∙_, subst}
 use mathlib.Core.Bool.{Bool, true, false, not, So}
 use Prim.Native.Nat.{ℕ, zero, suc, _+_, _-_, _*_, _/_, _%_, _^_, _≤_, _<_}
-use native.Mathlib.Nat.{mod-lt, mul-mod-left, one-mul, lt-of-lt-of-le, lt-of-le-of-lt, div-one, zero-div, div-eq-of-lt, pow-suc, div-self}
+use native.Mathlib.Nat.{mod-lt, mul-mod-left, one-mul, lt-of-lt-of-le, lt-of-le-of-lt, div-one, zero-div, div-eq-of-lt, pow-suc, div-self, mul-assoc}
 use native.Mathlib.Omega.{arith}
 use native.Mathlib.Decide.{decLt, ℕ-discrete}
 use native.Mathlib.Numerals.{one-add}
 use lib.Bits.{and-mask, and-le-r, bitAnd, bitOr, bitXor, and-shr, or-shr, xor-shr, and-mod, or-mod, xor-mod}
 use lib.Arith.{lt-one}
 use lib.Count.{trailingZeros, under, ones, ones-step}
-use lib.Pow.{pow-pos, pow-lt, pow-mono, pow-add, shr-shr, shl-shr, shl-exact, shr-le}
+use lib.Pow.{pow-pos, pow-lt, pow-mono, pow-add, shr-shr, shl-shr, shl-exact, shr-le, field, mod-mod-pow}
 use lib.Dec.{eqb}
 use borrow.Author.Tests.{eqb-true, eqb-false, eq-eqb, ne-eqb}
 use Rattle.theory.specs.Bools.{_&_, _or_, bit}
@@ -68,11 +68,11 @@ pub digit-zero : (k : ℕ) → digit 0 k ≡ false
 unfolding digit
 digit-zero k = rw (zero-div (2 ^ k))
 
-digit-shift : (x j k : ℕ) → digit (x / 2 ^ j) k ≡ digit x (j + k)
+pub digit-shift : (x j k : ℕ) → digit (x / 2 ^ j) k ≡ digit x (j + k)
 unfolding digit
 digit-shift x j k = rw (shr-shr x j k)
 
-digit-high : (x k n : ℕ) → x < 2 ^ n → n ≤ k → digit x k ≡ false
+pub digit-high : (x k n : ℕ) → x < 2 ^ n → n ≤ k → digit x k ≡ false
 unfolding digit
 digit-high x k n h l = rw (div-eq-of-lt (lt-of-lt-of-le h (pow-mono l)))
 
@@ -108,6 +108,28 @@ digit-power j k = rw (one-mul (2 ^ j)) (go (ℕ-discrete k j))
     go (yes e) = rw (e, div-self (pow-pos j), eq-eqb j j refl)
     go (no d) = rw (ne-eqb k j d) (elim (decLt k j) [ yes l ↦ rw (above l) | no m ↦ rw (div-eq-of-lt (pow-lt (below d m))) ])
 
+-- the digits of a word shifted up by s
+pub digit-up : (x s k : ℕ) → digit (x * 2 ^ s) (s + k) ≡ digit x k
+digit-up x s k = sym (digit-shift (x * 2 ^ s) s k) ∙ ap (λ (y : ℕ). digit y k) (shl-shr x s)
+
+pub digit-up-low : (x s k : ℕ) → k < s → digit (x * 2 ^ s) k ≡ false
+unfolding digit
+digit-up-low x s k h = let e : s ≡ suc (s - suc k) + k = omega arith in ap (λ (i : ℕ). digit (x * 2 ^ i) k) e ∙ even (s - suc k)
+  where
+    even : (j : ℕ) → digit (x * 2 ^ (suc j + k)) k ≡ false
+    even j =
+        let p : x * 2 ^ (suc j + k) ≡ x * 2 ^ suc j * 2 ^ k = rw (pow-add 2 (suc j) k) (sym (mul-assoc x (2 ^ suc j) (2 ^ k))) in
+        let t : x * 2 ^ suc j ≡ x * 2 ^ j * 2 = rw (pow-suc 2 j) (sym (mul-assoc x (2 ^ j) 2)) in
+        rw (p, shl-shr (x * 2 ^ suc j) k, t, mul-mod-left (x * 2 ^ j) 2)
+
+-- its lowest c digits
+pub digit-mod : (x c k : ℕ) → k < c → digit (x % 2 ^ c) k ≡ digit x k
+unfolding digit
+digit-mod x c k h = let e : c ≡ (c - suc k) + 1 + k = omega arith in ap (λ (i : ℕ). digit (x % 2 ^ i) k) e ∙ below (c - suc k)
+  where
+    below : (j : ℕ) → digit (x % 2 ^ (j + 1 + k)) k ≡ digit x k
+    below j = rw (field x (j + 1) k, mod-mod-pow (x / 2 ^ k) j 1)
+
 -- ---- a bit that is set
 
 pub with-bit : (x k j : ℕ) → k < wordBits → digit (bitOr x (1 * 2 ^ k % 2 ^ 64)) j ≡ ((eqb j k & true) or digit x j)
@@ -125,10 +147,10 @@ record Trailing (n x t : ℕ) : Type 0 where
   pub set : So (digit x t)
   pub below : (j : ℕ) → j < t → digit x j ≡ false
 
-digit-suc : (x k : ℕ) → digit (x / 2) k ≡ digit x (suc k)
+pub digit-suc : (x k : ℕ) → digit (x / 2) k ≡ digit x (suc k)
 digit-suc x k = digit-shift x 1 k ∙ ap (digit x) (one-add k)
 
-digit-first : (x : ℕ) → digit x 0 ≡ eqb (x % 2) 1
+pub digit-first : (x : ℕ) → digit x 0 ≡ eqb (x % 2) 1
 unfolding digit
 digit-first x = rw (div-one x)
 
@@ -243,7 +265,7 @@ rest-is x h d = record {
 
 -- ---- how many digits are set
 
-digit-bit : (x : ℕ) → x % 2 ≡ bit (digit x 0)
+pub digit-bit : (x : ℕ) → x % 2 ≡ bit (digit x 0)
 unfolding bit
 digit-bit x = rw (digit-first x) (two (λ y. y ≡ bit (eqb y 1)) refl refl (x % 2) (half x))
 
