@@ -1,4 +1,4 @@
--- Rows of bits: sets of numbers below the limit of vertices, in words of 64 bits. Bit x of a row is digit x % 64 of its word x / 64.
+-- Rows of bits: sets of numbers below the limit of vertices, in words of 64 bits.
 use mathlib.Core.Path.{_≡_}
 use mathlib.Core.Bool.{Bool, not}
 use mathlib.Core.List.{List}
@@ -8,6 +8,7 @@ use lib.ListN.{length, getD}
 use Rattle.theory.specs.Bools.{_&_, _or_}
 use Rattle.theory.specs.Range.{anyBelow}
 use Rattle.word.specs.Word.{wordBits, digit}
+use Rattle.word.specs.Words.{has}
 use Rattle.table.specs.Limits.{vertexLimit}
 
 -- bits of a row, and its words
@@ -16,10 +17,6 @@ rowBits = vertexLimit
 
 abbrev pub rowWords : ℕ
 rowWords = rowBits / wordBits
-
--- x is in the row
-unfoldable pub has : List ℕ → ℕ → Bool
-has r x = digit (getD r (x / wordBits) 0) (x % wordBits)
 
 -- the row holds what passes
 abbrev pub RowIs : List ℕ → (ℕ → Bool) → Type 0

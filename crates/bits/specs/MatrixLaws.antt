@@ -16,9 +16,10 @@ use Rattle.theory.specs.RangeLaws.{any-append, any-ext}
 use Rattle.theory.specs.CountLaws.{digits-one, digits-same}
 use Rattle.theory.specs.ListLaws.{zeros}
 use Rattle.word.specs.Word.{wordBits, digit}
-use Rattle.bits.specs.Bits.{rowBits, rowWords, has, cell, Put, Added, unitedRows}
+use Rattle.word.specs.Words.{has}
+use Rattle.bits.specs.Bits.{rowBits, rowWords, cell, Put, Added, unitedRows}
 use Rattle.word.specs.WordLaws.{digit-zero}
-use Rattle.bits.specs.RowLaws.{has-at, word-set, same-bit}
+use Rattle.word.specs.WordsLaws.{has-at, word-set, same-bit}
 
 -- digit k of word j of row v
 pub cell-at : (words : List ℕ) (v j k : ℕ) → k < wordBits → cell words v (j * 64 + k) ≡ digit (getD words (v * rowWords + j) 0) k

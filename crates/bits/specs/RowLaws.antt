@@ -1,30 +1,23 @@
 -- Laws of rows: a row that is filled word by word, what is in it by its words, and the first number in it.
 use mathlib.Core.Path.{_≡_, refl, sym, ap, _∙_}
 use mathlib.Core.Logic.{inl, inr}
-use mathlib.Core.Bool.{Bool, false, So}
+use mathlib.Core.Bool.{Bool, So}
 use mathlib.Core.List.{List}
 use Prim.Native.Nat.{ℕ, _+_, _*_, _/_, _%_, _≤_, _<_}
 use native.Mathlib.Decide.{ℕ-discrete}
 use native.Mathlib.Omega.{arith}
-use lib.Arith.{digits-div, digits-mod}
-use lib.Dec.{eqb}
+use lib.Arith.{digits-mod}
 use lib.ListN.{length, getD, set, replicate, length-set, length-replicate, getD-replicate}
 use lib.Seq.{getD-set-same, getD-set-other}
-use borrow.Author.Tests.{eqb-true, eq-eqb, ne-eqb}
 use Rattle.theory.specs.Bools.{_&_, _or_}
-use Rattle.theory.specs.BoolsLaws.{So-ext, and-in, and-out, or-left, or-right, or-out}
+use Rattle.theory.specs.BoolsLaws.{So-ext, or-left, or-right, or-out}
 use Rattle.theory.specs.Range.{allBelow, anyBelow, count, first}
 use Rattle.theory.specs.RangeLaws.{all-out, any-in, any-out, any-append, any-ext, first-is, first-ge, first-passes, first-before, first-skip}
 use Rattle.theory.specs.CountLaws.{count-append, count-ext}
-use Rattle.theory.specs.ListLaws.{zeros}
 use Rattle.word.specs.Word.{wordBits, digit}
-use Rattle.bits.specs.Bits.{rowBits, rowWords, has, RowIs}
-use Rattle.word.specs.WordLaws.{digit-zero}
-
--- digit k of word j
-pub has-at : (a : List ℕ) (j k : ℕ) → k < wordBits → has a (j * 64 + k) ≡ digit (getD a j 0) k
-unfolding has
-has-at a j k h = rw (digits-div j h, digits-mod j h)
+use Rattle.word.specs.Words.{has}
+use Rattle.word.specs.WordsLaws.{has-at}
+use Rattle.bits.specs.Bits.{rowBits, rowWords, RowIs}
 
 -- ---- filling a row
 
@@ -75,11 +68,6 @@ count-words k a =
 
 -- ---- rows by their values
 
--- zeroed words hold nothing
-pub row-zero : (n x : ℕ) → has (replicate n 0) x ≡ false
-unfolding has
-row-zero n x = rw (zeros n (x / 64)) (digit-zero (x % 64))
-
 digits-full : (k : ℕ) → k < wordBits → So (digit 18446744073709551615 k)
 unfolding digit allBelow _&_
 digits-full = all-out {n = 64} {p = digit 18446744073709551615} refl .at
@@ -88,22 +76,6 @@ digits-full = all-out {n = 64} {p = digit 18446744073709551615} refl .at
 pub row-full : (x : ℕ) → x < rowBits → So (has (replicate rowWords 18446744073709551615) x)
 unfolding has
 row-full x h = rw (getD-replicate {A = ℕ} rowWords (x / 64) 18446744073709551615 0 (rw (length-replicate {A = ℕ} rowWords 18446744073709551615) (omega arith))) (digits-full (x % 64) (omega arith))
-
--- a word that is stored
-pub word-set : (r : List ℕ) (i k z : ℕ) (b : Bool) → i < length r → ((j : ℕ) → j < wordBits → digit z j ≡ ((eqb j k & b) or digit (getD r i 0) j))
-    → (h j : ℕ) → j < wordBits → digit (getD (set r i z) h 0) j ≡ ((eqb h i & (eqb j k & b)) or digit (getD r h 0) j)
-unfolding _&_ _or_
-word-set r i k z b l d h j m = elim (ℕ-discrete h i) [
-  | yes e ↦ rw (e, getD-set-same r i z 0 l, eq-eqb i i refl) (d j m)
-  | no e ↦ rw (getD-set-other r i h z 0 e, ne-eqb h i e)
-]
-
--- a number by its word and its digit
-pub same-bit : (x y : ℕ) → eqb (y / 64) (x / 64) & eqb (y % 64) (x % 64) ≡ eqb y x
-same-bit x y =
-    So-ext
-    (λ t. let c = and-out t in eq-eqb y x (omega (arith, eqb-true (y / 64) (x / 64) (c .0), eqb-true (y % 64) (x % 64) (c .1))))
-    (λ t. let e = eqb-true y x t in and-in (eq-eqb _ _ (ap (λ (i : ℕ). i / 64) e)) (eq-eqb _ _ (ap (λ (i : ℕ). i % 64) e)))
 
 -- ---- the first number from a place on, by its word
 

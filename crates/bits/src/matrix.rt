@@ -12,7 +12,8 @@ ghost use lib.ListN.{length};
 ghost use Rattle.theory.specs.Bools.{_&_, _or_};
 ghost use Rattle.theory.specs.Range.{anyBelow};
 ghost use Rattle.word.specs.Word.{wordBits, digit};
-ghost use Rattle.bits.specs.Bits.{rowBits, has, RowIs, rowWords, cell, InRows, Put, Added, unitedRows, apart};
+ghost use Rattle.word.specs.Words.{has};
+ghost use Rattle.bits.specs.Bits.{rowBits, RowIs, rowWords, cell, InRows, Put, Added, unitedRows, apart};
 
 // Row v.
 pub fn row(words: &[u64], v: usize) -> Row

@@ -7,7 +7,8 @@ ghost use lib.ListN.{length};
 ghost use Rattle.theory.specs.Bools.{_&_, _or_};
 ghost use Rattle.theory.specs.Range.{anyBelow, count, first};
 ghost use Rattle.word.specs.Word.{wordBits};
-ghost use Rattle.bits.specs.Bits.{rowBits, rowWords, has, RowIs};
+ghost use Rattle.word.specs.Words.{has};
+ghost use Rattle.bits.specs.Bits.{rowBits, rowWords, RowIs};
 
 pub const WORDS: usize = VERTICES / 64;
 

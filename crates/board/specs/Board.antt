@@ -11,7 +11,8 @@ use Rattle.theory.specs.Passes.{Rel}
 use Rattle.theory.specs.Game.{even, Game, own}
 use Rattle.theory.specs.Rows.{united, fall, loses}
 use Rattle.table.specs.Table.{isEdge}
-use Rattle.bits.specs.Bits.{rowBits, rowWords, has, cell}
+use Rattle.word.specs.Words.{has}
+use Rattle.bits.specs.Bits.{rowBits, rowWords, cell}
 use Rattle.bits.specs.MembersLaws.{kept, Members}
 
 -- vertex w is below n, and its word from `from` on isn't the value

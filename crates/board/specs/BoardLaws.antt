@@ -19,9 +19,10 @@ use Rattle.theory.specs.OrderLaws.{anyNext-in, anyNext-out}
 use Rattle.theory.specs.Rows.{united, fall, unitedLost, fails, loses}
 use Rattle.theory.specs.RowsLaws.{any-same, fall-same, fall-none}
 use Rattle.word.specs.Word.{wordBits, digit, lowestBit, Lowest, Rest}
-use Rattle.bits.specs.Bits.{rowBits, has, RowIs, cell, Put, Added, unitedRows, apart}
+use Rattle.word.specs.Words.{has}
+use Rattle.bits.specs.Bits.{rowBits, RowIs, cell, Put, Added, unitedRows, apart}
 use Rattle.word.specs.LeftLaws.{Onward, rest-above, onward-between}
-use Rattle.bits.specs.RowLaws.{has-at}
+use Rattle.word.specs.WordsLaws.{has-at}
 use Rattle.bits.specs.MatrixLaws.{cell-base}
 use Rattle.bits.specs.MembersLaws.{kept-none, kept-skip, kept-step, members-skip, members-step}
 use Rattle.board.specs.Board.{EdgeRows, struck, Fell, oddLoss, Losses}

@@ -19,7 +19,8 @@ ghost use Rattle.theory.specs.Game.{Game};
 ghost use Rattle.theory.specs.Rows.{fall};
 ghost use Rattle.table.specs.Table.{tableEdges, gameOf};
 ghost use Rattle.table.specs.WellFormed.{WellFormed};
-ghost use Rattle.bits.specs.Bits.{has, RowIs, cell};
+ghost use Rattle.word.specs.Words.{has};
+ghost use Rattle.bits.specs.Bits.{RowIs, cell};
 ghost use Rattle.board.specs.Board.{edgeWords, EdgesTo, EdgeRows};
 
 pub const EDGE_WORDS: usize = (2 * VERTICES + 1) * WORDS;

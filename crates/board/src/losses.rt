@@ -18,7 +18,8 @@ ghost use lib.ListN.{length};
 ghost use Rattle.theory.specs.Game.{Game};
 ghost use Rattle.theory.specs.Rows.{loses};
 ghost use Rattle.word.specs.Word.{wordBits};
-ghost use Rattle.bits.specs.Bits.{rowBits, rowWords, has, RowIs, cell};
+ghost use Rattle.word.specs.Words.{has};
+ghost use Rattle.bits.specs.Bits.{rowBits, rowWords, RowIs, cell};
 ghost use Rattle.board.specs.Board.{edgeWords, EdgeRows, relationWords, struck, Fell, oddLoss, LossesTo};
 
 // What an Odd vertex v loses, where `gone` is what the rows of its successors lost. It ends early where other successors still have all of it.

@@ -9,7 +9,8 @@ use Rattle.theory.specs.Range.{anyBelow}
 use Rattle.theory.specs.Passes.{Rel}
 use Rattle.theory.specs.Rows.{mirroredBy}
 use Rattle.word.specs.Word.{wordBits, digit}
-use Rattle.bits.specs.Bits.{rowBits, has}
+use Rattle.word.specs.Words.{has}
+use Rattle.bits.specs.Bits.{rowBits}
 use Rattle.board.specs.Board.{struck}
 
 -- the pairs of p are losses too, and no row leaves those that lose something

@@ -15,8 +15,9 @@ use Rattle.theory.specs.Range.{anyBelow, first}
 use Rattle.theory.specs.RangeLaws.{any-in, any-out, any-ext, any-append}
 use Rattle.theory.specs.Rows.{mirroredBy}
 use Rattle.word.specs.Word.{Lowest, Rest}
-use Rattle.bits.specs.Bits.{rowBits, rowWords, has, RowIs, cell, Put, Added}
-use Rattle.bits.specs.RowLaws.{has-at}
+use Rattle.word.specs.Words.{has}
+use Rattle.bits.specs.Bits.{rowBits, rowWords, RowIs, cell, Put, Added}
+use Rattle.word.specs.WordsLaws.{has-at}
 use Rattle.bits.specs.MatrixLaws.{cell-row}
 use Rattle.word.specs.LeftLaws.{Left, done, or-start, or-next, or-end}
 use Rattle.bits.specs.MembersLaws.{kept, kept-start, kept-next, kept-end}

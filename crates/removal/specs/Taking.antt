@@ -7,7 +7,8 @@ use Rattle.theory.specs.Bools.{_&_}
 use Rattle.theory.specs.Range.{count, sum}
 use Rattle.theory.specs.Game.{Game}
 use Rattle.theory.specs.Rows.{fall}
-use Rattle.bits.specs.Bits.{rowBits, has, cell}
+use Rattle.word.specs.Words.{has}
+use Rattle.bits.specs.Bits.{rowBits, cell}
 use Rattle.bits.specs.MembersLaws.{kept, Members}
 use Rattle.board.specs.Board.{EdgeRows, struck}
 

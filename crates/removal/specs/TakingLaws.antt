@@ -19,7 +19,8 @@ use Rattle.theory.specs.Game.{Game}
 use Rattle.theory.specs.Rounds.{cleared}
 use Rattle.theory.specs.Rows.{fall}
 use Rattle.theory.specs.RowsLaws.{fall-same}
-use Rattle.bits.specs.Bits.{rowBits, has, RowIs, cell, Put}
+use Rattle.word.specs.Words.{has}
+use Rattle.bits.specs.Bits.{rowBits, RowIs, cell, Put}
 use Rattle.bits.specs.MembersLaws.{kept, kept-start, kept-next, members-start, members-next}
 use Rattle.board.specs.Board.{EdgeRows, struck}
 use Rattle.removal.specs.Taking.{RowTaken, TakenTo}

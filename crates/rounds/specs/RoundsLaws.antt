@@ -20,7 +20,8 @@ use Rattle.theory.specs.OrderLaws.{anyNext-in}
 use Rattle.theory.specs.Rows.{fall, loses, taken, Mirrored, AfterRound}
 use Rattle.theory.specs.RowsLaws.{fall-same, loses-same, loses-none, mirroredBy-same, mirroredBy-out, taken-in, round-start, round-next, last-count, last-left}
 use Rattle.table.specs.Table.{vertexCount, priorityAt, gameOf}
-use Rattle.bits.specs.Bits.{rowBits, has, RowIs, cell, Put, Added, unitedRows}
+use Rattle.word.specs.Words.{has}
+use Rattle.bits.specs.Bits.{rowBits, RowIs, cell, Put, Added, unitedRows}
 use Rattle.bits.specs.MatrixLaws.{cell-row}
 use Rattle.bits.specs.MembersLaws.{kept-end}
 use Rattle.board.specs.Board.{differs, EdgeRows, struck, Fell, Losses, LossesTo}

@@ -1,4 +1,6 @@
 pub mod Word
 pub mod WordLaws
+pub mod Words
+pub mod WordsLaws
 pub mod LeftLaws
 pub mod NumberLaws

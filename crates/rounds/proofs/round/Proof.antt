@@ -1,7 +1,7 @@
 use mathlib.Core.Path.{sym, _∙_}
 use native.Mathlib.Omega.{arith}
 use Rattle.bits.specs.MatrixLaws.{cell-row}
-use Rattle.bits.specs.RowLaws.{row-zero}
+use Rattle.word.specs.WordsLaws.{has-zero}
 use Rattle.bits.specs.Bits.{rowWords}
 use Rattle.rounds.specs.RoundsLaws.{round-of}
 use borrow.Author.Needs.{needs}
@@ -26,7 +26,7 @@ lose-all-requires c κs = let s = c .before .before .before .before .before .bef
       (s .pre .0 .0, fit .0, fit .1, fit .2),
       (
         (search needs, fit .3, omega (arith, s .pre .0, c .before .before .before .before .before .before .before .before .put .kept .0)),
-        λ x h. sym (c .before .before .before .before .before .before .before .before .put .ensures .here x h) ∙ row-zero rowWords x,
+        λ x h. sym (c .before .before .before .before .before .before .before .before .put .ensures .here x h) ∙ has-zero rowWords x,
       ),
     )
 

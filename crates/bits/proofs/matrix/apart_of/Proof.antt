@@ -1,8 +1,10 @@
 use mathlib.Core.Path.{refl, sym, ap, _∙_}
 use Prim.Native.Nat.{_+_, _-_, _*_, _≤_}
 use Rattle.theory.specs.Bools.{_&_}
-use Rattle.bits.specs.Bits.{rowWords, has, apart}
-use Rattle.bits.specs.RowLaws.{has-at, Filled, filled-start, filled-next, filled-end}
+use Rattle.word.specs.Words.{has}
+use Rattle.bits.specs.Bits.{rowWords, apart}
+use Rattle.word.specs.WordsLaws.{has-at}
+use Rattle.bits.specs.RowLaws.{Filled, filled-start, filled-next, filled-end}
 use borrow.Author.Needs.{needs}
 use Rattle.bits.proofs.matrix.apart_of.Statement.{statement}
 use Rattle.bits.proofs.matrix.apart_of.Tie as tie

@@ -5,7 +5,8 @@ use lib.Dec.{eqb}
 use Rattle.theory.specs.Bools.{_&_, _or_}
 use Rattle.theory.specs.RangeLaws.{any-ext}
 use Rattle.word.specs.Word.{wordBits, digit}
-use Rattle.bits.specs.Bits.{rowBits, has, apart}
+use Rattle.word.specs.Words.{has}
+use Rattle.bits.specs.Bits.{rowBits, apart}
 use Rattle.word.specs.WordLaws.{digit-zero}
 use Rattle.word.specs.LeftLaws.{Left, left-start, left-next, picked, picked-start, picked-next, picked-end}
 use borrow.Author.Needs.{needs}

@@ -5,7 +5,8 @@ use native.Mathlib.Omega.{arith}
 use Rattle.theory.specs.Bools.{_&_}
 use Rattle.theory.specs.BoolsLaws.{and-true}
 use Rattle.theory.specs.Range.{anyBelow}
-use Rattle.bits.specs.Bits.{rowWords, has, RowIs}
+use Rattle.word.specs.Words.{has}
+use Rattle.bits.specs.Bits.{rowWords, RowIs}
 use Rattle.bits.specs.MatrixLaws.{unitedTo, united-end, stripped-next}
 use borrow.Author.Needs.{needs}
 use Rattle.bits.proofs.matrix.strip.Statement.{statement}

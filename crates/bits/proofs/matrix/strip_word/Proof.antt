@@ -4,7 +4,8 @@ use Prim.Native.Nat.{_+_, _-_}
 use Rattle.theory.specs.Bools.{_&_}
 use Rattle.theory.specs.BoolsLaws.{not-out}
 use Rattle.theory.specs.RangeLaws.{any-fails}
-use Rattle.bits.specs.Bits.{rowBits, has, RowIs, cell}
+use Rattle.word.specs.Words.{has}
+use Rattle.bits.specs.Bits.{rowBits, RowIs, cell}
 use Rattle.word.specs.LeftLaws.{Left, left-start, left-next, done, not-start, not-next, not-end, not-early}
 use borrow.Author.Needs.{needs}
 use Rattle.bits.proofs.matrix.strip_word.Statement.{statement}

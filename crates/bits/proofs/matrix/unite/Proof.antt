@@ -3,7 +3,7 @@ use Prim.Native.Nat.{_-_, _≤_}
 use native.Mathlib.Omega.{arith}
 use Rattle.theory.specs.Range.{anyBelow}
 use Rattle.bits.specs.Bits.{rowWords, RowIs}
-use Rattle.bits.specs.RowLaws.{row-zero}
+use Rattle.word.specs.WordsLaws.{has-zero}
 use Rattle.bits.specs.MatrixLaws.{unitedTo, united-next, united-end}
 use borrow.Author.Needs.{needs}
 use Rattle.bits.proofs.matrix.unite.Statement.{statement}
@@ -17,7 +17,7 @@ abbrev μ-loop : tie.MeasureT-loop
 
 loop-holds : tie.Need-loop-holds Inv-loop μ-loop
 unfolding anyBelow
-loop-holds c = (search needs, λ x h. row-zero rowWords x)
+loop-holds c = (search needs, λ x h. has-zero rowWords x)
 
 mul-unite-word : tie.Need-mul-unite-word Inv-loop μ-loop
 mul-unite-word c = search needs

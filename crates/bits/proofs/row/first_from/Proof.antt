@@ -3,7 +3,8 @@ use Prim.Native.Nat.{_≤_, _-_}
 use native.Mathlib.Omega.{arith}
 use Rattle.theory.specs.Range.{first}
 use Rattle.theory.specs.RangeLaws.{first-end}
-use Rattle.bits.specs.Bits.{rowBits, has}
+use Rattle.word.specs.Words.{has}
+use Rattle.bits.specs.Bits.{rowBits}
 use Rattle.bits.specs.RowLaws.{first-here, first-later}
 use borrow.Author.Needs.{needs}
 use Rattle.bits.proofs.row.first_from.Statement.{statement}

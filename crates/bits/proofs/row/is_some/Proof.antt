@@ -6,7 +6,8 @@ use lib.ListN.{getD}
 use Rattle.theory.specs.Range.{anyBelow}
 use Rattle.theory.specs.RangeLaws.{any-ext}
 use Rattle.word.specs.Word.{wordBits, digit}
-use Rattle.bits.specs.Bits.{rowWords, has}
+use Rattle.word.specs.Words.{has}
+use Rattle.bits.specs.Bits.{rowWords}
 use Rattle.word.specs.WordLaws.{digit-or, some-none}
 use Rattle.bits.specs.RowLaws.{any-words, any-or}
 use borrow.Author.Needs.{needs}

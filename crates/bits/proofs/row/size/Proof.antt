@@ -5,7 +5,8 @@ use lib.ListN.{getD}
 use Rattle.theory.specs.Range.{count}
 use Rattle.theory.specs.CountLaws.{count-le}
 use Rattle.word.specs.Word.{wordBits, digit}
-use Rattle.bits.specs.Bits.{rowWords, has}
+use Rattle.word.specs.Words.{has}
+use Rattle.bits.specs.Bits.{rowWords}
 use Rattle.bits.specs.RowLaws.{count-words}
 use borrow.Author.Needs.{needs}
 use Rattle.bits.proofs.row.size.Statement.{statement}

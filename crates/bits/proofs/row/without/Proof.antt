@@ -2,9 +2,11 @@ use mathlib.Core.Path.{refl, sym, ap₂, _∙_}
 use mathlib.Core.Bool.{not}
 use Prim.Native.Nat.{_-_, _≤_}
 use Rattle.theory.specs.Bools.{_&_}
-use Rattle.bits.specs.Bits.{rowWords, has}
+use Rattle.word.specs.Words.{has}
+use Rattle.bits.specs.Bits.{rowWords}
 use Rattle.word.specs.WordLaws.{digit-less}
-use Rattle.bits.specs.RowLaws.{has-at, Filled, filled-start, filled-next, filled-end}
+use Rattle.word.specs.WordsLaws.{has-at}
+use Rattle.bits.specs.RowLaws.{Filled, filled-start, filled-next, filled-end}
 use borrow.Author.Needs.{needs}
 use Rattle.bits.proofs.row.without.Statement.{statement}
 use Rattle.bits.proofs.row.without.Tie as tie

@@ -1,7 +1,8 @@
 use mathlib.Core.Path.{ap, ap₂, _∙_}
 use mathlib.Core.Bool.{not}
 use Rattle.theory.specs.Bools.{_&_, _or_}
-use Rattle.bits.specs.Bits.{has, apart}
+use Rattle.word.specs.Words.{has}
+use Rattle.bits.specs.Bits.{apart}
 use Rattle.board.specs.BoardLaws.{fall-rows}
 use borrow.Author.Needs.{needs}
 use Rattle.board.proofs.edges.fall_of.Statement.{statement}

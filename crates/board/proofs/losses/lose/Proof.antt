@@ -1,6 +1,7 @@
 use mathlib.Core.Path.{sym, ap, ap₂, _∙_}
 use Rattle.theory.specs.Bools.{_&_}
-use Rattle.bits.specs.Bits.{has, RowIs, cell}
+use Rattle.word.specs.Words.{has}
+use Rattle.bits.specs.Bits.{RowIs, cell}
 use Rattle.board.specs.BoardLaws.{loses-odd, loses-even}
 use borrow.Author.Needs.{needs}
 use Rattle.board.proofs.losses.lose.Statement.{statement}

@@ -5,8 +5,9 @@ use Rattle.theory.specs.Bools.{_&_}
 use Rattle.theory.specs.BoolsLaws.{not-out}
 use Rattle.theory.specs.Game.{Game}
 use Rattle.theory.specs.Rows.{united}
-use Rattle.bits.specs.Bits.{rowBits, rowWords, has, cell}
-use Rattle.bits.specs.RowLaws.{row-zero}
+use Rattle.word.specs.Words.{has}
+use Rattle.bits.specs.Bits.{rowBits, rowWords, cell}
+use Rattle.word.specs.WordsLaws.{has-zero}
 use Rattle.board.specs.Board.{EdgeRows}
 use Rattle.board.specs.BoardLaws.{united-is, odd-none, odd-some}
 use borrow.Author.Needs.{needs}
@@ -36,7 +37,7 @@ returns : tie.Need-returns
 returns c = let u = c .before .before in
     let a = start u .args in
     λ G s x h.
-    row-zero rowWords x
+    has-zero rowWords x
     ∙ sym (odd-none G (a .edges .now) s (a .related .now) (a .v) (start u .pre .2) (a .gone) _ (less u G s)
     (sym (c .before .is-some .ensures) ∙ not-out (c .if1 .taken)) x)
 

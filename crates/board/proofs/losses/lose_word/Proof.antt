@@ -4,9 +4,9 @@ use Prim.Native.Nat.{_+_, _*_}
 use native.Mathlib.Omega.{arith}
 use lib.ListN.{length, getD}
 use Rattle.word.specs.Word.{lowestBit}
-use Rattle.bits.specs.Bits.{has}
+use Rattle.word.specs.Words.{has}
 use Rattle.word.specs.LeftLaws.{Onward, onward-start, onward-here, onward-next, lowest-none}
-use Rattle.bits.specs.RowLaws.{has-at}
+use Rattle.word.specs.WordsLaws.{has-at}
 use Rattle.board.specs.Board.{LossesTo}
 use Rattle.board.specs.BoardLaws.{losses-step, word-start, word-next}
 use borrow.Author.Needs.{needs}

@@ -3,7 +3,8 @@ use Prim.Native.Nat.{_+_, _-_}
 use native.Mathlib.Omega.{arith}
 use lib.ListN.{length}
 use Rattle.theory.specs.RangeLaws.{first-ge}
-use Rattle.bits.specs.Bits.{rowBits, has}
+use Rattle.word.specs.Words.{has}
+use Rattle.bits.specs.Bits.{rowBits}
 use Rattle.bits.specs.MembersLaws.{Reached, reached-start, reached-next}
 use Rattle.removal.specs.MirroringLaws.{MirrorTo, mirror-start, mirror-next, mirror-end, mirror-none}
 use borrow.Author.Needs.{needs}

@@ -1,6 +1,6 @@
 use mathlib.Core.Path.{sym, _∙_}
 use Rattle.bits.specs.Bits.{rowWords}
-use Rattle.bits.specs.RowLaws.{row-zero}
+use Rattle.word.specs.WordsLaws.{has-zero}
 use Rattle.bits.specs.MatrixLaws.{cell-row}
 use Rattle.removal.specs.MirroringLaws.{pair-added, pair-new}
 use borrow.Author.Needs.{needs}
@@ -42,7 +42,7 @@ same-length-4 c = search needs
 returns-2 : tie.Need-returns-2
 returns-2 c = let a = c .before .before .before .before .before .before .before .before .before .before .before .before .before .before .before .before .before .args in
     let off = sym (c .before .before .before .before .before .before .before .before .before .before .before .before .before .holds .ensures) ∙ c .before .before .before .before .before .before .before .before .before .before .before .before .if1 .left in
-    pair-new _ _ _ _ _ _ _ _ (c .before .before .before .before .before .before .before .before .before .before .before .before .before .before .before .before .before .pre .2) (sym (cell-row (a .losing .now) (a .w)) ∙ off) (row-zero rowWords) (c .before .before .before .before .before .before .before .before .before .before .put .ensures) (c .before .before .before .before .before .before .add2 .ensures) (c .before .before .add3 .ensures)
+    pair-new _ _ _ _ _ _ _ _ (c .before .before .before .before .before .before .before .before .before .before .before .before .before .before .before .before .before .pre .2) (sym (cell-row (a .losing .now) (a .w)) ∙ off) (has-zero rowWords) (c .before .before .before .before .before .before .before .before .before .before .put .ensures) (c .before .before .before .before .before .before .add2 .ensures) (c .before .before .add3 .ensures)
 
 pub lose-pair-spec : {M : Type 1} → statement M
 lose-pair-spec =

@@ -6,7 +6,8 @@ use Rattle.theory.specs.Range.{count}
 use Rattle.theory.specs.RangeLaws.{first-ge}
 use Rattle.theory.specs.CountLaws.{count-le}
 use Rattle.theory.specs.SumLaws.{sum-le}
-use Rattle.bits.specs.Bits.{rowBits, has, cell}
+use Rattle.word.specs.Words.{has}
+use Rattle.bits.specs.Bits.{rowBits, cell}
 use Rattle.bits.specs.MembersLaws.{Reached, reached-start, reached-next}
 use Rattle.board.specs.Board.{struck}
 use Rattle.removal.specs.Taking.{TakenTo}
