@@ -63,7 +63,7 @@ impl Text {
     }
 
     fn tables(&mut self, name: &str, game: &[u16], classes: usize, output: usize) {
-        let mut memory = sevens(36, 36, classes, output);
+        let mut memory = sevens(5, 5, classes, output);
         let answer = match name.ends_with("_quotient") {
             true => self.oracle.quotient(game, &mut memory),
             false => self.oracle.reduce(game, &mut memory),
@@ -89,13 +89,13 @@ fn sevens(marks: usize, spare: usize, classes: usize, output: usize) -> Memory {
     Memory { marks, spare, classes, output, ..Memory::default() }
 }
 
-/// 256 vertices and 4,096 edges: 16 from each vertex v, to v + 0, .., v + 15, modulo 256.
+/// 512 vertices and 4,096 edges: 8 from each vertex v, to v + 0, .., v + 7, modulo 512.
 fn largest() -> Vec<u16> {
-    let mut game = vec![0; 8706];
-    (game[0], game[1]) = (256, 4096);
+    let mut game = vec![0; 9218];
+    (game[0], game[1]) = (512, 4096);
     for j in 0..4096 {
-        game[514 + j] = (j % 256) as u16;
-        game[4610 + j] = ((j % 256 + j / 256) % 256) as u16;
+        game[1026 + j] = (j % 512) as u16;
+        game[5122 + j] = ((j % 512 + j / 512) % 512) as u16;
     }
     game
 }
@@ -124,7 +124,7 @@ fn reading(text: &mut Text) {
     text.reads("sizes_alone", &[1, 1]);
     text.reads("one_word_short", &[1, 1, 1, 1, 0]);
     text.reads("one_word_long", &[1, 1, 1, 1, 0, 0, 0]);
-    text.reads("both_sizes_too_large", &[257, 4097]);
+    text.reads("both_sizes_too_large", &[513, 4097]);
     text.reads("late_owner_before_early_source", &[2, 2, 0, 0, 0, 2, 2, 1, 0, 0]);
     text.reads("late_source_before_early_target", &[2, 2, 0, 0, 0, 0, 0, 2, 2, 0]);
     text.reads("target_at_n", &[2, 2, 0, 0, 0, 0, 0, 1, 1, 2]);
@@ -137,16 +137,16 @@ fn reading(text: &mut Text) {
 /// The largest table with one word changed.
 fn limits(text: &mut Text) {
     let changes = [
-        ("n_256_m_4096", 0, 256),
-        ("n_257", 0, 257),
+        ("n_512_m_4096", 0, 512),
+        ("n_513", 0, 513),
         ("n_0", 0, 0),
         ("m_4097", 1, 4097),
         ("m_4095", 1, 4095),
         ("priority_65535", 2, 65535),
-        ("last_owner_2", 513, 2),
-        ("first_source_256", 514, 256),
-        ("last_target_256", 8705, 256),
-        ("last_edge_repeats", 8705, 0),
+        ("last_owner_2", 1025, 2),
+        ("first_source_512", 1026, 512),
+        ("last_target_512", 9217, 512),
+        ("last_edge_repeats", 9217, 0),
     ];
     for (name, at, word) in changes {
         let mut game = largest();
@@ -154,32 +154,32 @@ fn limits(text: &mut Text) {
         text.reads(name, &game);
     }
     text.reads("equal_edges", &[&[1, 4096, 0, 0][..], &[0; 8192]].concat());
-    text.kinds(&[0, 1, 8, 9, 10, 11, 16, 17, 20, 21, 24, 25, 30, 31, 99, 100, u32::MAX]);
+    text.kinds(&[0, 1, 8, 9, 10, 11, 16, 17, 20, 21, 24, 25, 30, 31, 41, 99, 100, u32::MAX]);
 }
 
 fn orders(text: &mut Text) {
     text.orders("P1_order", &P1, 2, 1);
-    text.orders("B_order", &B, 10, 11);
-    text.orders("C_order", &C, 25, 25);
-    text.orders("D_order", &D, 36, 37);
-    text.orders("mixed_owners", &MIXED_OWNERS, 16, 16);
+    text.orders("B_order", &B, 3, 4);
+    text.orders("C_order", &C, 4, 4);
+    text.orders("D_order", &D, 5, 6);
+    text.orders("mixed_owners", &MIXED_OWNERS, 2, 2);
     text.orders("order_refused_game", &LACKING, 1, 1);
-    text.orders("marks_one_byte_short", &B, 8, 8);
-    text.orders("spare_one_byte_short", &B, 9, 8);
+    text.orders("marks_one_byte_short", &B, 1, 1);
+    text.orders("spare_one_byte_short", &B, 2, 1);
 }
 
 fn relations(text: &mut Text) {
-    text.relates("B_order_accepted", &B, &[1, 0, 1, 0, 1, 0, 1, 0, 1]);
-    text.relates("empty_relation", &B, &[0; 9]);
-    text.relates("bytes_beyond_ignored", &B, &[0, 0, 0, 0, 0, 0, 0, 0, 0, 9]);
+    text.relates("B_order_accepted", &B, &[85, 1]);
+    text.relates("empty_relation", &B, &[0; 2]);
+    text.relates("bytes_beyond_ignored", &B, &[0, 0, 9]);
+    text.relates("full_last_byte", &MIXED_OWNERS, &[49, 132]);
     text.relates("relation_refused_game", &LACKING, &[1]);
-    text.relates("relation_short", &B, &[2; 8]);
-    text.relates("late_byte_before_early_pair", &B, &[0, 1, 0, 0, 0, 0, 0, 0, 2]);
-    text.relates("unequal_priorities", &B, &[0, 1, 0, 1, 0, 0, 0, 0, 0]);
-    text.relates("missing_pair", &B, &[1, 0, 0, 0, 0, 0, 0, 0, 0]);
-    let mut only = [0; 25];
-    only[11] = 1;
-    text.relates("P11", &C, &only);
+    text.relates("relation_short", &B, &[2; 1]);
+    text.relates("unused_bit_before_early_pair", &B, &[2, 128]);
+    text.relates("first_unused_bit", &B, &[85, 3]);
+    text.relates("unequal_priorities", &B, &[10, 0]);
+    text.relates("missing_pair", &B, &[1, 0]);
+    text.relates("P11", &C, &[0, 8, 0, 0]);
 }
 
 fn plans(text: &mut Text) {
@@ -244,7 +244,7 @@ fn cases_are_the_oracles() {
 fn mixed_owners_tell_some_from_every() {
     let lines = |oracle| {
         let mut text = Text { oracle, lines: Vec::new() };
-        text.orders("mixed_owners", &MIXED_OWNERS, 16, 16);
+        text.orders("mixed_owners", &MIXED_OWNERS, 2, 2);
         text.lines
     };
     assert_ne!(lines(Oracle::exact()), lines(Oracle::with(Trap::MixedRowsExchanged)));

@@ -1,29 +1,18 @@
--- What the search reads and leaves: the flags of the edges, and the plan that it found.
+-- What the search leaves: the plan that it found.
 use mathlib.Core.Path.{_≡_, refl, ap, _∙_}
 use mathlib.Core.Logic.{inl, inr}
-use mathlib.Core.Bool.{Bool, true, false}
 use mathlib.Core.List.{List, map}
-use Prim.Native.Nat.{ℕ, _≤_, _<_}
-use native.Mathlib.Nat.{mul-le-mul}
+use Prim.Native.Nat.{ℕ, _<_}
 use native.Mathlib.Decide.{decLt}
 use native.Mathlib.Omega.{arith}
-use lib.Dec.{eqb}
 use lib.ListN.{length, getD, length-map}
-use Rattle.theory.specs.Bools.{bit}
-use Rattle.theory.specs.Range.{anyBelow}
 use Rattle.theory.specs.ListLaws.{length-tabulate, map-tabulate}
 use Rattle.theory.specs.Plan.{Plan}
 use Rattle.theory.specs.BreadthFirst.{Found}
 use Rattle.theory.specs.Carry.{foundFrom, carried}
-use Rattle.table.specs.Limits.{pairLimit, positionLimit, linkLimit}
-use Rattle.table.specs.Table.{vertexCount, tableEdges, isEdge, playerOf, gameOf}
-use Rattle.table.specs.WellFormed.{WellFormed}
-use Rattle.table.specs.Flags.{Sized, EndsInside, edgeNumber, Flagged}
-use Rattle.table.specs.FlagsLaws.{pair-lt, pair-flag}
+use Rattle.table.specs.Limits.{positionLimit, linkLimit}
+use Rattle.table.specs.Table.{playerOf, gameOf}
 use Rattle.table.specs.Verdict.{Answer}
-use Rattle.pairs.specs.Marks.{isMark}
-use Rattle.pairs.specs.MarksLaws.{relation-mark}
-use Rattle.classes.specs.Numbering.{Holding}
 use Rattle.replies.specs.Replies.{seated, needed}
 use Rattle.pair_search.specs.Chains.{pairsIn}
 use Rattle.pair_search.specs.PairsInLaws.{length-pairsIn}
@@ -32,33 +21,6 @@ use Rattle.pair_search.specs.Search.{Over, Ran}
 use Rattle.arrival.specs.PlanWords.{planWords, planCounts, sizeRows}
 use Rattle.arrival.specs.Arrival.{planBy, carriedSeated, Arrived}
 use Rattle.arrival.specs.OutputLaws.{arrived-many, many-refused, many-old}
-
--- ---- the flags of the edges
-
-pub game-sized : {game : List ℕ} → WellFormed game → Sized game (vertexCount game) (tableEdges game)
-game-sized w = record { vertices = refl; edges = refl; fewVertices = w .vertices; fewEdges = w .edges; size = w .size }
-
-pub game-inside : {game : List ℕ} → WellFormed game → EndsInside game
-game-inside w = record { sources = w .sources; targets = w .targets }
-
-bit-one : (b : Bool) → eqb (bit b) 1 ≡ b
-unfolding bit
-bit-one true = refl
-bit-one false = refl
-
-pub flags-hold : {game : List ℕ} → WellFormed game → (flags : List ℕ) → pairLimit ≤ length flags
-    → Flagged 0 1 (edgeNumber game) (tableEdges game) flags → Holding (vertexCount game) (gameOf game .edge) flags
-unfolding gameOf isMark
-flags-hold {game} w flags long f = record {
-  long = omega (arith, mul-le-mul (w .vertices) (w .vertices));
-  marked = λ v x hv hx.
-      relation-mark (vertexCount game) flags v x
-      ∙ ap (λ (b : ℕ). eqb b 1)
-      (pair-flag game flags (tableEdges game) (w .targets) f v x hx (omega (arith, pair-lt (vertexCount game) v x (w .vertices) hv hx)))
-      ∙ bit-one (anyBelow (tableEdges game) (isEdge game v x));
-}
-
--- ---- the plan that was found
 
 -- the plan of what is found
 abbrev planOfFound : Found → Plan

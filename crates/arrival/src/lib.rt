@@ -12,7 +12,7 @@ use seats::seat_positions;
 use table::Refusal;
 use table::flags::flag_edges;
 use table::limits::LINKS;
-use table::limits::PAIRS;
+use table::limits::PAIR_WORDS;
 use table::limits::POSITIONS;
 ghost use Prim.Native.Nat.{_≤_, _<_};
 ghost use Rattle.theory.specs.Carry.{foundFrom};
@@ -35,7 +35,7 @@ pub enum Carrying {
     Refused(Refusal),
 }
 
-// The search. Flags of the edges and chains of the plan's links are in local arrays of 106,496 bytes.
+// The search. Flags of the edges and chains of the plan's links are in local arrays of 73,728 bytes.
 fn search(
     game: &[u16],
     player: u32,
@@ -54,7 +54,7 @@ fn search(
     requires { ⌜ (y < vertexCount (now game)) × Fresh (positionCount (now plan)) (now olds) (now vertices) (now heads) (now nexts) (now sources) (now targets) ⌝ }
     ensures { λ r. ⌜ Ran (foundFrom (playerOf player) (gameOf (now (game .entry))) (gameOf (now (game .entry))) (needed (now (game .entry)) player) (seated (now (plan .entry)) (now (seats .entry))) y) (memory (now (olds .exit)) (now (vertices .exit)) (now (heads .exit)) (now (nexts .exit)) (now (sources .exit)) (now (targets .exit)) (r .pairs) (r .links)) ⌝ }
 {
-    let mut edges = [0u8; PAIRS];
+    let mut edges = [0u64; PAIR_WORDS];
     flag_edges(game, game[0] as usize, game[1] as usize, &mut edges);
     let mut firsts = [0u16; POSITIONS];
     let mut follow = [0u16; LINKS];

@@ -9,7 +9,7 @@ ghost use lib.ListN.{length};
 ghost use Rattle.links.specs.PlanTable.{positionCount};
 ghost use Rattle.arrival.specs.Arrival.{Seats, Carriable};
 
-// The lowest member of each position's class. The classes and their lowest members are in local arrays of 1,024 bytes.
+// The lowest member of each position's class. The classes and their lowest members are in local arrays of 2,048 bytes.
 fn seat_classes(game: &[u16], plan: &[u16], marks: &[u8], seats: &mut [u16])
     requires { ⌜ Carriable true (now game) (now plan) (now marks) ⌝ }
     requires { ⌜ positionCount (now plan) ≤ length (now seats) ⌝ }

@@ -25,39 +25,20 @@ fn orders(name: &[u8], game: &[u16], marks: &mut [u8], spare: &mut [u8]) {
 
 pub fn games() {
     orders(b"P1_order", &[1, 1, 1, 1, 0, 0], &mut [7; 2], &mut [7; 1]);
-    orders(b"B_order", &tables::game_b(), &mut [7; 10], &mut [7; 11]);
-    orders(b"C_order", &tables::game_c(), &mut [7; 25], &mut [7; 25]);
-    orders(b"D_order", &tables::game_d(), &mut [7; 36], &mut [7; 37]);
+    orders(b"B_order", &tables::game_b(), &mut [7; 3], &mut [7; 4]);
+    orders(b"C_order", &tables::game_c(), &mut [7; 4], &mut [7; 4]);
+    orders(b"D_order", &tables::game_d(), &mut [7; 5], &mut [7; 6]);
 }
 
 // 0 is Even's and 1 is Odd's; both go to 2 and to 3, and only (2, 2) and (3, 3) are marked there. Not every pair of successors is marked,
 // so 0 isn't below 1; some is, so 1 is below 0. With "some" and "every" exchanged in either row, that pair's mark is another.
 pub fn mixed_owners() {
-    let game = [
-        4u16,
-        6,
-        0,
-        0,
-        1,
-        2,
-        0,
-        1,
-        0,
-        0,
-        0,
-        0,
-        1,
-        1,
-        2,
-        3,
-        2,
-        3,
-        2,
-        3,
-        2,
-        3,
-    ];
-    orders(b"mixed_owners", &game, &mut [7; 16], &mut [7; 16]);
+    orders(
+        b"mixed_owners",
+        &tables::game_mixed(),
+        &mut [7; 2],
+        &mut [7; 2],
+    );
 }
 
 pub fn short_buffers() {
@@ -70,14 +51,14 @@ pub fn short_buffers() {
     orders(
         b"marks_one_byte_short",
         &tables::game_b(),
-        &mut [7; 8],
-        &mut [7; 8],
+        &mut [7; 1],
+        &mut [7; 1],
     );
     orders(
         b"spare_one_byte_short",
         &tables::game_b(),
-        &mut [7; 9],
-        &mut [7; 8],
+        &mut [7; 2],
+        &mut [7; 1],
     );
 }
 
@@ -94,24 +75,21 @@ fn accepts(name: &[u8], game: &[u16], marks: &[u8]) {
 
 pub fn good_relations() {
     let b = tables::game_b();
-    accepts(b"B_order_accepted", &b, &[1, 0, 1, 0, 1, 0, 1, 0, 1]);
-    accepts(b"empty_relation", &b, &[0; 9]);
-    accepts(b"bytes_beyond_ignored", &b, &[0, 0, 0, 0, 0, 0, 0, 0, 0, 9]);
+    accepts(b"B_order_accepted", &b, &[85, 1]);
+    accepts(b"empty_relation", &b, &[0; 2]);
+    accepts(b"bytes_beyond_ignored", &b, &[0, 0, 9]);
+    // 16 marks leave no unused bit
+    accepts(b"full_last_byte", &tables::game_mixed(), &[49, 132]);
 }
 
 pub fn bad_relations() {
     let b = tables::game_b();
     accepts(b"relation_refused_game", &[1, 0, 0, 0], &[1]);
-    accepts(b"relation_short", &b, &[2; 8]);
-    accepts(
-        b"late_byte_before_early_pair",
-        &b,
-        &[0, 1, 0, 0, 0, 0, 0, 0, 2],
-    );
-    accepts(b"unequal_priorities", &b, &[0, 1, 0, 1, 0, 0, 0, 0, 0]);
-    accepts(b"missing_pair", &b, &[1, 0, 0, 0, 0, 0, 0, 0, 0]);
-    // the pair (2, 1) alone
-    let mut marks = [0u8; 25];
-    marks[11] = 1;
-    accepts(b"P11", &tables::game_c(), &marks);
+    accepts(b"relation_short", &b, &[2; 1]);
+    accepts(b"unused_bit_before_early_pair", &b, &[2, 128]);
+    accepts(b"first_unused_bit", &b, &[85, 3]);
+    accepts(b"unequal_priorities", &b, &[10, 0]);
+    accepts(b"missing_pair", &b, &[1, 0]);
+    // the pair (2, 1) alone: mark 11
+    accepts(b"P11", &tables::game_c(), &[0, 8, 0, 0]);
 }

@@ -20,7 +20,7 @@ fn reads(name: &[u8], game: &[u16]) {
 
 // The largest table, with one word changed.
 fn reads_largest_with(name: &[u8], at: usize, word: u16) {
-    let mut game = [0u16; 8706];
+    let mut game = [0u16; 9218];
     tables::largest(&mut game);
     tables::put(&mut game, at, word);
     reads(name, &game);
@@ -54,7 +54,7 @@ pub fn bad_sizes() {
     reads(b"sizes_alone", &[1, 1]);
     reads(b"one_word_short", &[1, 1, 1, 1, 0]);
     reads(b"one_word_long", &[1, 1, 1, 1, 0, 0, 0]);
-    reads(b"both_sizes_too_large", &[257, 4097]);
+    reads(b"both_sizes_too_large", &[513, 4097]);
 }
 
 // Refusals 5 to 8.
@@ -78,16 +78,16 @@ pub fn bad_words() {
 }
 
 pub fn limits() {
-    reads_largest_with(b"n_256_m_4096", 0, 256);
-    reads_largest_with(b"n_257", 0, 257);
+    reads_largest_with(b"n_512_m_4096", 0, 512);
+    reads_largest_with(b"n_513", 0, 513);
     reads_largest_with(b"n_0", 0, 0);
     reads_largest_with(b"m_4097", 1, 4097);
     reads_largest_with(b"m_4095", 1, 4095);
     reads_largest_with(b"priority_65535", 2, 65535);
-    reads_largest_with(b"last_owner_2", 513, 2);
-    reads_largest_with(b"first_source_256", 514, 256);
-    reads_largest_with(b"last_target_256", 8705, 256);
-    reads_largest_with(b"last_edge_repeats", 8705, 0);
+    reads_largest_with(b"last_owner_2", 1025, 2);
+    reads_largest_with(b"first_source_512", 1026, 512);
+    reads_largest_with(b"last_target_512", 9217, 512);
+    reads_largest_with(b"last_edge_repeats", 9217, 0);
     reads_equal_edges();
 }
 
@@ -113,6 +113,7 @@ pub fn kinds() {
     kind(25);
     kind(30);
     kind(31);
+    kind(41);
     kind(99);
     kind(100);
     kind(4294967295);

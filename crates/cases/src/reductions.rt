@@ -25,12 +25,12 @@ fn tabulates(name: &[u8], verdict: Tabulation, classes: &[u16], output: &[u16]) 
 }
 
 fn reduces(name: &[u8], game: &[u16], classes: &mut [u16], output: &mut [u16]) {
-    let verdict = reduction::write_reduced(game, &mut [7; 36], &mut [7; 36], classes, output);
+    let verdict = reduction::write_reduced(game, &mut [7; 5], &mut [7; 5], classes, output);
     tabulates(name, verdict, classes, output);
 }
 
 fn divides(name: &[u8], game: &[u16], classes: &mut [u16], output: &mut [u16]) {
-    let verdict = reduction::write_quotient(game, &mut [7; 36], &mut [7; 36], classes, output);
+    let verdict = reduction::write_quotient(game, &mut [7; 5], &mut [7; 5], classes, output);
     tabulates(name, verdict, classes, output);
 }
 

@@ -1,4 +1,5 @@
-// Tables that the cases share: document 01's games B, C and D, D with an edge doubled, its plan for game C, and the largest game.
+// Tables that the cases share: document 01's games B, C and D, D with an edge doubled, its plan for game C, a game of both players, and the
+// largest game.
 ghost use mathlib.Core.Path.{_≡_};
 ghost use lib.ListN.{length};
 
@@ -115,16 +116,44 @@ pub fn game_d_doubled() -> [u16; 32] {
     ]
 }
 
-// 256 vertices and 4,096 edges: 16 from each vertex v, to v + 0, .., v + 15, modulo 256.
+// 0 is Even's, 1 is Odd's; both go to 2 and to 3, which stay.
+pub fn game_mixed() -> [u16; 22] {
+    [
+        4,
+        6,
+        0,
+        0,
+        1,
+        2,
+        0,
+        1,
+        0,
+        0,
+        0,
+        0,
+        1,
+        1,
+        2,
+        3,
+        2,
+        3,
+        2,
+        3,
+        2,
+        3,
+    ]
+}
+
+// 512 vertices and 4,096 edges: 8 from each vertex v, to v + 0, .., v + 7, modulo 512.
 pub fn largest(game: &mut [u16])
-    requires { ⌜ length (now game) ≡ 8706 ⌝ }
+    requires { ⌜ length (now game) ≡ 9218 ⌝ }
 {
-    game[0] = 256;
+    game[0] = 512;
     game[1] = 4096;
     let mut j = 0;
     while j < 4096 {
-        game[514 + j] = (j % 256) as u16;
-        game[4610 + j] = ((j % 256 + j / 256) % 256) as u16;
+        game[1026 + j] = (j % 512) as u16;
+        game[5122 + j] = ((j % 512 + j / 512) % 512) as u16;
         j += 1;
     }
 }

@@ -18,7 +18,8 @@ use Rattle.table.specs.Table.{gameOf, playerOf, isEdge}
 use Rattle.table.specs.Verdict.{Answer, accepted, judge, Clean, written, after}
 use Rattle.table.specs.VerdictLaws.{judge-accepted}
 use Rattle.table.specs.Reading.{lacksEdge, firstOwner, firstEnd, firstLacking, gameRowsBy}
-use Rattle.pairs.specs.Marks.{bytes}
+use Rattle.word.specs.Word.{digit, number}
+use Rattle.pairs.specs.Marks.{isMark, byteOf, bytes}
 use Rattle.table.specs.TableWords.{ownerWord, tableWords}
 use Rattle.order.specs.OrderCall.{orderRows}
 use Rattle.classes.specs.ClassesCall.{classRows, classTotal, classWords}
@@ -34,15 +35,9 @@ gameD =
     ∷ 0 ∷ 0 ∷ 1 ∷ 2 ∷ 2 ∷ 3 ∷ 4 ∷ 5
     ∷ 1 ∷ 2 ∷ 3 ∷ 3 ∷ 4 ∷ 3 ∷ 4 ∷ 2 ∷ []
 
+-- mark rows 100001, 011000, 001000, 000100, 000010, 100001
 abbrev marksD : List ℕ
-marksD =
-    1 ∷ 0 ∷ 0 ∷ 0 ∷ 0 ∷ 1
-    ∷ 0 ∷ 1 ∷ 1 ∷ 0 ∷ 0 ∷ 0
-    ∷ 0 ∷ 0 ∷ 1 ∷ 0 ∷ 0 ∷ 0
-    ∷ 0 ∷ 0 ∷ 0 ∷ 1 ∷ 0 ∷ 0
-    ∷ 0 ∷ 0 ∷ 0 ∷ 0 ∷ 1 ∷ 0
-    ∷ 1 ∷ 0 ∷ 0 ∷ 0 ∷ 0 ∷ 1
-    ∷ []
+marksD = 161 ∷ 65 ∷ 32 ∷ 80 ∷ 8 ∷ []
 
 abbrev classesD : List ℕ
 classesD = 0 ∷ 1 ∷ 2 ∷ 3 ∷ 4 ∷ 0 ∷ []
@@ -59,8 +54,8 @@ abbrev answerD : Answer
 answerD = accepted (5 ∷ 5 ∷ 6 ∷ [])
 
 -- what the reduced-game call does with D, computed
-pub callD : TableCall reduced gameD (replicate 36 9) (replicate 36 9) (replicate 6 9) (replicate 30 9) answerD marksD marksD classesD outputD
-unfolding compute gameOf playerOf isEdge judge written after gameRowsBy firstOwner firstEnd firstLacking lacksEdge bytes ownerWord tableWords classRows tableRows classTotal classWords
+pub callD : TableCall reduced gameD (replicate 5 9) (replicate 5 9) (replicate 6 9) (replicate 30 9) answerD marksD marksD classesD outputD
+unfolding compute gameOf playerOf isEdge judge written after gameRowsBy firstOwner firstEnd firstLacking lacksEdge number byteOf bytes ownerWord tableWords classRows tableRows classTotal classWords
 callD = record {
   verdict = refl;
   marks-after = refl;
@@ -79,9 +74,9 @@ pub won-5 : Won even (gameOf gameD) 5
 won-5 =
     table-winner reduced-faithful callD 5 5 6 refl even 5 (omega arith) .1 (classPlan, classPlan-wins)
 
--- ---- from vertex 0 up to vertex 5, along byte 5 of the marks
+-- ---- from vertex 0 up to vertex 5, along mark 5
 
-passedD : Clean (tableRows gameD (replicate 36 9) (replicate 36 9) (replicate 6 9) (replicate 30 9))
+passedD : Clean (tableRows gameD (replicate 5 9) (replicate 5 9) (replicate 6 9) (replicate 30 9))
 passedD = judge-accepted _ _ _ (sym (callD .verdict)) .0
 
 plan-0 : Wins even (gameOf gameD) classPlan 0
@@ -89,23 +84,25 @@ unfolding compute gameOf playerOf isEdge classPlan
 plan-0 = surely-wins even _ classPlan 0 refl
 
 pub up-5 : Won even (gameOf gameD) 5
+unfolding digit isMark
 up-5 = even-up (table-leaves-marks callD) passedD 0 5 (omega arith) (omega arith) refl (classPlan, plan-0)
 
--- ---- a game of Odd's: 0 has the edge of 1 and one more, so 0 is below 1; from vertex 1 down to vertex 0, along byte 1
+-- ---- a game of Odd's: 0 has the edge of 1 and one more, so 0 is below 1; from vertex 1 down to vertex 0, along mark 1
 
 -- 4 5 / 2 2 1 4 / 1 1 0 0 / 0 0 1 2 3 / 2 3 2 2 3
 abbrev pub gameO : List ℕ
 gameO = 4 ∷ 5 ∷ 2 ∷ 2 ∷ 1 ∷ 4 ∷ 1 ∷ 1 ∷ 0 ∷ 0 ∷ 0 ∷ 0 ∷ 1 ∷ 2 ∷ 3 ∷ 2 ∷ 3 ∷ 2 ∷ 2 ∷ 3 ∷ []
 
+-- mark rows 1100, 0100, 0010, 0001
 abbrev marksO : List ℕ
-marksO = 1 ∷ 1 ∷ 0 ∷ 0 ∷ 0 ∷ 1 ∷ 0 ∷ 0 ∷ 0 ∷ 0 ∷ 1 ∷ 0 ∷ 0 ∷ 0 ∷ 0 ∷ 1 ∷ []
+marksO = 35 ∷ 132 ∷ []
 
 -- what the order call leaves of it, computed
-pub leftO : LeavesOrder gameO (orderRows gameO (replicate 16 9) (replicate 16 9)) (replicate 16 9) marksO
-unfolding compute gameOf playerOf isEdge written after gameRowsBy firstOwner firstEnd firstLacking lacksEdge bytes orderRows
+pub leftO : LeavesOrder gameO (orderRows gameO (replicate 2 9) (replicate 2 9)) (replicate 2 9) marksO
+unfolding compute gameOf playerOf isEdge written after gameRowsBy firstOwner firstEnd firstLacking lacksEdge number byteOf bytes orderRows
 leftO = record { buffer = refl }
 
-passedO : Clean (orderRows gameO (replicate 16 9) (replicate 16 9))
+passedO : Clean (orderRows gameO (replicate 2 9) (replicate 2 9))
 unfolding compute gameOf playerOf isEdge gameRowsBy firstOwner firstEnd firstLacking lacksEdge orderRows
 passedO = (refl, (refl, (refl, (refl, (refl, (refl, (refl, (refl, (refl, tt)))))))))
 
@@ -117,6 +114,7 @@ unfolding compute gameOf playerOf isEdge
 plan-1 = surely-wins odd _ oddPlan 1 refl
 
 pub down-0 : Won odd (gameOf gameO) 0
+unfolding digit isMark
 down-0 = odd-down leftO passedO 0 1 (omega arith) (omega arith) refl (oddPlan, plan-1)
 
 -- ---- CR 11: the 5 vertices and 6 edges of D's verdict are at most those of D itself, of C, which has an edge more, and of a game with a

@@ -113,7 +113,7 @@ abbrev gameB : List ℕ
 gameB = 3 ∷ 3 ∷ 0 ∷ 1 ∷ 0 ∷ 0 ∷ 0 ∷ 1 ∷ 0 ∷ 1 ∷ 2 ∷ 1 ∷ 1 ∷ 1 ∷ []
 
 abbrev marksB : List ℕ
-marksB = 1 ∷ 0 ∷ 1 ∷ 0 ∷ 1 ∷ 0 ∷ 1 ∷ 0 ∷ 1 ∷ []
+marksB = 85 ∷ 1 ∷ []
 
 -- C, with the owner of vertex 0
 abbrev gameC : ℕ → List ℕ
@@ -123,7 +123,7 @@ gameC owner =
     ∷ 1 ∷ 2 ∷ 3 ∷ 3 ∷ 4 ∷ 3 ∷ 4 ∷ []
 
 abbrev marksC : List ℕ
-marksC = 1 ∷ 0 ∷ 0 ∷ 0 ∷ 0 ∷ 0 ∷ 1 ∷ 1 ∷ 0 ∷ 0 ∷ 0 ∷ 0 ∷ 1 ∷ 0 ∷ 0 ∷ 0 ∷ 0 ∷ 0 ∷ 1 ∷ 0 ∷ 0 ∷ 0 ∷ 0 ∷ 0 ∷ 1 ∷ []
+marksC = 193 ∷ 16 ∷ 4 ∷ 1 ∷ []
 
 abbrev classesC : List ℕ
 classesC = 0 ∷ 1 ∷ 2 ∷ 3 ∷ 4 ∷ []
@@ -158,7 +158,7 @@ cases =
     ∷ judged (read (1 ∷ 1 ∷ 0 ∷ 0 ∷ 0 ∷ 1 ∷ [])) (refused 6 5)
     -- P7: 1 2 0 0 0 0 0 0: one different edge
     ∷ judged (read (1 ∷ 2 ∷ 0 ∷ 0 ∷ 0 ∷ 0 ∷ 0 ∷ 0 ∷ [])) (accepted (1 ∷ 2 ∷ 1 ∷ []))
-    -- P8: B: mark rows 101, 010, 101; reduced 2 2 / 0 1 / 0 0, edges 0 to 1, 1 to 1
+    -- P8: B: mark rows 101, 010, 101, the bytes 85 1; reduced 2 2 / 0 1 / 0 0, edges 0 to 1, 1 to 1
     ∷ wrote (writeOrder gameB) (accepted (1 ∷ [])) (marksB ∷ marksB ∷ [])
     ∷ wrote (writeReduced gameB) (accepted (2 ∷ 2 ∷ 2 ∷ []))
     (marksB ∷ marksB ∷ (0 ∷ 1 ∷ 0 ∷ []) ∷ (2 ∷ 2 ∷ 0 ∷ 1 ∷ 0 ∷ 0 ∷ 0 ∷ 1 ∷ 1 ∷ 1 ∷ 7 ∷ 7 ∷ 7 ∷ 7 ∷ []) ∷ [])
@@ -169,7 +169,9 @@ cases =
     -- P10: with vertex 0 Odd's it drops 0 to 2
     ∷ wrote (writeReduced (gameC 1)) (accepted (5 ∷ 5 ∷ 6 ∷ [])) (marksC ∷ marksC ∷ classesC ∷ reducedC 1 1 ∷ [])
     -- P11: C, only (2, 1) marked: 10 at 11
-    ∷ judged (acceptRelation (gameC 0) (0 ∷ 0 ∷ 0 ∷ 0 ∷ 0 ∷ 0 ∷ 0 ∷ 0 ∷ 0 ∷ 0 ∷ 0 ∷ 1 ∷ 0 ∷ 0 ∷ 0 ∷ 0 ∷ 0 ∷ 0 ∷ 0 ∷ 0 ∷ 0 ∷ 0 ∷ 0 ∷ 0 ∷ 0 ∷ [])) (refused 10 11)
+    ∷ judged (acceptRelation (gameC 0) (0 ∷ 8 ∷ 0 ∷ 0 ∷ [])) (refused 10 11)
+    -- CR 13: B's order with bit 9 set, the first unused one: 41 at 1
+    ∷ judged (acceptRelation gameB (85 ∷ 3 ∷ [])) (refused 41 1)
     -- P12: C, plan 3 3 / 0 2 4 / 0 1 2 / 1 2 2: passes for Even
     ∷ judged (acceptPlan (gameC 0) 0 planC) (accepted [])
     -- P13: for Odd 15 at 0

@@ -5,11 +5,12 @@ use mathlib.Core.List.{List, [], _∷_, map}
 use Prim.Native.Nat.{ℕ}
 use Rattle.theory.specs.Game.{Game}
 use Rattle.theory.specs.Compute.{compute}
+use Rattle.word.specs.Word.{digit, number}
 use Rattle.table.specs.Table.{gameOf, playerOf, isEdge}
 use Rattle.table.specs.Verdict.{Answer, judge, written, after}
 use Rattle.table.specs.Reading.{lacksEdge, firstOwner, firstEnd, firstLacking, gameRowsBy, readAnswer}
 use Rattle.table.specs.TableWords.{ownerWord, tableWords}
-use Rattle.pairs.specs.Marks.{bytes, isMark, relation, firstHigh}
+use Rattle.pairs.specs.Marks.{isMark, byteOf, bytes, relation, hasUnused}
 use Rattle.order.specs.OrderCall.{orderRows, passesAnswer, OrderCall}
 use Rattle.relation.specs.RelationCall.{directPair, fails, firstFailing, acceptorRows, acceptorAnswer}
 use Rattle.links.specs.PlanTable.{anyLink, hasLink}
@@ -60,7 +61,7 @@ pub cases-hold : map (λ (c : Case). outcome (c .call)) cases ≡ map (λ (c : C
 unfolding compute
     gameOf playerOf isEdge judge written after
     readAnswer gameRowsBy firstOwner firstEnd firstLacking lacksEdge
-    bytes isMark relation orderRows passesAnswer directPair fails firstHigh firstFailing acceptorRows acceptorAnswer ownerWord tableWords classRows tableRows classTotal classWords totalAnswer
+    digit number isMark byteOf bytes relation hasUnused orderRows passesAnswer directPair fails firstFailing acceptorRows acceptorAnswer ownerWord tableWords classRows tableRows classTotal classWords totalAnswer
     badSize beyond firstBeyond strays firstStray anyLink answers lacksLink firstLackingLink reaches returns positionPriority hasLink returnsWrong firstReturn planRows planAnswer
 cases-hold = refl
 

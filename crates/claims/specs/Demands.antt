@@ -1,5 +1,5 @@
 -- Demand 3 about what the promises name: tables that the reader accepts, the order and the classes that an accepted call leaves, relations
--- that the acceptor passes, and written tables. Hypotheses are only: a call passed its rows, a mark is 1, a vertex is below n, a plan wins.
+-- that the acceptor passes, and written tables. Hypotheses are only: a call passed its rows, a mark is set, a vertex is below n, a plan wins.
 use mathlib.Core.Path.{_≡_, refl, sym, ap₂, _∙_}
 use mathlib.Core.Logic.{_↔_}
 use mathlib.Core.Bool.{So}
@@ -8,9 +8,7 @@ use Prim.Native.Nat.{ℕ, _+_, _*_, _≤_, _<_}
 use native.Mathlib.Omega.{arith}
 use lib.ListN.{length, getD}
 use lib.Seq.{take-at}
-use Rattle.theory.specs.Bools.{bit}
 use Rattle.theory.specs.Range.{Before}
-use Rattle.theory.specs.BoolsLaws.{bit-in, bit-out}
 use Rattle.theory.specs.ListLaws.{length-tabulate, getD-tabulate}
 use Rattle.theory.specs.Game.{Player, even, odd, Game, Succ, edgeCount}
 use Rattle.theory.specs.Order.{order}
@@ -31,9 +29,9 @@ use Rattle.table.specs.WellFormed.{WellFormed}
 use Rattle.table.specs.TableLaws.{edges-listed, game-total}
 use Rattle.table.specs.TableWords.{edgesOf, tableWords}
 use Rattle.table.specs.TableWordsLaws.{length-tableWords, source-is, target-is, tableWords-edge, tableWords-well, tableWords-agree, edgesOf-lists, edgesOf-ascend, length-edgesOf}
-use Rattle.pairs.specs.Marks.{Marked}
+use Rattle.pairs.specs.Marks.{isMark, Marked}
 use Rattle.order.specs.OrderCall.{orderRows, orderBytes, OrderCall}
-use Rattle.order.specs.OrderRulesLaws.{written-byte}
+use Rattle.order.specs.OrderRulesLaws as orders
 use Rattle.relation.specs.RelationCall.{relationAnswer}
 use Rattle.relation.specs.RelationRulesLaws.{passed-below}
 use Rattle.classes.specs.ClassesCall.{classRows, classWords, ClassesCall}
@@ -76,12 +74,12 @@ module _ {K : Game → Game} {game marks spare classes output : List ℕ} {answe
 -- ---- the written order: what a buffer holds after a call that, by its rules, leaves the order there
 
 module _ {game : List ℕ} {rows : List Row} {old new : List ℕ} (left : LeavesOrder game rows old new) (passed : Clean rows) where
-  -- the mark of (v, w) is 1 exactly if v is below w
+  -- the mark of (v, w) is set exactly if v is below w
   pub written-mark : (v w : ℕ) → v < vertexCount game → w < vertexCount game → Marked (vertexCount game) new v w ↔ So (order (gameOf game) v w)
   written-mark v w hv hw =
-      let e : getD new (v * vertexCount game + w) 0 ≡ bit (order (gameOf game) v w) =
-      rw (left .buffer, after-clean rows (orderBytes game) old passed) (written-byte game old v w hv hw) in
-      (λ b. bit-out _ (sym e ∙ b), λ t. e ∙ bit-in t)
+      let e : isMark new (v * vertexCount game + w) ≡ order (gameOf game) v w =
+      rw (left .buffer, after-clean rows (orderBytes game) old passed) (orders.written-mark game old v w hv hw) in
+      (λ m. sym e ∙ m, λ t. e ∙ t)
 
   -- "The written order contains every relation that the acceptor passes."
   pub contains : (relation : List ℕ) → relationAnswer game relation ≡ accepted []

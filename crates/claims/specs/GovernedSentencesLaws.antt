@@ -4,7 +4,6 @@ use mathlib.Core.List.{List, [], _∷_}
 use Prim.Native.Nat.{ℕ, _<_}
 use native.Mathlib.Omega.{arith}
 use lib.ListN.{getD}
-use Rattle.theory.specs.BoolsLaws.{bit-out}
 use Rattle.theory.specs.ListLaws.{length-tabulate, getD-tabulate}
 use Rattle.theory.specs.Governed.{governed, governedPasses}
 use Rattle.theory.specs.GovernedLaws.{governed-class, governed-winner, length-governedMarks}
@@ -26,7 +25,7 @@ module _ {game marks spare counts marks′ spare′ : List ℕ} (call : Governed
     contains = λ relation e. passed-governed game relation e call;
     passes = written-accepted call;
     simulates = written-relation call;
-    winner = λ a v w hv hw m. governed-winner (gameOf game) a v w hv hw (bit-out _ (sym (written-governed call v w hv hw) ∙ m));
+    winner = λ a v w hv hw m. governed-winner (gameOf game) a v w hv hw (sym (written-governed call v w hv hw) ∙ m);
   }
 
   swapped : GovernedCall game spare marks (accepted counts) spare′ marks′

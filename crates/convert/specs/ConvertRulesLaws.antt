@@ -20,8 +20,10 @@ use Rattle.table.specs.Reading.{gameRows}
 use Rattle.table.specs.ReadingLaws.{rows-render, well-clean, clean-well}
 use Rattle.table.specs.Rules.{FirstRule, Rendered, none, next}
 use Rattle.table.specs.RulesLaws.{memory-renders, renders-first, refused-by, rendered-append}
-use Rattle.convert.specs.LowestTable.{highestOf, highest, lowestTable}
-use Rattle.convert.specs.LowestTableLaws.{highestOf-ge, highestOf-at, lowest-vertices, lowest-edges, length-lowest}
+use Rattle.table.specs.Highest.{highestOf}
+use Rattle.table.specs.HighestLaws.{highestOf-ge, highestOf-at}
+use Rattle.convert.specs.LowestTable.{highest, lowestTable}
+use Rattle.convert.specs.LowestTableLaws.{lowest-vertices, lowest-edges, length-lowest}
 use Rattle.convert.specs.ConvertCall.{oversize, firstOversize, convertRows, convertAnswer, ConvertCall}
 use Rattle.convert.specs.ConvertCallLaws.{oversize-in, oversize-out}
 use Rattle.convert.specs.ConvertRules.{Highest, convertRules, ConvertFits}

@@ -1,14 +1,10 @@
 -- The table that a conversion writes: change request 6, games where the highest priority decides.
 use mathlib.Core.List.{List, _∷_}
-use Prim.Native.Nat.{ℕ, zero, suc, _+_, _-_, _%_, max}
+use Prim.Native.Nat.{ℕ, _+_, _-_, _%_}
 use Rattle.theory.specs.Range.{tabulate}
 use Rattle.table.specs.Table.{vertexCount, tableEdges, priorityAt}
 use Rattle.table.specs.Verdict.{written}
-
--- the highest of f 0, .., f (n - 1); 0 where there is none
-unfoldable pub highestOf : ℕ → (ℕ → ℕ) → ℕ
-highestOf zero f = 0
-highestOf (suc n) f = max (highestOf n f) (f n)
+use Rattle.table.specs.Highest.{highestOf}
 
 -- the highest priority
 abbrev pub highest : List ℕ → ℕ

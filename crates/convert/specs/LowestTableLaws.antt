@@ -1,9 +1,7 @@
 -- Laws of a converted table: M, its words by place, and its game, which is the other one with each priority q turned into M − q.
 use mathlib.Core.Path.{_≡_, refl, sym, ap, ap₂, _∙_}
 use mathlib.Core.List.{List, [], _∷_, _++_}
-use Prim.Native.Nat.{ℕ, zero, suc, _+_, _-_, _*_, _%_, _≤_, _<_, max}
-use native.Mathlib.Decide.{decLt}
-use native.Mathlib.Numerals.{add-one}
+use Prim.Native.Nat.{ℕ, suc, _+_, _-_, _*_, _%_, _≤_, _<_}
 use native.Mathlib.Omega.{arith}
 use lib.Dec.{eqb}
 use lib.ListN.{length, getD, drop}
@@ -20,33 +18,9 @@ use Rattle.table.specs.VerdictLaws.{length-written, getD-written, getD-written-
 use Rattle.table.specs.Reading.{readAnswer}
 use Rattle.table.specs.ReadingLaws.{read-accepts}
 use Rattle.table.specs.WellFormed.{WellFormed}
-use Rattle.convert.specs.LowestTable.{highestOf, highest, evenFrom, evenAbove, lowered, lowestTable}
-
--- ---- the highest
-
-pub highestOf-ge : (n : ℕ) (f : ℕ → ℕ) (v : ℕ) → v < n → f v ≤ highestOf n f
-unfolding highestOf
-highestOf-ge zero f v h = omega arith
-highestOf-ge (suc n) f v h = elim (decLt v n) [
-  | yes l ↦ omega (arith, highestOf-ge n f v l)
-  | no k ↦ (let e : v ≡ n = omega arith in rw e (omega arith))
-]
-
--- some number has it
-pub highestOf-at : (n : ℕ) (f : ℕ → ℕ) → 0 < n → (v : ℕ) × (v < n) × (f v ≡ highestOf n f)
-unfolding highestOf
-highestOf-at zero f h = absurd (omega arith)
-highestOf-at (suc n) f h = elim (decLt (highestOf n f) (f n)) [
-  | yes l ↦ (n, omega arith, omega arith)
-  | no k ↦ elim (decLt 0 n) [
-    | yes p ↦ (let (v, a, e) = highestOf-at n f p in (v, omega arith, omega arith))
-    | no z ↦ (let e : n ≡ 0 = omega arith in (n, omega arith, rw e (omega arith)))
-  ]
-]
-
-pub highestOf-more : (n : ℕ) (f : ℕ → ℕ) → highestOf (n + 1) f ≡ max (highestOf n f) (f n)
-unfolding highestOf
-highestOf-more n f = rw (add-one n)
+use Rattle.table.specs.Highest.{highestOf}
+use Rattle.table.specs.HighestLaws.{highestOf-ge, highestOf-at}
+use Rattle.convert.specs.LowestTable.{highest, evenFrom, evenAbove, lowered, lowestTable}
 
 -- ---- M: even, not below the highest, and the smallest such
 

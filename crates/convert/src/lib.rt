@@ -6,9 +6,9 @@ use table::Filling;
 use table::Reading;
 use table::Refusal;
 use table::refusal_of;
+use table::words;
 use writing::even_from;
 use writing::first_oversize;
-use writing::highest_priority;
 use writing::write_table;
 ghost use mathlib.Core.Path.{_≡_};
 ghost use Rattle.table.specs.Filling.{fillingAnswer};
@@ -29,7 +29,7 @@ pub fn write_lowest(game: &[u16], output: &mut [u16]) -> Filling
     if output.len() < needed {
         return refused(24, needed);
     }
-    let highest = highest_priority(game, n);
+    let highest = words::highest(game, 2, n);
     let oversize = first_oversize(game, n, highest);
     if oversize < 2 + n {
         return refused(36, oversize);

@@ -1,4 +1,4 @@
-// The highest priority, and the words of the table that is written. Parts of the call; no host calls these.
+// M, and the words of the table that is written. Parts of the call; no host calls these.
 use table::words;
 ghost use mathlib.Core.Path.{_≡_};
 ghost use Prim.Native.Nat.{_+_, _-_, _≤_};
@@ -8,25 +8,9 @@ ghost use Rattle.table.specs.Table.{vertexCount, tableEdges, priorityAt, tableL
 ghost use Rattle.table.specs.Verdict.{written};
 ghost use Rattle.table.specs.WellFormed.{WellFormed};
 ghost use Rattle.table.specs.Placing.{placed};
-ghost use Rattle.convert.specs.LowestTable.{highestOf, highest, evenFrom, evenAbove, lowestTable};
+ghost use Rattle.convert.specs.LowestTable.{highest, evenFrom, evenAbove, lowestTable};
 ghost use Rattle.convert.specs.ConvertCall.{firstOversize};
 ghost use Rattle.convert.specs.Room.{Room};
-
-// The highest priority.
-pub fn highest_priority(game: &[u16], n: usize) -> u16
-    requires { ⌜ 2 + n ≤ length (now game) ⌝ }
-    ensures { λ r. ⌜ r ≡ highestOf n (priorityAt (now (game .entry))) ⌝ }
-{
-    let mut highest = 0;
-    let mut v = 0;
-    while v < n {
-        if highest < game[2 + v] {
-            highest = game[2 + v];
-        }
-        v += 1;
-    }
-    highest
-}
 
 // The smallest even number not below q.
 pub fn even_from(q: u16) -> usize

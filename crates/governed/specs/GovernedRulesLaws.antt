@@ -1,16 +1,12 @@
 -- Laws of the governed calls: they refuse k at p exactly as the tables say; the acceptor passes exactly the governed bisimulations; what an accepted
 -- call wrote is the largest of them, so that it contains all that the acceptor passes; both acceptors pass it.
-use mathlib.Core.Path.{_≡_, sym, subst, _∙_}
+use mathlib.Core.Path.{_≡_, sym, _∙_}
 use mathlib.Core.Logic.{_↔_}
 use mathlib.Core.Bool.{So}
 use mathlib.Core.List.{List, [], _∷_}
-use Prim.Native.Nat.{ℕ, suc, _+_, _*_, _/_, _%_, _≤_, _<_}
+use Prim.Native.Nat.{ℕ, suc, _+_, _*_, _≤_, _<_}
 use native.Mathlib.Omega.{arith}
-use native.Mathlib.Nat.{div-add-mod'}
-use lib.ListN.{getD}
-use Rattle.theory.specs.Bools.{bit}
-use Rattle.theory.specs.BoolsLaws.{and-in, and-out, bit-in, bit-out, bit-le}
-use Rattle.theory.specs.CountLaws.{row-lt, col-lt}
+use Rattle.theory.specs.BoolsLaws.{and-in, and-out}
 use Rattle.theory.specs.SimulationLaws.{moves-mono}
 use Rattle.theory.specs.Governed.{GovernedBisimulation, Bisimilar, governed, governedPasses}
 use Rattle.theory.specs.GovernedLaws.{governed-in, governed-out, length-governedMarks, governedPasses-le}
@@ -18,11 +14,11 @@ use Rattle.table.specs.Table.{vertexCount, pairCount, gameOf}
 use Rattle.table.specs.TableLaws.{game-n}
 use Rattle.table.specs.Verdict.{accepted, refused}
 use Rattle.table.specs.Rules.{FirstRule}
-use Rattle.pairs.specs.Marks.{Marked}
+use Rattle.pairs.specs.Marks.{isMark, Marked, Clear}
 use Rattle.pairs.specs.MarksLaws.{marked-in, marked-out}
 use Rattle.order.specs.OrderCall.{passesAnswer}
 use Rattle.order.specs.OrderRules.{orderRules, OrderFits}
-use Rattle.order.specs.OrderRulesLaws.{passes-refused, passes-accepted, passes-accepts, marks-of, length-left, passes-bound}
+use Rattle.order.specs.OrderRulesLaws.{passes-refused, passes-accepted, passes-accepts, marks-of, marks-clear, length-left, passes-bound}
 use Rattle.relation.specs.RelationCall.{governedPair, relationAnswer}
 use Rattle.relation.specs.RelationRulesLaws.{under, direct-is, acceptor-refused, acceptor-accepted, acceptor-accepts, relation-accepts}
 use Rattle.governed.specs.GovernedCall.{GovernedCall, governedAnswer}
@@ -43,17 +39,17 @@ module _ (g marks spare : List ℕ) where
 
 module _ {game marks spare counts marks′ spare′ : List ℕ} (call : GovernedCall game marks spare (accepted counts) marks′ spare′) where
   pub written-governed : (v w : ℕ) → v < vertexCount game → w < vertexCount game
-      → getD marks′ (v * vertexCount game + w) 0 ≡ bit (governed (gameOf game) v w)
+      → isMark marks′ (v * vertexCount game + w) ≡ governed (gameOf game) v w
   unfolding governed
   written-governed = marks-of length-governedMarks game marks spare counts marks′ spare′ call
 
   module _ (v w : ℕ) (hv : v < vertexCount game) (hw : w < vertexCount game) where
-    -- 1 exactly if some governed bisimulation holds the pair
+    -- set exactly if some governed bisimulation holds the pair
     pub marked-bisimilar : Marked (vertexCount game) marks′ v w → Bisimilar (gameOf game) v w
-    marked-bisimilar e = governed-out (gameOf game) (bit-out _ (sym (written-governed v w hv hw) ∙ e))
+    marked-bisimilar e = governed-out (gameOf game) (sym (written-governed v w hv hw) ∙ e)
 
     pub bisimilar-marked : Bisimilar (gameOf game) v w → Marked (vertexCount game) marks′ v w
-    bisimilar-marked b = written-governed v w hv hw ∙ bit-in (governed-in (gameOf game) (rw (game-n game) hv) (rw (game-n game) hw) b)
+    bisimilar-marked b = written-governed v w hv hw ∙ governed-in (gameOf game) (rw (game-n game) hv) (rw (game-n game) hw) b
 
   -- at most n × n - n + 1 passes
   pub governed-bound : (c : ℕ) → counts ≡ c ∷ [] → c + vertexCount game ≤ suc (pairCount game)
@@ -78,7 +74,7 @@ module _ (g marks : List ℕ) where
       let p = acceptor-accepted governedPair g marks _ governed-is e in record {
         game = p .game;
         fits = p .fits;
-        low = p .low;
+        clear = p .clear;
         governed = record {
           simulation = λ v w hv hw m. p .each v w (rw (game-n g) at hv) (rw (game-n g) at hw) m .direct;
           symmetric = λ v w hv hw m. p .each v w (rw (game-n g) at hv) (rw (game-n g) at hw) m .reverse;
@@ -91,7 +87,7 @@ module _ (g marks : List ℕ) where
       (record {
         game = r .game;
         fits = r .fits;
-        low = r .low;
+        clear = r .clear;
         each = λ v w hv hw m.
             let kv : v < gameOf g .n = rw (game-n g) hv in
             let kw : w < gameOf g .n = rw (game-n g) hw in
@@ -113,11 +109,8 @@ module _ {g marks spare counts marks′ spare′ : List ℕ} (call : GovernedCal
   fits : OrderFits g marks spare
   fits = governed-accepted g marks spare counts (sym (call .verdict)) .0
 
-  low : (i : ℕ) → i < pairCount g → getD marks′ i 0 ≤ 1
-  low i h =
-      let n = vertexCount g in
-      subst (λ (k : ℕ). getD marks′ k 0 ≤ 1) (div-add-mod' i n)
-      (rw (written-governed call (i / n) (i % n) (row-lt n n i h) (col-lt n n i h)) (bit-le _))
+  clear : Clear marks′ (pairCount g)
+  clear = marks-clear length-governedMarks g marks spare counts marks′ spare′ call
 
   bisimulation : GovernedBisimulation (gameOf g) (Marked (vertexCount g) marks′)
   bisimulation = record {
@@ -142,7 +135,7 @@ module _ {g marks spare counts marks′ spare′ : List ℕ} (call : GovernedCal
   written-accepted = acceptor-governed-accepts g marks′ (record {
     game = fits .game;
     fits = omega (arith, fits .marksFit, length-left length-governedMarks g marks spare counts marks′ spare′ call);
-    low = low;
+    clear = clear;
     governed = bisimulation;
   })
 
@@ -151,6 +144,6 @@ module _ {g marks spare counts marks′ spare′ : List ℕ} (call : GovernedCal
   written-relation = relation-accepts g marks′ (record {
     game = fits .game;
     fits = omega (arith, fits .marksFit, length-left length-governedMarks g marks spare counts marks′ spare′ call);
-    low = low;
+    clear = clear;
     simulation = bisimulation .simulation;
   })

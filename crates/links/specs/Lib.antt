@@ -3,7 +3,5 @@ pub mod PlanTableLaws
 pub mod Refusals
 pub mod PlanFormed
 pub mod PlanFormedLaws
-pub mod Edges
-pub mod EdgesLaws
 pub mod LinkIndex
 pub mod LinkIndexLaws

@@ -6,6 +6,7 @@ use lib.ListN.{length}
 use Rattle.table.specs.Limits.{positionLimit, linkLimit}
 use Rattle.table.specs.Table.{vertexCount}
 use Rattle.table.specs.WellFormed.{WellFormed}
+use Rattle.table.specs.Flags.{EdgeFlags}
 use Rattle.links.specs.PlanTable.{positionCount, linkCount, vertexAt, linkSource, linkTarget, planLength}
 
 pub record PlanSized (w : List ℕ) : Type 0 where
@@ -25,3 +26,9 @@ pub record WordsPass (g : List ℕ) (player : ℕ) (w : List ℕ) : Type 0 where
   pub game : WellFormed g
   pub number : player ≤ 1
   pub formed : PlanFormed (vertexCount g) w
+
+-- a game and a plan that pass 1 to 13, and the flags of the game's edges
+pub record Followable (g w edges : List ℕ) : Type 0 where
+  pub game : WellFormed g
+  pub formed : PlanFormed (vertexCount g) w
+  pub flags : EdgeFlags g edges

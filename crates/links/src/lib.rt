@@ -1,21 +1,20 @@
 // The words of a plan: refusals 12 to 14, and an index of its links. Parts of the plan acceptor; no host calls these.
 use table::flags::flag_edges;
+use table::flags::is_edge;
 use table::limits::LINKS;
-use table::limits::PAIRS;
+use table::limits::PAIR_WORDS;
 use table::limits::POSITIONS;
 ghost use mathlib.Core.Path.{_≡_};
 ghost use mathlib.Core.Bool.{cond};
 ghost use Prim.Native.Nat.{ℕ, _+_, _≤_, _<_};
 ghost use lib.Dec.{ltb};
 ghost use lib.ListN.{length, getD};
-ghost use Rattle.theory.specs.Range.{first};
-ghost use Rattle.table.specs.Limits.{vertexLimit, positionLimit, pairLimit};
+ghost use Rattle.table.specs.Limits.{positionLimit};
 ghost use Rattle.table.specs.Table.{vertexCount};
 ghost use Rattle.table.specs.WellFormed.{WellFormed};
 ghost use Rattle.links.specs.PlanTable.{positionCount, linkCount, vertexAt, linkSource, linkTarget};
-ghost use Rattle.links.specs.Refusals.{badSize, firstBeyond, firstStray};
-ghost use Rattle.links.specs.PlanFormed.{PlanSized, PlanFormed};
-ghost use Rattle.links.specs.Edges.{straysBy};
+ghost use Rattle.links.specs.Refusals.{badSize, firstBeyond, strays, firstStray};
+ghost use Rattle.links.specs.PlanFormed.{PlanSized, PlanFormed, Followable};
 ghost use Rattle.links.specs.LinkIndex.{LinkIndex};
 
 // 12: under 2 words, p or l out of limits, or length not 2 + p + 2l.
@@ -96,24 +95,25 @@ fn target_of(plan: &[u16], k: usize) -> usize
     wide(plan[2 + p + l + k])
 }
 
-// Whether link k follows no edge: one look at the matrix of edges.
-fn strays(edges: &[u8], plan: &[u16], n: usize, k: usize) -> bool
-    requires { ⌜ PlanFormed n (now plan) × (n ≤ vertexLimit) × (k < linkCount (now plan)) × (pairLimit ≤ length (now edges)) ⌝ }
-    ensures { λ r. ⌜ r ≡ straysBy (now (edges .entry)) n (now (plan .entry)) k ⌝ }
+// Whether link k follows no edge: one look at the flags of the edges.
+fn strays(edges: &[u64], game: &[u16], plan: &[u16], k: usize) -> bool
+    requires { ⌜ Followable (now game) (now plan) (now edges) × (k < linkCount (now plan)) ⌝ }
+    ensures { λ r. ⌜ r ≡ strays (now (game .entry)) (now (plan .entry)) k ⌝ }
 {
+    let n = game[0] as usize;
     let v = vertex_of(plan, source_of(plan, k));
     let x = vertex_of(plan, target_of(plan, k));
-    edges[v * n + x] == 0
+    !is_edge(edges, n, v, x)
 }
 
-fn first_straying(edges: &[u8], plan: &[u16], n: usize) -> usize
-    requires { ⌜ PlanFormed n (now plan) × (n ≤ vertexLimit) × (pairLimit ≤ length (now edges)) ⌝ }
-    ensures { λ r. ⌜ r ≡ first (straysBy (now (edges .entry)) n (now (plan .entry))) 0 (linkCount (now (plan .entry))) ⌝ }
+fn first_straying(edges: &[u64], game: &[u16], plan: &[u16]) -> usize
+    requires { ⌜ Followable (now game) (now plan) (now edges) ⌝ }
+    ensures { λ r. ⌜ r ≡ firstStray (now (game .entry)) (now (plan .entry)) ⌝ }
 {
     let l = plan[1] as usize;
     let mut k = 0;
     while k < l {
-        if strays(edges, plan, n, k) {
+        if strays(edges, game, plan, k) {
             return k;
         }
         k += 1;
@@ -121,16 +121,14 @@ fn first_straying(edges: &[u8], plan: &[u16], n: usize) -> usize
     k
 }
 
-// 14: the first link along no edge; the number of links where there is none.
+// 14: the first link along no edge; the number of links where there is none. Flags of the edges are in a local array of 32,768 bytes.
 pub fn first_stray(game: &[u16], plan: &[u16]) -> usize
     requires { ⌜ WellFormed (now game) × PlanFormed (vertexCount (now game)) (now plan) ⌝ }
     ensures { λ r. ⌜ r ≡ firstStray (now (game .entry)) (now (plan .entry)) ⌝ }
 {
-    let n = game[0] as usize;
-    let m = game[1] as usize;
-    let mut edges = [0u8; PAIRS];
-    flag_edges(game, n, m, &mut edges);
-    first_straying(&edges, plan, n)
+    let mut edges = [0u64; PAIR_WORDS];
+    flag_edges(game, game[0] as usize, game[1] as usize, &mut edges);
+    first_straying(&edges, game, plan)
 }
 
 // The index of a plan's links, written over zeros.

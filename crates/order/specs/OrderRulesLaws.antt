@@ -8,8 +8,6 @@ use native.Mathlib.Omega.{arith}
 use lib.Arith.{digits-lt}
 use lib.ListN.{length, getD}
 use borrow.Author.Tests.{ltb-false, le-ltb}
-use Rattle.theory.specs.Bools.{bit}
-use Rattle.theory.specs.BoolsLaws.{bit-in, bit-out}
 use Rattle.theory.specs.Passes.{Marks, marked, relOf}
 use Rattle.theory.specs.Game.{even, Game}
 use Rattle.theory.specs.Simulation.{Below}
@@ -18,13 +16,13 @@ use Rattle.theory.specs.OrderLaws.{order-in, order-out, length-orderMarks}
 use Rattle.table.specs.Table.{vertexCount, pairCount, gameOf}
 use Rattle.table.specs.TableLaws.{game-n}
 use Rattle.table.specs.Verdict.{accepted, refused, written}
-use Rattle.table.specs.VerdictLaws.{judge-clean, judge-accepted, length-written, getD-written, getD-written-beyond, after-accepted, after-refused, clean-append, clean-split}
+use Rattle.table.specs.VerdictLaws.{judge-clean, judge-accepted, length-written, getD-written-beyond, after-accepted, after-refused, clean-append, clean-split}
 use Rattle.table.specs.Reading.{gameRows}
 use Rattle.table.specs.ReadingLaws.{rows-render, well-clean, clean-well}
 use Rattle.table.specs.Rules.{FirstRule, Rendered, none, next}
 use Rattle.table.specs.RulesLaws.{memory-renders, refused-by, rendered-append}
-use Rattle.pairs.specs.Marks.{marksLength, Marked}
-use Rattle.pairs.specs.MarksLaws.{length-bytes, getD-bytes}
+use Rattle.pairs.specs.Marks.{bytesFor, marksLength, isMark, Marked, Clear}
+use Rattle.pairs.specs.MarksLaws.{length-bytes, mark-written, clear-written}
 use Rattle.order.specs.OrderCall.{orderRows, passesAnswer, orderAnswer, bytesOf, orderBytes, MarksCall, OrderCall}
 use Rattle.order.specs.OrderRules.{orderRules, OrderFits}
 
@@ -75,17 +73,22 @@ AllPairs relation = (G : Game) → length (relation G) ≡ G .n * G .n
 
 module _ (relation : Game → Marks) (long : AllPairs relation) (game : List ℕ) where
   pub length-bytesOf : length (bytesOf relation game) ≡ marksLength (vertexCount game)
-  length-bytesOf = rw (← game-n game) (length-bytes (relation (gameOf game)) ∙ long (gameOf game))
+  length-bytesOf = rw (← game-n game) (length-bytes (relation (gameOf game)) ∙ ap bytesFor (long (gameOf game)))
 
-  -- a buffer that holds the relation: the mark of (v, w), and bytes beyond
+  pairs-of : length (relation (gameOf game)) ≡ pairCount game
+  pairs-of = rw (← game-n game) (long (gameOf game))
+
+  -- a buffer that holds the relation: the mark of (v, w), unused bits, and bytes beyond
   module _ (old : List ℕ) where
-    pub byte-of : (v w : ℕ) → v < vertexCount game → w < vertexCount game
-        → getD (written (bytesOf relation game) old) (v * vertexCount game + w) 0 ≡ bit (relOf (gameOf game .n) (marked (relation (gameOf game))) v w)
+    pub mark-of : (v w : ℕ) → v < vertexCount game → w < vertexCount game
+        → isMark (written (bytesOf relation game) old) (v * vertexCount game + w) ≡ relOf (gameOf game .n) (marked (relation (gameOf game))) v w
     unfolding relOf
-    byte-of v w hv hw =
-        getD-written (bytesOf relation game) old (v * vertexCount game + w) 0 (rw length-bytesOf (digits-lt hv hw))
-        ∙ getD-bytes (relation (gameOf game)) (v * vertexCount game + w)
-        ∙ ap (λ (n : ℕ). bit (marked (relation (gameOf game)) (v * n + w))) (sym (game-n game))
+    mark-of v w hv hw =
+        mark-written (relation (gameOf game)) old (v * vertexCount game + w) (omega (arith, pairs-of, digits-lt hv hw))
+        ∙ ap (λ (n : ℕ). marked (relation (gameOf game)) (v * n + w)) (sym (game-n game))
+
+    written-clear : Clear (written (bytesOf relation game) old) (pairCount game)
+    written-clear = rw (← pairs-of) (clear-written (relation (gameOf game)) old)
 
     written-beyond : (i : ℕ) → marksLength (vertexCount game) ≤ i → getD (written (bytesOf relation game) old) i 0 ≡ getD old i 0
     written-beyond i h = getD-written-beyond (bytesOf relation game) old i 0 (rw length-bytesOf h)
@@ -93,10 +96,10 @@ module _ (relation : Game → Marks) (long : AllPairs relation) (game : List ℕ
 pub length-orderBytes : (game : List ℕ) → length (orderBytes game) ≡ marksLength (vertexCount game)
 length-orderBytes = length-bytesOf orderMarks length-orderMarks
 
-pub written-byte : (game old : List ℕ) (v w : ℕ) → v < vertexCount game → w < vertexCount game
-    → getD (written (orderBytes game) old) (v * vertexCount game + w) 0 ≡ bit (order (gameOf game) v w)
+pub written-mark : (game old : List ℕ) (v w : ℕ) → v < vertexCount game → w < vertexCount game
+    → isMark (written (orderBytes game) old) (v * vertexCount game + w) ≡ order (gameOf game) v w
 unfolding order
-written-byte = byte-of orderMarks length-orderMarks
+written-mark = mark-of orderMarks length-orderMarks
 
 module _ {relation : Game → Marks} {passes : Game → ℕ} (long : AllPairs relation) (game marks spare counts marks′ spare′ : List ℕ)
     (call : MarksCall relation passes game marks spare (accepted counts) marks′ spare′) where
@@ -110,16 +113,23 @@ module _ {relation : Game → Marks} {passes : Game → ℕ} (long : AllPairs re
 
   -- both hold the marks
   module _ (v w : ℕ) (hv : v < vertexCount game) (hw : w < vertexCount game) where
-    pub marks-of : getD marks′ (v * vertexCount game + w) 0 ≡ bit (relOf (gameOf game .n) (marked (relation (gameOf game))) v w)
-    marks-of = rw marks-hold (byte-of relation long game marks v w hv hw)
+    pub marks-of : isMark marks′ (v * vertexCount game + w) ≡ relOf (gameOf game .n) (marked (relation (gameOf game))) v w
+    marks-of = rw marks-hold (mark-of relation long game marks v w hv hw)
 
-    pub spare-of : getD spare′ (v * vertexCount game + w) 0 ≡ bit (relOf (gameOf game .n) (marked (relation (gameOf game))) v w)
-    spare-of = rw spare-holds (byte-of relation long game spare v w hv hw)
+    pub spare-of : isMark spare′ (v * vertexCount game + w) ≡ relOf (gameOf game .n) (marked (relation (gameOf game))) v w
+    spare-of = rw spare-holds (mark-of relation long game spare v w hv hw)
 
   pub length-left : length marks′ ≡ length marks
   length-left =
       let f = passes-accepted passes game marks spare counts (sym (call .verdict)) .0 in
       ap length marks-hold ∙ length-written (bytesOf relation game) marks (omega (arith, f .marksFit, length-bytesOf relation long game))
+
+  -- no unused bit is set, and bytes beyond are old
+  pub marks-clear : Clear marks′ (pairCount game)
+  marks-clear = rw marks-hold (written-clear relation long game marks)
+
+  pub spare-clear : Clear spare′ (pairCount game)
+  spare-clear = rw spare-holds (written-clear relation long game spare)
 
   pub beyond-marks : (i : ℕ) → marksLength (vertexCount game) ≤ i → getD marks′ i 0 ≡ getD marks i 0
   beyond-marks i h = rw marks-hold (written-beyond relation long game marks i h)
@@ -157,16 +167,16 @@ refused-old {relation} game marks spare k p marks′ spare′ call = (
 
 module _ (game marks spare counts marks′ spare′ : List ℕ) (call : OrderCall game marks spare (accepted counts) marks′ spare′) where
   module _ (v w : ℕ) (hv : v < vertexCount game) (hw : w < vertexCount game) where
-    pub written-marks : getD marks′ (v * vertexCount game + w) 0 ≡ bit (order (gameOf game) v w)
+    pub written-marks : isMark marks′ (v * vertexCount game + w) ≡ order (gameOf game) v w
     unfolding order
     written-marks = marks-of length-orderMarks game marks spare counts marks′ spare′ call v w hv hw
 
-    -- 1 exactly if some direct simulation holds the pair
+    -- set exactly if some direct simulation holds the pair
     pub marked-below : Marked (vertexCount game) marks′ v w → Below even (gameOf game) (gameOf game) v w
-    marked-below e = order-out (gameOf game) (bit-out _ (sym written-marks ∙ e))
+    marked-below e = order-out (gameOf game) (sym written-marks ∙ e)
 
     pub below-marked : Below even (gameOf game) (gameOf game) v w → Marked (vertexCount game) marks′ v w
-    below-marked b = written-marks ∙ bit-in (order-in (gameOf game) (rw (game-n game) hv) (rw (game-n game) hw) b)
+    below-marked b = written-marks ∙ order-in (gameOf game) (rw (game-n game) hv) (rw (game-n game) hw) b
 
   pub length-marks : length marks′ ≡ length marks
   length-marks = length-left length-orderMarks game marks spare counts marks′ spare′ call

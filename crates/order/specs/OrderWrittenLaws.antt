@@ -1,5 +1,5 @@
 -- The rows that the rounds leave, written and copied, are the order or, with `mirror`, the governed bisimulation.
-use mathlib.Core.Path.{_≡_, _∙_}
+use mathlib.Core.Path.{_≡_, ap, _∙_}
 use mathlib.Core.Bool.{Bool}
 use mathlib.Core.List.{List}
 use Prim.Native.Nat.{ℕ}
@@ -8,7 +8,7 @@ use Rattle.theory.specs.Governed.{marksBy, passesBy}
 use Rattle.theory.specs.GovernedLaws.{length-by}
 use Rattle.table.specs.Table.{vertexCount, gameOf}
 use Rattle.table.specs.Verdict.{written}
-use Rattle.pairs.specs.Marks.{marksLength}
+use Rattle.pairs.specs.Marks.{bytesFor, marksLength}
 use Rattle.pairs.specs.MarksLaws.{length-bytes}
 use Rattle.pairs.specs.Writing.{RowsWritten, Copied}
 use Rattle.pairs.specs.WritingLaws.{rows-are, copied-is}
@@ -26,7 +26,7 @@ rows-done mirror game related marks spare passes marks′ spare′ s m c = recor
     done = rows-are (vertexCount game) related (marksBy mirror (gameOf game)) marks marks′ m (length-by (gameOf game) mirror) (s .marks)
 
     size : length (bytesOf (marksBy mirror) game) ≡ marksLength (vertexCount game)
-    size = length-bytes (marksBy mirror (gameOf game)) ∙ length-by (gameOf game) mirror
+    size = length-bytes (marksBy mirror (gameOf game)) ∙ ap bytesFor (length-by (gameOf game) mirror)
 
     copied : spare′ ≡ written (bytesOf (marksBy mirror) game) spare
     copied = copied-is (bytesOf (marksBy mirror) game) marks marks′ spare spare′ done (rw size c)

@@ -33,7 +33,7 @@ pub enum Ordering {
 const RELATION_WORDS: usize = VERTICES * WORDS;
 
 // Writes the order of a well-formed table or, with `mirror`, its governed bisimulation into buffers that are long enough, by rows of bits in
-// local arrays of 48 KiB. A part of the calls that leave such a relation; no host calls it.
+// local arrays of 192 KiB. A part of the calls that leave such a relation; no host calls it.
 pub fn fill_relation(game: &[u16], marks: &mut [u8], spare: &mut [u8], mirror: bool) -> u32
     requires { ⌜ WellFormed (now game) ⌝ }
     requires { ⌜ (marksLength (vertexCount (now game)) ≤ length (now marks)) × (marksLength (vertexCount (now game)) ≤ length (now spare)) ⌝ }

@@ -1,39 +1,49 @@
--- Marks in memory: document 01, "Marks are bytes: byte v × n + w is 1 if v is below w, else 0". How a mark stands in a buffer, and how many
--- bytes the marks of n vertices need, is said here alone.
+-- Marks in memory: document 02, "Mark number i = v × n + w is bit i mod 8 of byte i div 8, bit 0 lowest, and unused bits of the last byte
+-- are 0". How a mark stands in a buffer, and how many bytes the marks of n vertices need, is said here alone.
 use mathlib.Core.Path.{_≡_}
-use mathlib.Core.Bool.{Bool}
-use mathlib.Core.List.{List, map}
-use Prim.Native.Nat.{ℕ, _+_, _*_, _<_}
-use lib.Dec.{eqb, ltb}
+use mathlib.Core.Bool.{Bool, false, So}
+use mathlib.Core.List.{List}
+use Prim.Native.Nat.{ℕ, _+_, _*_, _/_, _%_, _≤_, _<_}
 use lib.ListN.{length, getD}
-use Rattle.theory.specs.Bools.{bit}
-use Rattle.theory.specs.Range.{first}
-use Rattle.theory.specs.Passes.{Marks, Rel, relOf}
+use Rattle.theory.specs.Range.{anyFrom, tabulate}
+use Rattle.theory.specs.Passes.{Marks, marked, Rel, relOf}
+use Rattle.word.specs.Word.{digit, number}
+use Rattle.table.specs.Limits.{pairLimit}
 
--- how many bytes hold the marks of n vertices
+-- how many bytes hold N marks, and the marks of n vertices
+abbrev pub bytesFor : ℕ → ℕ
+bytesFor N = (N + 7) / 8
+
 abbrev pub marksLength : ℕ → ℕ
-marksLength n = n * n
+marksLength n = bytesFor (n * n)
 
 -- mark i is in the buffer
 abbrev pub InMarks : List ℕ → ℕ → Type 0
-InMarks b i = i < length b
+InMarks b i = (i < pairLimit) × (i / 8 < length b)
 
--- the bytes of marks
-unfoldable pub bytes : Marks → List ℕ
-bytes m = map bit m
-
--- byte i is a mark
+-- mark i of a list of bytes
 unfoldable pub isMark : List ℕ → ℕ → Bool
-isMark b i = eqb (getD b i 0) 1
+isMark b i = digit (getD b (i / 8) 0) (i % 8)
+
+-- byte j of marks, and all their bytes
+unfoldable pub byteOf : Marks → ℕ → ℕ
+byteOf m j = number 8 (λ k. marked m (j * 8 + k))
+
+unfoldable pub bytes : Marks → List ℕ
+bytes m = tabulate (bytesFor (length m)) (byteOf m)
 
 -- the relation between n vertices that is marked
 unfoldable pub relation : ℕ → List ℕ → Rel
 relation n b = relOf n (isMark b)
 
--- the pair is in the relation: its mark is 1
+-- the pair is in the relation: its mark is set
 abbrev pub Marked : ℕ → List ℕ → ℕ → ℕ → Type 0
-Marked n b v w = getD b (v * n + w) 0 ≡ 1
+Marked n b v w = So (isMark b (v * n + w))
 
--- the first of N bytes above 1; N where there is none
-unfoldable pub firstHigh : List ℕ → ℕ → ℕ
-firstHigh b N = first (λ i. ltb 1 (getD b i 0)) 0 N
+-- after N marks an unused bit of the last byte is set
+unfoldable pub hasUnused : List ℕ → ℕ → Bool
+hasUnused b N = anyFrom N (bytesFor N * 8) (isMark b)
+
+-- none is
+abbrev pub Clear : List ℕ → ℕ → Type 0
+Clear b N = (i : ℕ) → N ≤ i → i < bytesFor N * 8 → isMark b i ≡ false

@@ -3,7 +3,7 @@ use mathlib.Core.Path.{_≡_, refl, ap, _∙_, fun-ext}
 use mathlib.Core.Bool.{Bool, true, false, not, Bool·beq, Bool·not-not}
 use mathlib.Core.List.{List}
 use Prim.Native.Nat.{ℕ, _+_, _*_, _≤_, _<_}
-use native.Mathlib.Nat.{mul-one, add-comm, lt-of-lt-of-le}
+use native.Mathlib.Nat.{mul-one, add-comm}
 use lib.Arith.{digits-lt}
 use lib.ListN.{length, getD}
 use Rattle.theory.specs.BoolsLaws.{So-ext, So-not, clash, not-in, not-out, imp-fails}
@@ -12,11 +12,13 @@ use Rattle.theory.specs.Passes.{relOf}
 use Rattle.theory.specs.Game.{even, same, Game, Succ}
 use Rattle.theory.specs.Order.{allNext, anyNext, moves, test}
 use Rattle.theory.specs.OrderLaws.{allNext-out, anyNext-in, anyNext-out}
+use Rattle.table.specs.Limits.{vertexLimit}
 use Rattle.table.specs.Table.{vertexCount, ownerAt, gameOf}
 use Rattle.table.specs.TableLaws.{own-even}
 use Rattle.index.specs.Index.{EdgeIndex}
 use Rattle.index.specs.IndexLaws.{target-below, some-next}
 use Rattle.pairs.specs.Marks.{marksLength, isMark, relation}
+use Rattle.pairs.specs.MarksLaws.{in-marks}
 use Rattle.pairs.specs.Search.{hasMark, searchEnds, searched, Reaches}
 
 -- ---- tests of Bools
@@ -88,16 +90,16 @@ module _ (g starts targets marks : List ℕ) (index : EdgeIndex g starts targets
   -- every mark that the searches read is there
   reaches : (v w across down : ℕ) → v < vertexCount g → w < vertexCount g
       → ((x y : ℕ) → x < vertexCount g → y < vertexCount g → x * across + y * down < vertexCount g * vertexCount g)
-      → marksLength (vertexCount g) ≤ length marks
+      → vertexCount g ≤ vertexLimit → marksLength (vertexCount g) ≤ length marks
       → Reaches marks targets (getD starts v 0) (getD starts (v + 1) 0) (getD starts w 0) (getD starts (w + 1) 0) across down
-  reaches v w across down hv hw cell long i k a b a′ b′ =
-      lt-of-lt-of-le (cell (getD targets i 0) (getD targets k 0) (target-below index v i hv a b) (target-below index w k hw a′ b′)) long
+  reaches v w across down hv hw cell few long i k a b a′ b′ =
+      in-marks (vertexCount g) marks _ (cell (getD targets i 0) (getD targets k 0) (target-below index v i hv a b) (target-below index w k hw a′ b′)) few long
 
-  pub reaches-rows : marksLength (vertexCount g) ≤ length marks
+  pub reaches-rows : vertexCount g ≤ vertexLimit → marksLength (vertexCount g) ≤ length marks
       → Reaches marks targets (getD starts v 0) (getD starts (v + 1) 0) (getD starts w 0) (getD starts (w + 1) 0) (vertexCount g) 1
   reaches-rows = reaches v w (vertexCount g) 1 hv hw (λ x y hx hy. rw (mul-one y) (digits-lt hx hy))
 
-  pub reaches-columns : marksLength (vertexCount g) ≤ length marks
+  pub reaches-columns : vertexCount g ≤ vertexLimit → marksLength (vertexCount g) ≤ length marks
       → Reaches marks targets (getD starts w 0) (getD starts (w + 1) 0) (getD starts v 0) (getD starts (v + 1) 0) 1 (vertexCount g)
   reaches-columns = reaches w v 1 (vertexCount g) hw hv (λ x y hx hy. rw (mul-one x, add-comm x (y * vertexCount g)) (digits-lt hy hx))
 

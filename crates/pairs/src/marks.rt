@@ -1,11 +1,11 @@
-// Marks in memory. Every read of a mark goes through here, so that callers know the relation and not its bytes.
+// Marks in memory, eight in a byte. Every read of a mark goes through here, so that callers know the relation and not its bytes.
 use index::Run;
 ghost use mathlib.Core.Path.{_≡_};
 ghost use Prim.Native.Nat.{ℕ, _+_, _*_, _<_, _≤_};
 ghost use lib.ListN.{length, getD};
 ghost use Rattle.theory.specs.Range.{anyFrom};
 ghost use Rattle.table.specs.Limits.{vertexLimit};
-ghost use Rattle.pairs.specs.Marks.{marksLength, InMarks, isMark, relation, firstHigh};
+ghost use Rattle.pairs.specs.Marks.{bytesFor, marksLength, InMarks, isMark, relation, hasUnused};
 ghost use Rattle.pairs.specs.Search.{hasMark};
 
 // How many bytes hold the marks of n vertices.
@@ -13,7 +13,7 @@ pub fn length_for(n: usize) -> usize
     requires { ⌜ n ≤ vertexLimit ⌝ }
     ensures { λ r. ⌜ r ≡ marksLength n ⌝ }
 {
-    n * n
+    (n * n + 7) / 8
 }
 
 // Whether mark i is set.
@@ -21,7 +21,7 @@ pub fn is_mark(marks: &[u8], i: usize) -> bool
     requires { ⌜ InMarks (now marks) i ⌝ }
     ensures { λ r. ⌜ r ≡ isMark (now (marks .entry)) i ⌝ }
 {
-    marks[i] == 1
+    (marks[i / 8] >> (i % 8)) & 1 == 1
 }
 
 // Whether the pair (v, w) of n vertices is marked.
@@ -32,19 +32,15 @@ pub fn is_marked(marks: &[u8], n: usize, v: usize, w: usize) -> bool
     is_mark(marks, v * n + w)
 }
 
-// The first of `size` bytes that is neither 0 nor 1; `size` where there is none.
-pub fn first_high(marks: &[u8], size: usize) -> usize
-    requires { ⌜ size ≤ length (now marks) ⌝ }
-    ensures { λ r. ⌜ r ≡ firstHigh (now (marks .entry)) size ⌝ }
+// Whether a bit of the last byte is set that is none of the `size` marks. Bytes beyond don't count.
+pub fn has_unused(marks: &[u8], size: usize) -> bool
+    requires { ⌜ bytesFor size ≤ length (now marks) ⌝ }
+    ensures { λ r. ⌜ r ≡ hasUnused (now (marks .entry)) size ⌝ }
 {
-    let mut i = 0;
-    while i < size {
-        if 1 < marks[i] {
-            return i;
-        }
-        i += 1;
+    if size % 8 == 0 {
+        return false;
     }
-    i
+    (marks[size / 8] >> (size % 8)) != 0
 }
 
 // Whether a target y of the run has the wanted mark, the innermost loop of the pair test; y's mark is number base + y * stride.
@@ -67,7 +63,7 @@ pub fn finds(
             break false;
         }
         let at = base + (targets[k] as usize) * stride;
-        if (marks[at] == 1) == wanted {
+        if is_mark(marks, at) == wanted {
             break true;
         }
         k += 1;

@@ -1,26 +1,66 @@
 // A relation in rows of bits, written as marks.
 use bits::row::WORDS;
 use bits::row::end_of;
-ghost use Prim.Native.Nat.{_+_, _*_, _<_, _≤_};
+ghost use mathlib.Core.Path.{_≡_};
+ghost use Prim.Native.Nat.{_+_, _*_, _/_, _%_, _^_, _<_, _≤_};
 ghost use lib.ListN.{length};
-ghost use Rattle.table.specs.Limits.{vertexLimit};
-ghost use Rattle.word.specs.Word.{wordBits};
+ghost use Rattle.table.specs.Limits.{vertexLimit, pairLimit};
 ghost use Rattle.bits.specs.Bits.{rowWords};
-ghost use Rattle.pairs.specs.Marks.{marksLength};
-ghost use Rattle.pairs.specs.Writing.{BitsWritten, RowWritten, RowsWritten, Copied};
+ghost use Rattle.pairs.specs.Marks.{bytesFor, marksLength};
+ghost use Rattle.pairs.specs.Writing.{begunByte, BitsWritten, RowWritten, RowsWritten, Copied};
 
-// Writes the first `count` bits of a word as marks, from mark `at` on.
-fn write_bits(marks: &mut [u8], at: usize, word: u64, count: usize)
-    requires { ⌜ (count ≤ wordBits) × (at + count ≤ length (now marks)) ⌝ }
+// The byte of mark `at` as far as it is written. A byte begins as 0, so that its unused bits end as 0.
+fn begun(marks: &[u8], at: usize) -> u8
+    requires { ⌜ at / 8 < length (now marks) ⌝ }
+    ensures { λ r. ⌜ r ≡ begunByte (now (marks .entry)) at ⌝ }
+{
+    if at % 8 == 0 { 0 } else { marks[at / 8] }
+}
+
+// Writes the first `count` bits of a word as marks, from mark `at` on, all in one byte.
+fn write_part(marks: &mut [u8], at: usize, word: u64, count: usize)
+    requires { ⌜ (at % 8 + count ≤ 8) × (bytesFor (at + count) ≤ length (now marks)) ⌝ }
     ensures { λ r. ⌜ BitsWritten word at count (now (marks .entry)) (now (marks .exit)) ⌝ }
 {
+    if count == 0 {
+        return;
+    }
+    let old = begun(marks, at);
+    let bits = word & ((1u64 << count) - 1);
+    marks[at / 8] = old | ((bits << (at % 8)) as u8);
+}
+
+// Writes the first `count` bytes of a word as marks, from mark `at` on, the first of a byte; returns what is left of the word.
+fn write_whole(marks: &mut [u8], at: usize, word: u64, count: usize) -> u64
+    requires { ⌜ (at % 8 ≡ 0) × (at / 8 + count ≤ length (now marks)) ⌝ }
+    ensures { λ r. ⌜ (r ≡ word / 2 ^ (8 * count)) × BitsWritten word at (8 * count) (now (marks .entry)) (now (marks .exit)) ⌝ }
+{
+    let first = at / 8;
     let mut rest = word;
     let mut k = 0;
     while k < count {
-        marks[at + k] = (rest & 1) as u8;
-        rest = rest >> 1;
+        marks[first + k] = (rest & 255) as u8;
+        rest = rest >> 8;
         k += 1;
     }
+    rest
+}
+
+// Writes the first `count` bits of a word as marks, from mark `at` on: what is left of at's byte, whole bytes, the rest.
+fn write_bits(marks: &mut [u8], at: usize, word: u64, count: usize)
+    requires { ⌜ (at + count ≤ pairLimit) × (bytesFor (at + count) ≤ length (now marks)) ⌝ }
+    ensures { λ r. ⌜ BitsWritten word at count (now (marks .entry)) (now (marks .exit)) ⌝ }
+{
+    let gap = 8 - at % 8;
+    if count <= gap {
+        write_part(marks, at, word, count);
+        return;
+    }
+    write_part(marks, at, word, gap);
+    let whole = (count - gap) / 8;
+    let rest = write_whole(marks, at + gap, word >> gap, whole);
+    let done = gap + 8 * whole;
+    write_part(marks, at + done, rest, count - done);
 }
 
 // Writes row v of n.

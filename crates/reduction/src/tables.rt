@@ -52,7 +52,7 @@ fn write_table(
 }
 
 // Writes the classes of marks that hold the order, and the table of the quotient or, with `drop`, of the reduced game. The representatives
-// and the edges are in local arrays of 16,896 bytes.
+// and the edges are in local arrays of 17,408 bytes.
 fn fill_table(
     game: &[u16],
     starts: &[u16],
@@ -91,7 +91,7 @@ fn fill_table(
     }
 }
 
-// Writes all lent memory: the order, the classes and the table, over an index of the edges in local arrays of 8,706 bytes.
+// Writes all lent memory: the order, the classes and the table, over an index of the edges in local arrays of 9,218 bytes.
 pub fn fill_memory(
     game: &[u16],
     marks: &mut [u8],

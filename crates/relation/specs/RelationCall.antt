@@ -3,7 +3,7 @@
 -- bisimulations asks more.
 use mathlib.Core.Bool.{Bool, true, false, not}
 use mathlib.Core.List.{List, [], _∷_, _++_}
-use Prim.Native.Nat.{ℕ, _/_, _%_}
+use Prim.Native.Nat.{ℕ, _-_, _/_, _%_}
 use lib.Dec.{ltb}
 use Rattle.theory.specs.Bools.{_&_}
 use Rattle.theory.specs.Range.{first}
@@ -13,7 +13,7 @@ use Rattle.theory.specs.Order.{equalPriority, test}
 use Rattle.table.specs.Table.{vertexCount, pairCount, gameOf}
 use Rattle.table.specs.Verdict.{Row, row, memoryRow, Answer, judge}
 use Rattle.table.specs.Reading.{gameRows}
-use Rattle.pairs.specs.Marks.{marksLength, relation, firstHigh}
+use Rattle.pairs.specs.Marks.{marksLength, relation, hasUnused}
 
 -- what is asked of a marked pair under the marks H: equal priorities and the test
 unfoldable pub directPair : Game → Rel → Rel
@@ -35,13 +35,13 @@ fails asked g marks v w = relation (vertexCount g) marks v w & not (asked (gameO
 unfoldable pub firstFailing : (Game → Rel → Rel) → List ℕ → List ℕ → ℕ
 firstFailing asked g marks = first (λ i. fails asked g marks (i / vertexCount g) (i % vertexCount g)) 0 (pairCount g)
 
--- 1 to 8, 21, 9, 10
+-- 1 to 8, 21, 41, 10. 41, a set unused bit, names the last byte
 unfoldable pub acceptorRows : (Game → Rel → Rel) → List ℕ → List ℕ → List Row
 acceptorRows asked g marks =
     gameRows g
     ++ (
     memoryRow 21 (marksLength (vertexCount g)) marks
-    ∷ row 9 (ltb (firstHigh marks (pairCount g)) (pairCount g)) (firstHigh marks (pairCount g))
+    ∷ row 41 (hasUnused marks (pairCount g)) (marksLength (vertexCount g) - 1)
     ∷ row 10 (ltb (firstFailing asked g marks) (pairCount g)) (firstFailing asked g marks)
     ∷ []
     )

@@ -3,7 +3,7 @@ use mathlib.Core.Path.{_≡_, refl, sym, ap, _∙_}
 use mathlib.Core.Logic.{inl, inr}
 use mathlib.Core.Bool.{Bool, true, false, not, So}
 use mathlib.Core.List.{List, [], _∷_}
-use Prim.Native.Nat.{ℕ, _≤_, _<_}
+use Prim.Native.Nat.{ℕ, _-_, _≤_, _<_}
 use native.Mathlib.Omega.{arith}
 use lib.Dec.{ltb}
 use lib.ListN.{length, drop}
@@ -20,7 +20,7 @@ use Rattle.table.specs.ReadingLaws.{reading-stays, well-clean}
 use Rattle.table.specs.WellFormed.{WellFormed}
 use Rattle.table.specs.declared.Refusal.{Refusal}
 use Rattle.table.specs.declared.Reading.the-variants.{Refused}
-use Rattle.pairs.specs.Marks.{marksLength, relation, firstHigh}
+use Rattle.pairs.specs.Marks.{marksLength, relation, hasUnused}
 use Rattle.relation.specs.RelationCall.{directPair, governedPair, pairBy, fails, firstFailing, acceptorRows, acceptorAnswer}
 
 pub firstFailing-le : (asked : Game → Rel → Rel) (g marks : List ℕ) → firstFailing asked g marks ≤ pairCount g
@@ -42,7 +42,7 @@ module _ (asked : Game → Rel → Rel) (g marks : List ℕ) where
     abbrev rows : List Row
     rows =
         memoryRow 21 needed marks
-        ∷ row 9 (ltb (firstHigh marks (pairCount g)) (pairCount g)) (firstHigh marks (pairCount g))
+        ∷ row 41 (hasUnused marks (pairCount g)) (needed - 1)
         ∷ row 10 (ltb (firstFailing asked g marks) (pairCount g)) (firstFailing asked g marks)
         ∷ []
 
@@ -57,19 +57,19 @@ module _ (asked : Game → Rel → Rel) (g marks : List ℕ) where
       marks-fit : acceptorAnswer asked g marks ≡ judge (drop 1 rows) []
       marks-fit = game-reads ∙ judge-next _ _ _ (le-ltb (length marks) needed h)
 
-      pub relation-high : firstHigh marks (pairCount g) < pairCount g → refused 9 (firstHigh marks (pairCount g)) ≡ acceptorAnswer asked g marks
-      relation-high k = sym (marks-fit ∙ judge-hit _ _ _ (lt-ltb (firstHigh marks (pairCount g)) (pairCount g) k))
+      pub relation-unused : So (hasUnused marks (pairCount g)) → refused 41 (needed - 1) ≡ acceptorAnswer asked g marks
+      relation-unused k = sym (marks-fit ∙ judge-hit _ _ _ k)
 
-      module _ (k : pairCount g ≤ firstHigh marks (pairCount g)) where
-        marks-low : acceptorAnswer asked g marks ≡ judge (drop 2 rows) []
-        marks-low = marks-fit ∙ judge-next _ _ _ (le-ltb (firstHigh marks (pairCount g)) (pairCount g) k)
+      module _ (k : hasUnused marks (pairCount g) ≡ false) where
+        marks-clear : acceptorAnswer asked g marks ≡ judge (drop 2 rows) []
+        marks-clear = marks-fit ∙ judge-next _ _ _ k
 
         pub relation-fails : firstFailing asked g marks < pairCount g → refused 10 (firstFailing asked g marks) ≡ acceptorAnswer asked g marks
-        relation-fails l = sym (marks-low ∙ judge-hit _ _ _ (lt-ltb (firstFailing asked g marks) (pairCount g) l))
+        relation-fails l = sym (marks-clear ∙ judge-hit _ _ _ (lt-ltb (firstFailing asked g marks) (pairCount g) l))
 
         pub relation-passes : pairCount g ≤ firstFailing asked g marks → accepted [] ≡ acceptorAnswer asked g marks
         unfolding judge
-        relation-passes l = sym (marks-low ∙ judge-next _ [] [] (le-ltb (firstFailing asked g marks) (pairCount g) l))
+        relation-passes l = sym (marks-clear ∙ judge-next _ [] [] (le-ltb (firstFailing asked g marks) (pairCount g) l))
 
 -- ---- what is asked of a pair
 

@@ -1,37 +1,35 @@
 -- Laws of the relation acceptor: it refuses k at p exactly as document 01's table says, passes exactly the direct simulations, and all
 -- that it passes lies in the written order.
-use mathlib.Core.Path.{_≡_, refl, sym, subst, subst₂}
+use mathlib.Core.Path.{_≡_, refl, sym, subst₂}
 use mathlib.Core.Logic.{_↔_, inl, inr}
 use mathlib.Core.Bool.{Bool, false, So}
 use mathlib.Core.List.{List, []}
-use Prim.Native.Nat.{ℕ, _+_, _*_, _/_, _%_, _≤_, _<_}
+use Prim.Native.Nat.{ℕ, _+_, _-_, _*_, _/_, _%_, _≤_, _<_}
 use native.Mathlib.Omega.{arith}
-use native.Mathlib.Nat.{div-add-mod'}
 use lib.Arith.{digits-lt, digits-div, digits-mod}
-use lib.Dec.{ltb}
 use lib.ListN.{length, getD}
-use borrow.Author.Tests.{ltb-true, ltb-false, lt-ltb, le-ltb}
-use Rattle.theory.specs.BoolsLaws.{clash, decide, So-not, and-in, and-out, not-in, not-out, bit-le}
+use borrow.Author.Tests.{ltb-false, le-ltb}
+use Rattle.theory.specs.BoolsLaws.{clash, decide, So-not, and-in, and-out, not-in, not-out}
 use Rattle.theory.specs.RangeLaws.{none-found, found-none}
 use Rattle.theory.specs.CountLaws.{row-lt, col-lt}
 use Rattle.theory.specs.Passes.{Rel}
 use Rattle.theory.specs.Game.{even, Game}
 use Rattle.theory.specs.Simulation.{Below}
 use Rattle.theory.specs.SimulationLaws.{moves-mono}
-use Rattle.theory.specs.OrderLaws.{passes-in, passes-out}
-use Rattle.table.specs.Table.{vertexCount, pairCount, gameOf}
+use Rattle.theory.specs.OrderLaws.{passes-in, passes-out, length-orderMarks}
+use Rattle.table.specs.Table.{vertexCount, gameOf}
 use Rattle.table.specs.TableLaws.{game-n}
 use Rattle.table.specs.Verdict.{accepted, refused}
 use Rattle.table.specs.VerdictLaws.{judge-clean, judge-accepted, clean-append, clean-split}
 use Rattle.table.specs.Reading.{gameRows}
 use Rattle.table.specs.ReadingLaws.{rows-render, well-clean, clean-well}
 use Rattle.table.specs.Rules.{FirstRule, Rendered, none, next}
-use Rattle.table.specs.RulesLaws.{memory-renders, renders-first, refused-by, rendered-append}
+use Rattle.table.specs.RulesLaws.{memory-renders, renders-placed, renders-first, refused-by, rendered-append}
 use Rattle.table.specs.WellFormed.{WellFormed}
-use Rattle.pairs.specs.Marks.{marksLength, relation, Marked, firstHigh}
-use Rattle.pairs.specs.MarksLaws.{marked-in, marked-out}
+use Rattle.pairs.specs.Marks.{marksLength, relation, Marked, hasUnused}
+use Rattle.pairs.specs.MarksLaws.{marked-in, marked-out, zero-mark, clear-in, clear-out, unused-says}
 use Rattle.order.specs.OrderCall.{OrderCall}
-use Rattle.order.specs.OrderRulesLaws.{order-accepted, length-marks, written-marks, marked-below, below-marked}
+use Rattle.order.specs.OrderRulesLaws.{order-accepted, length-marks, marks-clear, marked-below, below-marked}
 use Rattle.relation.specs.RelationCall.{directPair, fails, firstFailing, acceptorRows, acceptorAnswer, relationAnswer}
 use Rattle.relation.specs.RelationRules.{Fails, acceptorRules, AcceptorPasses, Direct, relationRules, RelationPasses}
 
@@ -71,14 +69,12 @@ module _ (asked : Game → Rel → Rel) (g marks : List ℕ) (Asked : ℕ → �
   )
 
   rows-render-asked : Rendered (acceptorRows asked g marks) (acceptorRules Asked g marks)
-  unfolding acceptorRows firstHigh firstFailing
+  unfolding acceptorRows firstFailing
   rows-render-asked =
       let n = vertexCount g in
       rendered-append (rows-render g)
       (next (memory-renders 21 _ marks)
-      (next
-      (renders-first 9 (λ i. ltb 1 (getD marks i 0)) (λ i. 1 < getD marks i 0) 0 (n * n) (λ i. i) (omega arith)
-      (λ i. (ltb-true 1 (getD marks i 0), lt-ltb 1 (getD marks i 0))))
+      (next (renders-placed 41 (marksLength n - 1) (hasUnused marks (n * n)) _ (unused-says marks (n * n)))
       (next
       (renders-first 10 (λ i. fails asked g marks (i / n) (i % n)) (λ i. Fails Asked g marks (i / n) (i % n)) 0 (n * n) (λ i. i) (omega arith)
       (λ i. fails-is (i / n) (i % n)))
@@ -91,14 +87,14 @@ module _ (asked : Game → Rel → Rel) (g marks : List ℕ) (Asked : ℕ → �
 
   -- accepted exactly if every marked pair passes
   pub acceptor-accepted : acceptorAnswer asked g marks ≡ accepted [] → AcceptorPasses Asked g marks
-  unfolding acceptorAnswer acceptorRows firstHigh firstFailing
+  unfolding acceptorAnswer acceptorRows firstFailing
   acceptor-accepted e =
       let n = vertexCount g in
       let c = clean-split (gameRows g) _ (judge-accepted _ [] [] e .0) in
       record {
         game = clean-well g (c .0);
-        fits = ltb-false (length marks) (n * n) (c .1 .0);
-        low = λ i h. ltb-false 1 (getD marks i 0) (none-found _ (n * n) (c .1 .1 .0) i h);
+        fits = ltb-false (length marks) (marksLength n) (c .1 .0);
+        clear = clear-out marks (n * n) (c .1 .1 .0);
         each = λ v w hv hw m.
             let f : fails asked g marks v w ≡ false =
             subst₂ (λ (x y : ℕ). fails asked g marks x y ≡ false) (digits-div v hw) (digits-mod v hw)
@@ -110,14 +106,14 @@ module _ (asked : Game → Rel → Rel) (g marks : List ℕ) (Asked : ℕ → �
       }
 
   pub acceptor-accepts : AcceptorPasses Asked g marks → acceptorAnswer asked g marks ≡ accepted []
-  unfolding acceptorAnswer acceptorRows firstHigh firstFailing
+  unfolding acceptorAnswer acceptorRows firstFailing
   acceptor-accepts r =
       let n = vertexCount g in
       judge-clean _ []
       (clean-append (gameRows g) _ (well-clean g (r .game)) (
-        le-ltb (length marks) (n * n) (r .fits),
+        le-ltb (length marks) (marksLength n) (r .fits),
         (
-          found-none _ (n * n) (λ i h. le-ltb 1 (getD marks i 0) (r .low i h)),
+          clear-in marks (n * n) (r .clear),
           (
             found-none _ (n * n)
                 (λ i h. So-not (λ t.
@@ -129,13 +125,13 @@ module _ (asked : Game → Rel → Rel) (g marks : List ℕ) (Asked : ℕ → �
       ))
 
   -- the empty relation passes
-  pub empty-accepted : WellFormed g → marksLength (vertexCount g) ≤ length marks → ((i : ℕ) → i < pairCount g → getD marks i 0 ≡ 0)
+  pub empty-accepted : WellFormed g → marksLength (vertexCount g) ≤ length marks → ((j : ℕ) → j < marksLength (vertexCount g) → getD marks j 0 ≡ 0)
       → acceptorAnswer asked g marks ≡ accepted []
   empty-accepted well fit zero = acceptor-accepts (record {
     game = well;
     fits = fit;
-    low = λ i h. omega (arith, zero i h);
-    each = λ v w hv hw m. absurd (omega (arith, m, zero (v * vertexCount g + w) (digits-lt hv hw)));
+    clear = λ i l h. zero-mark marks i (zero (i / 8) (omega (arith, h)));
+    each = λ v w hv hw m. let l = digits-lt hv hw in clash m (zero-mark marks _ (zero _ (omega (arith, l))));
   })
 
 -- ---- direct simulations
@@ -147,12 +143,12 @@ module _ (g marks : List ℕ) where
   pub relation-accepted : relationAnswer g marks ≡ accepted [] → RelationPasses g marks
   relation-accepted e =
       let p = acceptor-accepted directPair g marks _ (direct-is g marks) e in
-      record { game = p .game; fits = p .fits; low = p .low; simulation = λ v w hv hw m. p .each v w (rw (game-n g) at hv) (rw (game-n g) at hw) m }
+      record { game = p .game; fits = p .fits; clear = p .clear; simulation = λ v w hv hw m. p .each v w (rw (game-n g) at hv) (rw (game-n g) at hw) m }
 
   pub relation-accepts : RelationPasses g marks → relationAnswer g marks ≡ accepted []
   relation-accepts r =
       acceptor-accepts directPair g marks _ (direct-is g marks)
-      (record { game = r .game; fits = r .fits; low = r .low; each = λ v w hv hw m. r .simulation v w (rw (game-n g) hv) (rw (game-n g) hw) m })
+      (record { game = r .game; fits = r .fits; clear = r .clear; each = λ v w hv hw m. r .simulation v w (rw (game-n g) hv) (rw (game-n g) hw) m })
 
   -- ---- all that is passed lies in the written order
 
@@ -165,7 +161,7 @@ module _ (g marks : List ℕ) where
 
   -- ---- the empty relation passes
 
-  pub empty-passes : WellFormed g → marksLength (vertexCount g) ≤ length marks → ((i : ℕ) → i < pairCount g → getD marks i 0 ≡ 0)
+  pub empty-passes : WellFormed g → marksLength (vertexCount g) ≤ length marks → ((j : ℕ) → j < marksLength (vertexCount g) → getD marks j 0 ≡ 0)
       → relationAnswer g marks ≡ accepted []
   empty-passes = empty-accepted directPair g marks _ (direct-is g marks)
 
@@ -174,14 +170,11 @@ module _ (g marks : List ℕ) where
 module _ (g marks spare counts marks′ spare′ : List ℕ) (call : OrderCall g marks spare (accepted counts) marks′ spare′) where
   pub written-passes : relationAnswer g marks′ ≡ accepted []
   written-passes =
-      let n = vertexCount g in
       let f = order-accepted g marks spare counts (sym (call .verdict)) .0 in
       relation-accepts g marks′ (record {
         game = f .game;
         fits = omega (arith, f .marksFit, length-marks g marks spare counts marks′ spare′ call);
-        low = λ i h.
-            subst (λ (k : ℕ). getD marks′ k 0 ≤ 1) (div-add-mod' i n)
-            (rw (written-marks g marks spare counts marks′ spare′ call (i / n) (i % n) (row-lt n n i h) (col-lt n n i h)) (bit-le _));
+        clear = marks-clear length-orderMarks g marks spare counts marks′ spare′ call;
         simulation = λ v w hv hw m.
             let b = marked-below g marks spare counts marks′ spare′ call v w (rw (game-n g) at hv) (rw (game-n g) at hw) m in
             let q = b .simulation v w hv hw (b .holds) in

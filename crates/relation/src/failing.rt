@@ -93,7 +93,7 @@ fn first_failing(game: &[u16], starts: &[u16], targets: &[u16], marks: &[u8], mi
     failing
 }
 
-// The same, over an index of the edges in local arrays of 8,706 bytes.
+// The same, over an index of the edges in local arrays of 9,218 bytes.
 pub fn failing_pair(game: &[u16], marks: &[u8], mirror: bool) -> Pair
     requires { ⌜ WellFormed (now game) ⌝ }
     requires { ⌜ marksLength (vertexCount (now game)) ≤ length (now marks) ⌝ }

@@ -1,7 +1,7 @@
 // The acceptor of relations.
 mod failing;
 
-use pairs::marks::first_high;
+use pairs::marks::has_unused;
 use pairs::marks::length_for;
 use table::Acceptance;
 use table::NoCounts;
@@ -25,9 +25,8 @@ pub fn judge_marks(game: &[u16], n: usize, marks: &[u8], mirror: bool) -> Accept
         return refused(21, needed);
     }
     let pairs = n * n;
-    let high = first_high(marks, pairs);
-    if high < pairs {
-        return refused(9, high);
+    if has_unused(marks, pairs) {
+        return refused(41, needed - 1);
     }
     let failing = failing::failing_pair(game, marks, mirror);
     let place = failing.v * n + failing.w;

@@ -15,7 +15,8 @@ use Rattle.theory.specs.Reduction.{noBetter}
 use Rattle.theory.specs.Carry.{answerTo}
 use Rattle.table.specs.Table.{vertexCount, playerOf, gameOf}
 use Rattle.table.specs.WellFormed.{WellFormed}
-use Rattle.classes.specs.Numbering.{Holding, Ordered}
+use Rattle.table.specs.Flags.{EdgeFlags}
+use Rattle.classes.specs.Numbering.{Ordered}
 use Rattle.links.specs.PlanTable.{positionCount, linkCount, linkSource, linkTarget, planOf}
 use Rattle.links.specs.PlanFormed.{PlanFormed}
 
@@ -49,10 +50,10 @@ pub record Linked (game : List ℕ) (player : ℕ) (plan seats marks firsts foll
   pub follow-long : linkCount plan ≤ length follow
   pub chains : LinkChains (linkSource plan) (linkCount plan) (positionCount plan) firsts follow
 
--- all that a reply reads: a flag for each pair of vertices that is an edge, too
+-- all that a reply reads: the flags of the edges, too
 pub record Readable (game : List ℕ) (player : ℕ) (plan seats marks edges firsts follow : List ℕ) : Type 0 where
   pub links : Linked game player plan seats marks firsts follow
-  pub flags : Holding (vertexCount game) (gameOf game .edge) edges
+  pub flags : EdgeFlags game edges
 
 -- ---- replies
 

@@ -1,6 +1,7 @@
 // What answers a move where a plan is carried: the links of the old plan, each position's in a chain. Parts of the calls that carry a plan;
 // no host calls these.
 use pairs::marks::is_marked;
+use table::flags::is_edge;
 use table::words;
 ghost use mathlib.Core.Path.{_≡_};
 ghost use Prim.Native.Nat.{ℕ, _≤_, _<_};
@@ -114,7 +115,7 @@ pub fn reply(
     plan: &[u16],
     seats: &[u16],
     marks: &[u8],
-    edges: &[u8],
+    edges: &[u64],
     firsts: &[u16],
     follow: &[u16],
     i: usize,
@@ -128,7 +129,7 @@ pub fn reply(
     let n = game[0] as usize;
     let p = plan[0] as usize;
     let l = plan[1] as usize;
-    if is_marked(edges, n, u, w) {
+    if is_edge(edges, n, u, w) {
         let k = answer(game, player, plan, seats, marks, firsts, follow, i, w);
         if k < l {
             return plan[2 + p + l + k] as usize;
@@ -144,7 +145,7 @@ pub fn lowest_reply(
     plan: &[u16],
     seats: &[u16],
     marks: &[u8],
-    edges: &[u8],
+    edges: &[u64],
     firsts: &[u16],
     follow: &[u16],
     i: usize,

@@ -38,7 +38,7 @@ unfolding number
 number-refused x e = rw e
 
 marks-fit : (g : List ℕ) → WellFormed g → marksLength (vertexCount g) ≤ marksLength vertexLimit
-marks-fit g w = mul-le-mul (w .vertices) (w .vertices)
+marks-fit g w = omega (arith, mul-le-mul (w .vertices) (w .vertices))
 
 pub table-fits : {g marks spare output classes members edges : List ℕ} → Enough marks spare output classes members edges → WellFormed g
     → TableFits g marks spare classes output

@@ -5,7 +5,7 @@ use lib.ListN.{length, getD}
 use Rattle.theory.specs.Range.{tabulate}
 use Rattle.table.specs.Limits.{tableLimit}
 
--- "It stops after 8,707 words": a word more than the longest table has
+-- document 02, "The report stops after 9,219 words": a word more than the longest table has
 abbrev pub readLimit : ℕ
 readLimit = tableLimit + 1
 

@@ -5,7 +5,7 @@ mod words;
 
 use libc::STDIN_FILENO;
 use table::Reading;
-use table::limits::PAIRS;
+use table::limits::PAIR_BYTES;
 use table::limits::TABLE_WORDS;
 use table::limits::VERTICES;
 use totals::Totals;
@@ -69,8 +69,8 @@ fn report_bytes(bytes: &[u8])
     requires { ⌜ length (now bytes) ≤ 2 * readLimit ⌝ }
 {
     let mut words = [0u16; READ_WORDS];
-    let mut marks = [0u8; PAIRS];
-    let mut spare = [0u8; PAIRS];
+    let mut marks = [0u8; PAIR_BYTES];
+    let mut spare = [0u8; PAIR_BYTES];
     let mut output = [0u16; TABLE_WORDS];
     let mut classes = [0u16; VERTICES];
     let mut members = [0u16; VERTICES];

@@ -24,7 +24,7 @@ fn word_at(bytes: &[u8], i: usize) -> u16
     }
 }
 
-// Writes the words of at most 17,414 bytes; returns how many they are.
+// Writes the words of at most 18,438 bytes; returns how many they are.
 pub fn decode(bytes: &[u8], words: &mut [u16]) -> usize
     requires { ⌜ (length (now bytes) ≤ 2 * readLimit) × (readLimit ≤ length (now words)) ⌝ }
     ensures { λ r. ⌜ (r ≡ length (wordsOf (now (bytes .entry)))) × (now (words .exit) ≡ written (wordsOf (now (bytes .entry))) (now (words .entry))) ⌝ }

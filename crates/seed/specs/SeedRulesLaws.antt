@@ -12,10 +12,11 @@ use lib.ListN.{length, getD, drop}
 use lib.Seq.{take-at}
 use borrow.Author.Tests.{eqb-true, eqb-false, eq-eqb, ne-eqb, ltb-true, ltb-false, lt-ltb, le-ltb}
 use Rattle.theory.specs.Game.{edgeCount}
+use Rattle.theory.specs.Bools.{_or_}
 use Rattle.theory.specs.BoolsLaws.{or-left, or-right, or-out, or-says, or-fails}
 use Rattle.table.specs.Limits.{vertexLimit, edgeLimit}
 use Rattle.table.specs.Table.{tableLength, tableIn, gameOf}
-use Rattle.table.specs.Verdict.{accepted, refused, written}
+use Rattle.table.specs.Verdict.{accepted, refused, judge, written}
 use Rattle.table.specs.VerdictLaws.{judge-clean, judge-accepted, length-written, getD-written-beyond, after-accepted, after-refused}
 use Rattle.table.specs.Rules.{FirstRule, Rendered, none, next}
 use Rattle.table.specs.RulesLaws.{renders-placed, memory-renders, refused-by}
@@ -98,6 +99,23 @@ seed-accepted n d c output counts e =
 pub seed-accepts : (n d c : ℕ) (output : List ℕ) → SeedFits n d c output → seedAnswer n d c output ≡ accepted (n ∷ n * d ∷ [])
 unfolding seedAnswer seedRows
 seed-accepts n d c output f = judge-clean _ _ (unfit-fails n d c .1 (f .numbers), (le-ltb (length output) _ (f .outputFits), tt))
+
+-- ---- the largest product: 512 × 8 is let in, and 512 × 9 isn't
+
+pub product-largest : (output : List ℕ) → 9218 ≤ length output → seedAnswer 512 8 1 output ≡ accepted (512 ∷ 4096 ∷ [])
+product-largest output h = seed-accepts 512 8 1 output (record {
+  numbers = record {
+    vertices = record { some = omega arith; few = omega arith };
+    degree = record { some = omega arith; few = omega arith };
+    priorities = record { some = omega arith; few = omega arith };
+    edges = omega arith;
+  };
+  outputFits = omega arith;
+})
+
+pub product-above : (output : List ℕ) → seedAnswer 512 9 1 output ≡ refused 31 0
+unfolding seedAnswer seedRows unfit outside _or_ judge
+product-above output = refl
 
 -- ---- what an accepted call wrote
 

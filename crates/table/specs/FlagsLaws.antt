@@ -1,6 +1,6 @@
--- Laws of the reader's flags and of edge numbers.
+-- Laws of the flags of vertices and of pairs, and of edge numbers.
 use mathlib.Core.Path.{_≡_, refl, sym, ap, _∙_}
-use mathlib.Core.Bool.{cond, not}
+use mathlib.Core.Bool.{not}
 use mathlib.Core.List.{List}
 use Prim.Native.Nat.{ℕ, _+_, _*_, _/_, _%_, _≤_, _<_}
 use native.Mathlib.Nat.{mul-le-mul, div-add-mod'}
@@ -11,40 +11,53 @@ use lib.Dec.{eqb, leb}
 use lib.ListN.{length, getD, set, replicate, length-set, length-replicate, getD-replicate}
 use lib.Seq.{getD-set-same, getD-set-other}
 use borrow.Author.Tests.{eq-eqb, ne-eqb, leb-false}
-use Rattle.theory.specs.Bools.{bit}
-use Rattle.theory.specs.BoolsLaws.{bit-le, bit-either, bit-cond, bit-not, bit-is-some}
+use Rattle.theory.specs.Bools.{_or_, bit}
+use Rattle.theory.specs.BoolsLaws.{bit-is-some}
 use Rattle.theory.specs.Range.{anyBelow, first, tabulate}
 use Rattle.theory.specs.RangeLaws.{any-in, any-ext, any-more, any-same, first-before, first-ext}
 use Rattle.theory.specs.CountLaws.{count-ext, count-none, count-add, col-lt, digits-same}
 use Rattle.theory.specs.ListLaws.{tabulate-by, getD-tabulate}
 use Rattle.theory.specs.Game.{edgeCount}
-use Rattle.table.specs.Limits.{vertexLimit, pairLimit}
+use Rattle.word.specs.WordLaws.{digit-zero}
+use Rattle.word.specs.Words.{has}
+use Rattle.table.specs.Limits.{vertexLimit, pairLimit, pairWords}
 use Rattle.table.specs.Table.{vertexCount, tableEdges, sourceAt, targetAt, tableLength, isEdge, gameOf}
 use Rattle.table.specs.Reading.{lacksEdge, firstEnd, firstLacking}
-use Rattle.table.specs.Flags.{atLeast, Sized, EndsInside, edgeNumber, Filled, Flagged, differentBelow}
-
--- ---- flags
+use Rattle.table.specs.WellFormed.{WellFormed}
+use Rattle.table.specs.Flags.{atLeast, Sized, EndsInside, edgeNumber, Filled, Cleared, Raised, numbered, Flagged, differentBelow, flagged, EdgeFlags}
 
 pub filled : (n x : ℕ) → Filled x (replicate n x)
 filled n x = record { at = λ i h. getD-replicate n i x 0 (rw (length-replicate n x) at h) }
 
-module _ (x y : ℕ) (index : ℕ → ℕ) where
-  pub flagged-none : (flags : List ℕ) → Filled x flags → Flagged x y index 0 flags
-  unfolding anyBelow
-  flagged-none flags h = record { at = h .at }
+-- ---- the flags of vertices
 
-  -- one number more: its flag is set
-  pub flagged-more : (j : ℕ) (flags : List ℕ) → index j < length flags → Flagged x y index j flags → Flagged x y index (j + 1) (set flags (index j) y)
-  flagged-more j flags l h = record { at = λ i m. go i (rw length-set at m) (ℕ-discrete (index j) i) }
-    where
-      go : (i : ℕ) → i < length flags → Dec (index j ≡ i) → getD (set flags (index j) y) i 0 ≡ cond (anyBelow (j + 1) (λ k. eqb (index k) i)) y x
-      go i m (yes e) = rw (any-in (j + 1) (λ k. eqb (index k) i) j (omega arith) (eq-eqb (index j) i e), ← e) (getD-set-same flags (index j) y 0 l)
-      go i m (no d) = rw (any-same j (λ k. eqb (index k) i) (ne-eqb (index j) i d)) (getD-set-other flags (index j) i y 0 (λ e. d (sym e)) ∙ h .at i m)
+pub cleared-none : (g lacking : List ℕ) → Filled 1 lacking → Cleared g 0 lacking
+unfolding anyBelow bit
+cleared-none g lacking h = record { at = h .at }
 
--- ---- no edge yet, none different
+-- one edge more: the flag of its source is cleared
+pub cleared-more : (g : List ℕ) (j : ℕ) (lacking : List ℕ) → sourceAt g j < length lacking → Cleared g j lacking → Cleared g (j + 1) (set lacking (sourceAt g j) 0)
+unfolding bit
+cleared-more g j lacking l h = record { at = λ v m. go v (rw length-set at m) (ℕ-discrete (sourceAt g j) v) }
+  where
+    go : (v : ℕ) → v < length lacking → Dec (sourceAt g j ≡ v) → getD (set lacking (sourceAt g j) 0) v 0 ≡ bit (not (anyBelow (j + 1) (λ k. eqb (sourceAt g k) v)))
+    go v m (yes e) = rw (any-in (j + 1) (λ k. eqb (sourceAt g k) v) j (omega arith) (eq-eqb (sourceAt g j) v e), ← e) (getD-set-same lacking (sourceAt g j) 0 0 l)
+    go v m (no d) = rw (any-same j (λ k. eqb (sourceAt g k) v) (ne-eqb (sourceAt g j) v d)) (getD-set-other lacking (sourceAt g j) v 0 0 (λ e. d (sym e)) ∙ h .at v m)
 
+-- ---- the flags of pairs
+
+pub flagged-none : (g flags : List ℕ) → pairWords ≤ length flags → Filled 0 flags → Flagged g 0 flags
+unfolding has numbered anyBelow
+flagged-none g flags l h = record { at = λ i m. rw (h .at (i / 64) (omega arith)) (digit-zero (i % 64)) }
+
+-- one edge more: its flag is set
+pub flagged-more : (g : List ℕ) (j : ℕ) (flags flags′ : List ℕ) → Flagged g j flags → Raised flags flags′ (edgeNumber g j) → Flagged g (j + 1) flags′
+unfolding numbered
+flagged-more g j flags flags′ f r = record { at = λ i h. r i ∙ ap (λ b. b or eqb (edgeNumber g j) i) (f .at i h) ∙ sym (any-more j (λ k. eqb (edgeNumber g k) i)) }
+
+-- no edge yet, none different
 pub different-none : (g : List ℕ) → 0 ≡ differentBelow g 0
-unfolding differentBelow anyBelow
+unfolding differentBelow numbered anyBelow
 different-none g = sym (count-none _ _ (λ i h. refl))
 
 -- ---- edge ends and edge numbers
@@ -52,14 +65,6 @@ different-none g = sym (count-none _ _ (λ i h. refl))
 -- a pair of vertices as one number
 pub pair-lt : (n v x : ℕ) → n ≤ vertexLimit → v < n → x < n → v * n + x < pairLimit
 pair-lt n v x h hv hx = omega (arith, digits-lt hv hx, mul-le-mul h h)
-
--- after the edges below j, the flag of the pair (v, x) tells whether one of them is its edge
-pub pair-flag : (g flags : List ℕ) (j : ℕ) → ((i : ℕ) → i < j → targetAt g i < vertexCount g) → Flagged 0 1 (edgeNumber g) j flags
-    → (v x : ℕ) → x < vertexCount g → v * vertexCount g + x < length flags → getD flags (v * vertexCount g + x) 0 ≡ bit (anyBelow j (isEdge g v x))
-unfolding edgeNumber isEdge
-pair-flag g flags j targets f v x h b =
-    f .at (v * vertexCount g + x) b ∙ bit-cond _
-    ∙ ap bit (any-ext j _ _ (λ i k. digits-same (vertexCount g) (sourceAt g i) (targetAt g i) v x (targets i k) h))
 
 module _ (g : List ℕ) (n m : ℕ) (s : Sized g n m) where
   pub source-word : (j : ℕ) → getD g (2 + 2 * n + j) 0 ≡ sourceAt g j
@@ -69,44 +74,55 @@ module _ (g : List ℕ) (n m : ℕ) (s : Sized g n m) where
   unfolding edgeNumber
   edge-words j = rw (s .edges, s .vertices)
 
-module _ (g : List ℕ) (n m : ℕ) (s : Sized g n m) (h : EndsInside g) where
+module _ (g : List ℕ) (n m : ℕ) (s : Sized g n m) (ends : EndsInside g) where
   pub source-lt : (j : ℕ) → j < m → getD g (2 + 2 * n + j) 0 < n
-  source-lt j l = omega (arith, source-word g n m s j, h .sources j (omega arith))
+  source-lt j l = omega (arith, source-word g n m s j, ends .sources j (omega arith))
 
   pub edge-number-lt : (j : ℕ) → j < m → edgeNumber g j < pairLimit
   unfolding edgeNumber
   edge-number-lt j l =
-      pair-lt (vertexCount g) (sourceAt g j) (targetAt g j) (omega arith) (h .sources j (omega arith)) (h .targets j (omega arith))
+      pair-lt (vertexCount g) (sourceAt g j) (targetAt g j) (omega arith) (ends .sources j (omega arith)) (ends .targets j (omega arith))
 
   -- ---- different edges: an edge is counted unless its flag is set, and all edges flag as many pairs as the game has edges
 
   edge-pair-lt : (j : ℕ) → j < m → edgeNumber g j < vertexCount g * vertexCount g
   unfolding edgeNumber
-  edge-pair-lt j l = digits-lt (h .sources j (omega arith)) (h .targets j (omega arith))
+  edge-pair-lt j l = digits-lt (ends .sources j (omega arith)) (ends .targets j (omega arith))
 
   -- one edge more
-  different-more : (j : ℕ) → j < m → differentBelow g (j + 1) ≡ differentBelow g j + bit (not (anyBelow j (λ k. eqb (edgeNumber g k) (edgeNumber g j))))
-  unfolding differentBelow
-  different-more j l =
+  pub different-step : (j : ℕ) (flags : List ℕ) → j < m → Flagged g j flags
+      → differentBelow g (j + 1) ≡ differentBelow g j + bit (not (has flags (edgeNumber g j)))
+  unfolding differentBelow numbered
+  different-step j flags l f =
       count-ext (vertexCount g * vertexCount g) _ _ (λ i b. any-more j (λ k. eqb (edgeNumber g k) i))
-      ∙ count-add (vertexCount g * vertexCount g) (λ i. anyBelow j (λ k. eqb (edgeNumber g k) i)) (edgeNumber g j) (edge-pair-lt j l)
+      ∙ count-add (vertexCount g * vertexCount g) (numbered g j) (edgeNumber g j) (edge-pair-lt j l)
+      ∙ ap (λ b. differentBelow g j + bit (not b)) (sym (f .at (edgeNumber g j) (edge-number-lt j l)))
 
-  pub different-step : (j : ℕ) (flags : List ℕ) → j < m → edgeNumber g j < length flags → Flagged 0 1 (edgeNumber g) j flags
-      → let flag = getD flags (edgeNumber g j) 0 in (differentBelow g (j + 1) + flag ≡ differentBelow g j + 1) × (flag ≤ 1)
-  different-step j flags l b f =
-      let seen = anyBelow j (λ k. eqb (edgeNumber g k) (edgeNumber g j)) in
-      let e = f .at (edgeNumber g j) b ∙ bit-cond seen in
-      (omega (arith, different-more j l, e, bit-either seen), omega (arith, e, bit-le seen))
+  -- the pair (v, x) has the number of an edge exactly if it is one
+  numbered-edge : (v x : ℕ) → x < vertexCount g → numbered g m (v * vertexCount g + x) ≡ gameOf g .edge v x
+  unfolding numbered edgeNumber gameOf isEdge
+  numbered-edge v x h =
+      rw (s .edges) (any-ext (tableEdges g) _ _ (λ k l. digits-same (vertexCount g) (sourceAt g k) (targetAt g k) v x (ends .targets k l) h))
 
   pub different-all : differentBelow g m ≡ edgeCount (gameOf g)
-  unfolding differentBelow edgeCount gameOf edgeNumber isEdge
+  unfolding differentBelow edgeCount gameOf
   different-all =
       let n = vertexCount g in
-      rw (s .edges)
-      (count-ext (n * n) _ _ (λ i b.
-      any-ext (tableEdges g) _ _ (λ k l.
-      ap (eqb (sourceAt g k * n + targetAt g k)) (sym (div-add-mod' i n))
-      ∙ digits-same n (sourceAt g k) (targetAt g k) (i / n) (i % n) (h .targets k l) (col-lt n n i b))))
+      count-ext (n * n) _ _ (λ i b. ap (numbered g m) (sym (div-add-mod' i n)) ∙ numbered-edge (i / n) (i % n) (col-lt n n i b))
+
+  pub edge-flags : (flags : List ℕ) → pairWords ≤ length flags → Flagged g m flags → EdgeFlags g flags
+  unfolding flagged
+  edge-flags flags l f = record {
+    long = l;
+    edge = λ v x hv hx. f .at (v * vertexCount g + x) (pair-lt (vertexCount g) v x (omega arith) hv hx) ∙ numbered-edge v x hx;
+  }
+
+-- what a well-formed table gives
+pub well-sized : {g : List ℕ} → WellFormed g → Sized g (vertexCount g) (tableEdges g)
+well-sized w = record { vertices = refl; edges = refl; fewVertices = w .vertices; fewEdges = w .edges; size = w .size }
+
+pub well-inside : {g : List ℕ} → WellFormed g → EndsInside g
+well-inside w = record { sources = w .sources; targets = w .targets }
 
 -- ---- what the reader knows after its rows 4 and 6
 
@@ -120,9 +136,9 @@ ends-inside g l = record { sources = λ j h. below (2 + 2 * vertexCount g + j) (
 
 -- ---- vertices without an edge out
 
-pub lacking-flags : (g flags : List ℕ) → Flagged 1 0 (sourceAt g) (tableEdges g) flags → flags ≡ tabulate (length flags) (λ v. bit (lacksEdge g v))
+pub lacking-flags : (g lacking : List ℕ) → Cleared g (tableEdges g) lacking → lacking ≡ tabulate (length lacking) (λ v. bit (lacksEdge g v))
 unfolding lacksEdge
-lacking-flags g flags h = tabulate-by (length flags) (λ v. bit (lacksEdge g v)) 0 flags refl (λ v l. h .at v l ∙ bit-not (anyBelow (tableEdges g) (λ j. eqb (sourceAt g j) v)))
+lacking-flags g lacking h = tabulate-by (length lacking) (λ v. bit (lacksEdge g v)) 0 lacking refl (h .at)
 
 pub lacking-first : (g : List ℕ) (k : ℕ) → vertexCount g ≤ k → first (atLeast (tabulate k (λ v. bit (lacksEdge g v))) 1) 0 (vertexCount g) ≡ firstLacking g
 unfolding firstLacking

@@ -17,6 +17,8 @@ pub mod Kind
 pub mod KindLaws
 pub mod Flags
 pub mod FlagsLaws
+pub mod Highest
+pub mod HighestLaws
 pub mod Acceptance
 pub mod Filling
 pub mod ColumnsLaws

@@ -1,11 +1,31 @@
-// A flag for each pair of vertices, at source × n + target: which pairs are edges. Parts of the calls; no host calls these.
+// A flag for each pair of vertices, at source × n + target: which pairs are edges. Flags are bits in words. Parts of the calls; no host
+// calls these.
 ghost use mathlib.Core.Path.{_≡_};
-ghost use Prim.Native.Nat.{_<_, _≤_};
-ghost use lib.ListN.{length, getD, set};
+ghost use Prim.Native.Nat.{_/_, _<_, _≤_};
+ghost use lib.ListN.{length};
 ghost use Rattle.theory.specs.Game.{edgeCount};
-ghost use Rattle.table.specs.Limits.{pairLimit};
+ghost use Rattle.word.specs.Word.{wordBits};
+ghost use Rattle.word.specs.Words.{has};
+ghost use Rattle.table.specs.Limits.{vertexLimit, pairWords};
 ghost use Rattle.table.specs.Table.{gameOf};
-ghost use Rattle.table.specs.Flags.{Sized, EndsInside, edgeNumber, Filled, Flagged};
+ghost use Rattle.table.specs.Flags.{Sized, EndsInside, edgeNumber, Filled, flagged, Raised, EdgeFlags};
+
+// Whether flag i is set.
+fn is_flagged(flags: &[u64], i: usize) -> bool
+    requires { ⌜ i / wordBits < length (now flags) ⌝ }
+    ensures { λ r. ⌜ r ≡ has (now (flags .entry)) i ⌝ }
+{
+    (flags[i / 64] >> (i % 64)) & 1 == 1
+}
+
+// Sets flag i.
+fn raise(flags: &mut [u64], i: usize)
+    requires { ⌜ i / wordBits < length (now flags) ⌝ }
+    ensures { λ r. ⌜ Raised (now (flags .entry)) (now (flags .exit)) i ⌝ }
+{
+    let at = i / 64;
+    flags[at] = word::with(flags[at], i % 64, true);
+}
 
 // An edge as one number: source × n + target.
 fn edge_number(game: &[u16], n: usize, m: usize, j: usize) -> usize
@@ -17,33 +37,41 @@ fn edge_number(game: &[u16], n: usize, m: usize, j: usize) -> usize
     s * n + t
 }
 
-// Sets the flag of edge j. Returns what it was.
-fn flag_edge(game: &[u16], n: usize, m: usize, flags: &mut [u8], j: usize) -> u8
+// Sets the flag of edge j. Returns whether it was set.
+fn flag_edge(game: &[u16], n: usize, m: usize, flags: &mut [u64], j: usize) -> bool
     requires { ⌜ Sized (now game) n m × EndsInside (now game) × (j < m) ⌝ }
-    requires { ⌜ pairLimit ≤ length (now flags) ⌝ }
-    ensures { λ r. ⌜ r ≡ getD (now (flags .entry)) (edgeNumber (now (game .entry)) j) 0 ⌝ }
-    ensures { λ r. ⌜ now (flags .exit) ≡ set (now (flags .entry)) (edgeNumber (now (game .entry)) j) 1 ⌝ }
+    requires { ⌜ pairWords ≤ length (now flags) ⌝ }
+    ensures { λ r. ⌜ r ≡ has (now (flags .entry)) (edgeNumber (now (game .entry)) j) ⌝ }
+    ensures { λ r. ⌜ Raised (now (flags .entry)) (now (flags .exit)) (edgeNumber (now (game .entry)) j) ⌝ }
 {
     let i = edge_number(game, n, m, j);
-    let old = flags[i];
-    flags[i] = 1;
+    let old = is_flagged(flags, i);
+    raise(flags, i);
     old
 }
 
 // Sets the flag of each edge, over zeros. Returns how many different edges there are: those whose flag was clear.
-pub fn flag_edges(game: &[u16], n: usize, m: usize, flags: &mut [u8]) -> usize
+pub fn flag_edges(game: &[u16], n: usize, m: usize, flags: &mut [u64]) -> usize
     requires { ⌜ Sized (now game) n m × EndsInside (now game) ⌝ }
-    requires { ⌜ (pairLimit ≤ length (now flags)) × Filled 0 (now flags) ⌝ }
+    requires { ⌜ (pairWords ≤ length (now flags)) × Filled 0 (now flags) ⌝ }
     ensures { λ r. ⌜ r ≡ edgeCount (gameOf (now (game .entry))) ⌝ }
-    ensures { λ r. ⌜ Flagged 0 1 (edgeNumber (now (game .entry))) m (now (flags .exit)) ⌝ }
+    ensures { λ r. ⌜ EdgeFlags (now (game .entry)) (now (flags .exit)) ⌝ }
 {
     let mut different = 0;
     let mut j = 0;
     while j < m {
-        if flag_edge(game, n, m, flags, j) == 0 {
+        if !flag_edge(game, n, m, flags, j) {
             different += 1;
         }
         j += 1;
     }
     different
+}
+
+// Whether the pair (v, x) of n vertices is flagged.
+pub fn is_edge(flags: &[u64], n: usize, v: usize, x: usize) -> bool
+    requires { ⌜ (v < n) × (x < n) × (n ≤ vertexLimit) × (pairWords ≤ length (now flags)) ⌝ }
+    ensures { λ r. ⌜ r ≡ flagged n (now (flags .entry)) v x ⌝ }
+{
+    is_flagged(flags, v * n + x)
 }

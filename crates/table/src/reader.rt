@@ -1,7 +1,8 @@
 // Parts of the reader, `read`: the searches for its refusals 5, 6 and 8, and the count of different edges. No host calls them.
 use crate::flags::flag_edges;
-use crate::limits::PAIRS;
+use crate::limits::PAIR_WORDS;
 use crate::limits::VERTICES;
+use crate::words;
 ghost use mathlib.Core.Path.{_≡_};
 ghost use Prim.Native.Nat.{_+_, _*_, _<_, _≤_};
 ghost use lib.ListN.{length};
@@ -13,11 +14,15 @@ ghost use Rattle.table.specs.Table.{vertexCount, gameOf};
 ghost use Rattle.table.specs.Reading.{firstOwner, firstEnd, firstLacking, lacksEdge};
 ghost use Rattle.table.specs.Flags.{atLeast, Sized, EndsInside, Filled};
 
-// The first word from `from` on, below `end`, that is `limit` or more; `end` where there is none.
+// The first word from `from` on, below `end`, that is `limit` or more; `end` where there is none. The highest word tells whether there is one:
+// it is found several words at a time.
 fn first_at_least(words: &[u16], limit: usize, from: usize, end: usize) -> usize
     requires { ⌜ (from ≤ end) × (end ≤ length (now words)) ⌝ }
     ensures { λ r. ⌜ r ≡ first (atLeast (now (words .entry)) limit) from end ⌝ }
 {
+    if (words::highest(words, from, end - from) as usize) < limit {
+        return end;
+    }
     let mut k = from;
     while k < end {
         if limit <= words[k] as usize {
@@ -49,7 +54,7 @@ pub fn count_different(game: &[u16], n: usize, m: usize) -> usize
     requires { ⌜ Sized (now game) n m × EndsInside (now game) ⌝ }
     ensures { λ r. ⌜ r ≡ edgeCount (gameOf (now (game .entry))) ⌝ }
 {
-    let mut flags = [0u8; PAIRS];
+    let mut flags = [0u64; PAIR_WORDS];
     flag_edges(game, n, m, &mut flags)
 }
 

@@ -1,9 +1,10 @@
-// Words put into a buffer from a place on. No host calls these.
+// Words put into a buffer from a place on, and the highest word from a place on. No host calls these.
 ghost use mathlib.Core.Path.{_≡_};
 ghost use Prim.Native.Nat.{ℕ, _+_, _<_, _≤_};
 ghost use lib.ListN.{length, getD};
 ghost use Rattle.theory.specs.Range.{tabulate};
 ghost use Rattle.table.specs.Placing.{placed};
+ghost use Rattle.table.specs.Highest.{highestOf};
 
 // Puts `count` times the same word.
 pub fn fill(words: &mut [u16], at: usize, count: usize, value: u16)
@@ -40,4 +41,20 @@ pub fn gather(words: &mut [u16], at: usize, from: &[u16], start: usize, picks: &
         words[at + c] = from[start + picks[c] as usize];
         c += 1;
     }
+}
+
+// The highest of `count` words from `at` on; 0 where there is none.
+pub fn highest(words: &[u16], at: usize, count: usize) -> u16
+    requires { ⌜ at + count ≤ length (now words) ⌝ }
+    ensures { λ r. ⌜ r ≡ highestOf count (λ i. getD (now (words .entry)) (at + i) 0) ⌝ }
+{
+    let mut most = 0;
+    let mut i = 0;
+    while i < count {
+        if most < words[at + i] {
+            most = words[at + i];
+        }
+        i += 1;
+    }
+    most
 }

@@ -18,7 +18,7 @@ pub struct Totals {
     pub edges: usize,
 }
 
-// Writes, for each c below k, how many of the m words from word a on are c. They are counted in a local array of 512 bytes.
+// Writes, for each c below k, how many of the m words from word a on are c. They are counted in a local array of 1,024 bytes.
 fn tally(words: &[u16], a: usize, m: usize, k: usize, counts: &mut [u16])
     requires { ⌜ Column (now words) a m k ⌝ }
     requires { ⌜ (k ≤ vertexLimit) × (k ≤ length (now counts)) ⌝ }

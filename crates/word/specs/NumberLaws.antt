@@ -1,7 +1,7 @@
 -- Laws of a number by its binary digits: the digits of such a number, and the number with given digits.
-use mathlib.Core.Path.{_≡_, refl, sym, ap, _∙_}
-use mathlib.Core.Bool.{Bool, false}
-use Prim.Native.Nat.{ℕ, zero, suc, _+_, _-_, _*_, _/_, _%_, _^_, _≤_, _<_}
+use mathlib.Core.Path.{_≡_, sym, ap, _∙_}
+use mathlib.Core.Bool.{Bool}
+use Prim.Native.Nat.{ℕ, zero, suc, _+_, _*_, _/_, _%_, _^_, _<_}
 use native.Mathlib.Nat.{pow-suc}
 use native.Mathlib.Omega.{arith}
 use lib.Arith.{lt-one}
@@ -9,11 +9,11 @@ use lib.Dec.{eqb}
 use Rattle.theory.specs.Bools.{bit}
 use Rattle.theory.specs.BoolsLaws.{bit-le, bit-is-one}
 use Rattle.word.specs.Word.{digit, number}
-use Rattle.word.specs.WordLaws.{digit-first, digit-suc, digit-bit, digit-high}
+use Rattle.word.specs.WordLaws.{digit-first, digit-suc, digit-bit}
 
 -- ---- the digits of a number that is given by its digits
 
-number-lt : (k : ℕ) (f : ℕ → Bool) → number k f < 2 ^ k
+pub number-lt : (k : ℕ) (f : ℕ → Bool) → number k f < 2 ^ k
 unfolding number
 number-lt zero f = omega arith
 number-lt (suc k) f = omega (arith, bit-le (f 0), number-lt k (λ i. f (suc i)), pow-suc 2 k)
@@ -28,9 +28,6 @@ digit-number (suc k) f (suc j) h =
     let q : (bit (f 0) + 2 * number k (λ i. f (suc i))) / 2 ≡ number k (λ i. f (suc i)) = omega (arith, bit-le (f 0)) in
     sym (digit-suc _ j) ∙ ap (λ (y : ℕ). digit y j) q ∙ digit-number k (λ i. f (suc i)) j (omega arith)
 
-pub digit-beyond : (k : ℕ) (f : ℕ → Bool) (j : ℕ) → k ≤ j → digit (number k f) j ≡ false
-digit-beyond k f j h = digit-high (number k f) j k (number-lt k f) h
-
 -- ---- the number with given digits
 
 pub number-is : (k x : ℕ) (f : ℕ → Bool) → x < 2 ^ k → ((j : ℕ) → j < k → digit x j ≡ f j) → x ≡ number k f
@@ -41,3 +38,7 @@ number-is (suc k) x f h e =
     let rest : x / 2 ≡ number k (λ i. f (suc i)) =
     number-is k (x / 2) (λ i. f (suc i)) (omega (arith, pow-suc 2 k)) (λ j l. digit-suc x j ∙ e (suc j) (omega arith)) in
     omega (arith, low, rest)
+
+-- it goes by the digits
+pub number-ext : (k : ℕ) (f g : ℕ → Bool) → ((j : ℕ) → j < k → f j ≡ g j) → number k f ≡ number k g
+number-ext k f g e = number-is k (number k f) g (number-lt k f) (λ j h. digit-number k f j h ∙ e j h)

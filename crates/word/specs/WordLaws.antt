@@ -85,11 +85,6 @@ pub digit-read : (x k : ℕ) → eqb (bitAnd (x / 2 ^ k) 1) 1 ≡ digit x k
 unfolding digit
 digit-read x k = rw (and-mask (x / 2 ^ k) 1)
 
--- the same as a number
-pub digit-byte : (x k : ℕ) → bitAnd (x / 2 ^ k) 1 ≡ bit (digit x k)
-unfolding digit bit
-digit-byte x k = and-mask (x / 2 ^ k) 1 ∙ two (λ y. y ≡ bit (eqb y 1)) refl refl (x / 2 ^ k % 2) (half (x / 2 ^ k))
-
 digit-power : (j k : ℕ) → digit (1 * 2 ^ j) k ≡ eqb k j
 unfolding digit
 digit-power j k = rw (one-mul (2 ^ j)) (go (ℕ-discrete k j))

@@ -2,10 +2,9 @@
 use Prim.Native.Nat.{ℕ}
 use native.Mathlib.Omega.{arith}
 use lib.ListN.{length-replicate}
-use Rattle.table.specs.Limits.{pairLimit}
-use Rattle.table.specs.FlagsLaws.{filled}
+use Rattle.table.specs.Limits.{positionLimit, linkLimit, pairWords}
+use Rattle.table.specs.FlagsLaws.{filled, well-sized, well-inside}
 use Rattle.replies.specs.Replies.{Readable}
-use Rattle.arrival.specs.FoundLaws.{game-sized, game-inside, flags-hold}
 use borrow.Author.Needs.{needs}
 use Rattle.arrival.proofs.search.Statement.{statement}
 use Rattle.arrival.proofs.search.Tie as tie
@@ -27,11 +26,11 @@ readable c =
     let z = b .formed .sized in record {
       links = record {
         board = b;
-        firsts-long = omega (arith, c .chain-links .kept .1 .0, length-replicate {A = ℕ} 4096 0, z .positions);
-        follow-long = omega (arith, c .chain-links .kept .1 .1 .0, length-replicate {A = ℕ} 16384 0, z .links);
+        firsts-long = omega (arith, c .chain-links .kept .1 .0, length-replicate {A = ℕ} positionLimit 0, z .positions);
+        follow-long = omega (arith, c .chain-links .kept .1 .1 .0, length-replicate {A = ℕ} linkLimit 0, z .links);
         chains = c .chain-links .ensures;
       };
-      flags = flags-hold (b .well) _ (omega (arith, f .flag-edges .kept .1 .1 .1 .0, length-replicate {A = ℕ} pairLimit 0)) (f .flag-edges .ensures .1);
+      flags = f .flag-edges .ensures .1;
     }
 
 shared-slice-read-flag-edges : tie.Need-shared-slice-read-flag-edges
@@ -53,7 +52,7 @@ flag-edges-requires : tie.Need-flag-edges-requires
 flag-edges-requires c κs =
     let s = c .before .before .before .before .before .before .before .before .before .before .before .before .before in
     let w = s .pre .0 .well in
-    ((game-sized w, game-inside w), (omega (arith, length-replicate {A = ℕ} pairLimit 0), filled pairLimit 0))
+    ((well-sized w, well-inside w), (omega (arith, length-replicate {A = ℕ} pairWords 0), filled pairWords 0))
 
 slice-aggregate-chain-links : tie.Need-slice-aggregate-chain-links
 slice-aggregate-chain-links c = search needs

@@ -6,7 +6,8 @@ use Prim.Native.Nat.{ℕ, _+_, _≤_}
 use Rattle.table.specs.Table.{priorityAt}
 use Rattle.table.specs.WellFormed.{WellSized}
 use Rattle.table.specs.ReadingLaws.{reading-accepted}
-use Rattle.convert.specs.LowestTable.{highestOf, highest, evenFrom}
+use Rattle.table.specs.Highest.{highestOf}
+use Rattle.convert.specs.LowestTable.{highest, evenFrom}
 use Rattle.convert.specs.ConvertCall.{firstOversize}
 use Rattle.convert.specs.ConvertCallLaws.{convert-handed, convert-short, convert-oversize, convert-done}
 use Rattle.convert.specs.RoomLaws.{room}
@@ -25,10 +26,10 @@ abbrev game-at : tie.After-known-told → List ℕ
 game-at c = start (c .before .before .before) .args .game .now
 
 -- what was found is the highest priority, and it is a word
-most : (c : tie.After-highest-priority) → c .highest-priority .result ≡ highest (game-at (c .before .before))
-most c = c .highest-priority .ensures ∙ ap (λ (n : ℕ). highestOf n (priorityAt (game-at (c .before .before)))) (sized (c .before .before) .vertices)
+most : (c : tie.After-highest) → c .highest .result ≡ highest (game-at (c .before .before))
+most c = c .highest .ensures ∙ ap (λ (n : ℕ). highestOf n (priorityAt (game-at (c .before .before)))) (sized (c .before .before) .vertices)
 
-few : (c : tie.After-highest-priority) → highest (game-at (c .before .before)) ≤ 65535
+few : (c : tie.After-highest) → highest (game-at (c .before .before)) ≤ 65535
 few c = omega (arith, most c)
 
 -- no word of a priority is 36's
@@ -73,8 +74,8 @@ returns-2 c =
     let s = sized k in
     rw (c .refused .ensures) (convert-short _ _ (s .well) _ _ (s .vertices) (s .edges) (c .before .if1 .taken))
 
-highest-priority-requires : tie.Need-highest-priority-requires
-highest-priority-requires c κs = let s = sized (c .before) in omega (arith, s .vertices, s .well .size)
+highest-requires : tie.Need-highest-requires
+highest-requires c κs = let s = sized (c .before) in omega (arith, s .vertices, s .well .size)
 
 first-oversize-requires : tie.Need-first-oversize-requires
 first-oversize-requires c κs =
@@ -131,7 +132,7 @@ write-lowest-spec =
     add-needed-2
     refused-requires
     returns-2
-    highest-priority-requires
+    highest-requires
     first-oversize-requires
     add-if2
     refused-requires-2

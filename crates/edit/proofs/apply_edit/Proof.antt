@@ -5,7 +5,7 @@ use Prim.Native.Nat.{ℕ, _≤_}
 use native.Mathlib.Omega.{arith}
 use lib.ListN.{length, take}
 use lib.Seq.{length-take-le}
-use Rattle.table.specs.Limits.{edgeLimit}
+use Rattle.table.specs.Limits.{vertexLimit, edgeLimit}
 use Rattle.table.specs.Table.{vertexCount, tableLength, tableIn}
 use Rattle.classes.specs.ClassesRules.{ClassesFit}
 use Rattle.edges.specs.Edges.{edited}
@@ -18,7 +18,7 @@ abbrev start : tie.After-make-edit → tie.Start
 start c = c .before .before .before .before .before .before
 
 -- the new table
-few : (c : tie.After-make-edit) → (c .make-edit .result ≤ edgeLimit) × (start c .args .n ≤ 256)
+few : (c : tie.After-make-edit) → (c .make-edit .result ≤ edgeLimit) × (start c .args .n ≤ vertexLimit)
 few c =
     let s = start c in
     let a = s .args in

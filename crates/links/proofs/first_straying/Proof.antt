@@ -5,15 +5,15 @@ use Prim.Native.Nat.{_≤_, _-_}
 use mathlib.Core.Path.{_≡_, sym, _∙_}
 use Rattle.theory.specs.Range.{first}
 use Rattle.theory.specs.RangeLaws.{first-step, first-hit, first-end}
-use Rattle.links.specs.Edges.{straysBy}
+use Rattle.links.specs.Refusals.{strays, firstStray}
 use Rattle.links.proofs.first_straying.Statement.{statement}
 use Rattle.links.proofs.first_straying.Tie as tie
 
 abbrev Inv-loop : tie.InvT-loop
-Inv-loop edges plan n l k₀ k = (k ≤ l) × (first (straysBy edges n plan) 0 l ≡ first (straysBy edges n plan) k l)
+Inv-loop edges game plan l k₀ k = (k ≤ l) × (firstStray game plan ≡ first (strays game plan) k l)
 
 abbrev μ-loop : tie.MeasureT-loop
-μ-loop edges plan n l k₀ k = l - k
+μ-loop edges game plan l k₀ k = l - k
 
 shared-slice-read-l : tie.Need-shared-slice-read-l Inv-loop μ-loop
 shared-slice-read-l c = search needs
@@ -22,6 +22,7 @@ cast-l : tie.Need-cast-l Inv-loop μ-loop
 cast-l c = search needs
 
 loop-holds : tie.Need-loop-holds Inv-loop μ-loop
+unfolding firstStray
 loop-holds c = search needs
 
 strays-requires : tie.Need-strays-requires Inv-loop μ-loop

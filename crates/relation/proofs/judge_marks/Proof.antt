@@ -2,15 +2,16 @@
 use borrow.Author.Needs.{needs}
 use native.Mathlib.Omega.{arith}
 use native.Mathlib.Nat.{mul-le-mul}
-use mathlib.Core.Path.{_≡_, ap, _∙_}
+use mathlib.Core.Path.{_≡_, sym, ap, _∙_}
+use mathlib.Core.Bool.{false}
 use mathlib.Core.List.{List}
 use Prim.Native.Nat.{ℕ, _+_, _*_, _≤_}
 use lib.ListN.{length}
 use Rattle.table.specs.Limits.{pairLimit}
 use Rattle.table.specs.Table.{vertexCount, pairCount}
-use Rattle.pairs.specs.Marks.{marksLength, firstHigh}
+use Rattle.pairs.specs.Marks.{marksLength, hasUnused}
 use Rattle.relation.specs.RelationCall.{pairBy, firstFailing}
-use Rattle.relation.specs.RelationCallLaws.{firstFailing-le, relation-short, relation-high, relation-fails, relation-passes}
+use Rattle.relation.specs.RelationCallLaws.{firstFailing-le, relation-short, relation-unused, relation-fails, relation-passes}
 use Rattle.relation.proofs.judge_marks.Statement.{statement}
 use Rattle.relation.proofs.judge_marks.Tie as tie
 
@@ -37,11 +38,11 @@ needed c = c .length-for .ensures ∙ ap marksLength (start c .pre .1)
 fit : (c : tie.Else1) → let s = start (c .before) in marksLength (vertexCount (game s)) ≤ length (marks s)
 fit c = rw (needed (c .before)) at (c .if1 .left)
 
-high : (c : tie.After-first-high) → let s = start (c .before .before) in c .first-high .result ≡ firstHigh (marks s) (pairCount (game s))
-high c = rw (pairs-are (start (c .before .before))) at (c .first-high .ensures)
+unused : (c : tie.After-has-unused) → let s = start (c .before .before) in c .has-unused .result ≡ hasUnused (marks s) (pairCount (game s))
+unused c = rw (pairs-are (start (c .before .before))) at (c .has-unused .ensures)
 
-low : (c : tie.Else2) → let s = start (c .before .before .before) in pairCount (game s) ≤ firstHigh (marks s) (pairCount (game s))
-low c = rw (high (c .before), pairs-are (start (c .before .before .before))) at (c .if2 .left)
+clear : (c : tie.Else2) → let s = start (c .before .before .before) in hasUnused (marks s) (pairCount (game s)) ≡ false
+clear c = sym (unused (c .before)) ∙ c .if2 .left
 
 place : (c : tie.After-failing-pair)
     → let s = start (c .before .before .before .before) in
@@ -69,8 +70,12 @@ returns c =
 mul-pairs : tie.Need-mul-pairs
 mul-pairs c = let s = start (c .before) in omega (arith, pairs-are s, few s)
 
-first-high-requires : tie.Need-first-high-requires
-first-high-requires c κs = let s = start (c .before) in omega (arith, pairs-are s, fit c)
+has-unused-requires : tie.Need-has-unused-requires
+has-unused-requires c κs = let s = start (c .before) in omega (arith, pairs-are s, fit c)
+
+-- there is a byte
+sub-refused : tie.Need-sub-refused
+sub-refused c = let l = c .before .before .before in let p = start l .pre .0 .some in omega (arith, needed l, mul-le-mul p p)
 
 refused-requires-2 : tie.Need-refused-requires-2
 refused-requires-2 c κs = search needs
@@ -78,8 +83,8 @@ refused-requires-2 c κs = search needs
 returns-2 : tie.Need-returns-2
 returns-2 c =
     let h = c .before .before in
-    let s = start (h .before .before) in
-    rw (c .refused2 .ensures, high h) (relation-high _ _ _ (s .pre .0) (fit (h .before)) (rw (high h, pairs-are s) at (c .before .if2 .taken)))
+    let l = h .before .before in
+    rw (c .refused2 .ensures, needed l) (relation-unused _ _ _ (start l .pre .0) (fit (h .before)) (sym (unused h) ∙ c .before .if2 .taken))
 
 failing-pair-requires : tie.Need-failing-pair-requires
 failing-pair-requires c κs = (start (c .before .before .before) .pre .0, fit (c .before .before))
@@ -98,13 +103,13 @@ returns-3 c =
     let f = c .before .before .before .before in
     let s = start (f .before .before .before .before) in
     rw (c .refused3 .ensures, place f)
-    (relation-fails _ _ _ (s .pre .0) (fit (f .before .before .before)) (low (f .before)) (rw (place f, pairs-are s) at (c .before .if3 .taken)))
+    (relation-fails _ _ _ (s .pre .0) (fit (f .before .before .before)) (clear (f .before)) (rw (place f, pairs-are s) at (c .before .if3 .taken)))
 
 returns-4 : tie.Need-returns-4
 returns-4 c =
     let f = c .before .before .before in
     let s = start (f .before .before .before .before) in
-    relation-passes _ _ _ (s .pre .0) (fit (f .before .before .before)) (low (f .before)) (rw (place f, pairs-are s) at (c .if3 .left))
+    relation-passes _ _ _ (s .pre .0) (fit (f .before .before .before)) (clear (f .before)) (rw (place f, pairs-are s) at (c .if3 .left))
 
 pub judge-marks-spec : {M : Type 1} → statement M
 judge-marks-spec =
@@ -114,7 +119,8 @@ judge-marks-spec =
     refused-requires
     returns
     mul-pairs
-    first-high-requires
+    has-unused-requires
+    sub-refused
     refused-requires-2
     returns-2
     failing-pair-requires

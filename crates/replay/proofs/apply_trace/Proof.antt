@@ -4,7 +4,7 @@ use mathlib.Core.List.{List}
 use Prim.Native.Nat.{ℕ, _≤_}
 use native.Mathlib.Omega.{arith}
 use lib.Seq.{length-take-le}
-use Rattle.table.specs.Limits.{edgeLimit}
+use Rattle.table.specs.Limits.{vertexLimit, edgeLimit}
 use Rattle.table.specs.Table.{vertexCount}
 use Rattle.classes.specs.ClassesRules.{ClassesFit}
 use Rattle.replay.specs.ReplayCallLaws.{ran-room, ran-part, ran-fits, ran-refused, ran-accepted}
@@ -15,7 +15,7 @@ use Rattle.replay.proofs.apply_trace.Tie as tie
 abbrev start : tie.After-run-entries → tie.Start
 start c = c .before .before .before .before .before .before .before
 
-few : (c : tie.After-run-entries) → (c .run-entries .result .edges ≤ edgeLimit) × (start c .args .n ≤ 256)
+few : (c : tie.After-run-entries) → (c .run-entries .result .edges ≤ edgeLimit) × (start c .args .n ≤ vertexLimit)
 few c =
     let f = c .run-entries .ensures .formed in
     (omega (arith, f .edges, f .well .edges), omega (arith, f .vertices, f .well .vertices))

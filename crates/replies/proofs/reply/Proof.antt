@@ -8,14 +8,14 @@ use Rattle.replies.specs.RepliesLaws.{reply-yes, reply-none, reply-no}
 use Rattle.replies.proofs.reply.Statement.{statement}
 use Rattle.replies.proofs.reply.Tie as tie
 
-abbrev before-marked : tie.After-shared-slice-known10 → tie.Start
-before-marked c = c .before .before .before .before .before .before .before .before .before .before
+abbrev before-flags : tie.After-shared-slice-known10 → tie.Start
+before-flags c = c .before .before .before .before .before .before .before .before .before .before
 
-abbrev start : tie.After-is-marked → tie.Start
-start c = before-marked (c .before)
+abbrev start : tie.After-is-edge → tie.Start
+start c = before-flags (c .before)
 
-edge-is : (c : tie.After-is-marked) → let e = start c .args in c .is-marked .result ≡ gameOf (e .game .now) .edge (e .u) (e .w)
-edge-is c = let e = start c in c .is-marked .ensures ∙ e .pre .0 .flags .marked (e .args .u) (e .args .w) (e .pre .1 .1) (e .pre .1 .2)
+edge-is : (c : tie.After-is-edge) → let e = start c .args in c .is-edge .result ≡ gameOf (e .game .now) .edge (e .u) (e .w)
+edge-is c = let e = start c in c .is-edge .ensures ∙ e .pre .0 .flags .edge (e .args .u) (e .args .w) (e .pre .1 .1) (e .pre .1 .2)
 
 edge-taken : (c : tie.Then1) → let e = start (c .before) .args in So (gameOf (e .game .now) .edge (e .u) (e .w))
 edge-taken c = sym (edge-is (c .before)) ∙ c .if1 .taken
@@ -38,8 +38,8 @@ shared-slice-read-l c = search needs
 cast-l : tie.Need-cast-l
 cast-l c = search needs
 
-is-marked-requires : tie.Need-is-marked-requires
-is-marked-requires c κs = let e = before-marked c in (e .pre .1 .1, e .pre .1 .2, e .pre .0 .links .board .well .vertices, e .pre .0 .flags .long)
+is-edge-requires : tie.Need-is-edge-requires
+is-edge-requires c κs = let e = before-flags c in (e .pre .1 .1, e .pre .1 .2, e .pre .0 .links .board .well .vertices, e .pre .0 .flags .long)
 
 answer-requires : tie.Need-answer-requires
 answer-requires c κs = search needs
@@ -88,7 +88,7 @@ reply-spec =
     cast-p
     shared-slice-read-l
     cast-l
-    is-marked-requires
+    is-edge-requires
     answer-requires
     add-result
     add-result-2

@@ -6,6 +6,7 @@ use native.Mathlib.Omega.{arith}
 use lib.ListN.{length, getD, length-replicate}
 use Rattle.theory.specs.Order.{order}
 use Rattle.theory.specs.QuotientLaws.{order-preorder}
+use Rattle.table.specs.Limits.{vertexLimit}
 use Rattle.table.specs.Table.{gameOf}
 use Rattle.classes.specs.Numbering.{Represented}
 use Rattle.links.specs.PlanTable.{positionCount, vertexAt}
@@ -27,7 +28,7 @@ represented c =
     let s = start c in
     numbered-represented (ordered-numbered (s .args .game .now) (s .pre .0 .ordered) refl (c .number-classes .ensures .1))
     (order-preorder (gameOf (s .args .game .now)))
-    (omega (arith, c .number-classes .kept .1 .1 .1 .0, length-replicate {A = ℕ} 256 0, s .pre .0 .well .vertices))
+    (omega (arith, c .number-classes .kept .1 .1 .1 .0, length-replicate {A = ℕ} vertexLimit 0, s .pre .0 .well .vertices))
 
 -- a position's class has a lowest member
 member : (c : tie.After-number-classes) (i : ℕ) → let a = start c .args in i < positionCount (a .plan .now)
@@ -62,7 +63,7 @@ number-classes-requires : tie.Need-number-classes-requires
 number-classes-requires c κs =
     let s = c .before .before .before .before .before .before .before .before in
     let v = s .pre .0 .well .vertices in
-    let r = length-replicate {A = ℕ} 256 0 in
+    let r = length-replicate {A = ℕ} vertexLimit 0 in
     (ordered-preorder (s .args .game .now) (s .pre .0 .ordered) refl (s .pre .0 .well), (omega (arith, v, r), omega (arith, v, r)))
 
 slice-aggregate-gather : tie.Need-slice-aggregate-gather

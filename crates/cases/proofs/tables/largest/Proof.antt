@@ -1,4 +1,4 @@
--- Every word that is written is there: the length stays 8,706.
+-- Every word that is written is there: the length stays 9,218.
 use mathlib.Core.Path.{_≡_}
 use Prim.Native.Nat.{_≤_, _-_}
 use native.Mathlib.Omega.{arith}
@@ -8,7 +8,7 @@ use Rattle.cases.proofs.tables.largest.Statement.{statement}
 use Rattle.cases.proofs.tables.largest.Tie as tie
 
 abbrev Inv-loop : tie.InvT-loop
-Inv-loop game₀ j₀ game j = (j ≤ 4096) × (length game ≡ 8706)
+Inv-loop game₀ j₀ game j = (j ≤ 4096) × (length game ≡ 9218)
 
 abbrev μ-loop : tie.MeasureT-loop
 μ-loop game₀ j₀ game j = 4096 - j

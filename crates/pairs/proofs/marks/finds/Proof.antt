@@ -1,14 +1,14 @@
 -- Invariant: the search from k on answers as the whole search.
 use borrow.Author.Needs.{needs}
-use Rattle.pairs.specs.Marks.{InMarks, isMark}
+use Rattle.pairs.specs.Marks.{InMarks}
 use Rattle.theory.specs.Range.{anyFrom}
 use Rattle.theory.specs.RangeLaws.{from-in, from-end, from-step}
 use Rattle.pairs.specs.Search.{hasMark}
 use native.Mathlib.Omega.{arith}
 use native.Mathlib.Nat.{le-refl}
 use mathlib.Core.Path.{_≡_, sym, _∙_}
-use Prim.Native.Nat.{_+_, _-_, _*_, _≤_, _<_}
-use lib.ListN.{length, getD}
+use Prim.Native.Nat.{_+_, _-_, _*_, _≤_}
+use lib.ListN.{getD}
 use Rattle.pairs.proofs.marks.finds.Statement.{statement}
 use Rattle.pairs.proofs.marks.finds.Tie as tie
 
@@ -20,8 +20,8 @@ abbrev μ-loop : tie.MeasureT-loop
 
 -- the mark of the target at k is there
 room : (c : tie.Else1 Inv-loop μ-loop)
-    → let a = c .before .before .args in InMarks (a .marks .now) (a .base + getD (a .targets .now) (c .before .loop .k) 0 * a .stride)
-room c = c .before .before .pre .1 (c .before .loop .k) (c .before .loop .inv .0) (c .if1 .left)
+    → let a = c .before .before .before .before .args in InMarks (a .marks .now) (a .base + getD (a .targets .now) (c .before .loop .k) 0 * a .stride)
+room c = c .before .before .before .before .pre .1 (c .before .loop .k) (c .before .loop .inv .0) (c .if1 .left)
 
 loop-holds : tie.Need-loop-holds Inv-loop μ-loop
 loop-holds c = search needs
@@ -33,16 +33,16 @@ shared-slice-read-at : tie.Need-shared-slice-read-at Inv-loop μ-loop
 shared-slice-read-at c = search needs
 
 cast-at : tie.Need-cast-at Inv-loop μ-loop
-cast-at c = omega (arith, c .shared-slice-known .given (c .before .before .loop .k))
+cast-at c = omega (arith, c .shared-slice-known3 .given (c .before .before .loop .k))
 
 mul-at-2 : tie.Need-mul-at-2 Inv-loop μ-loop
-mul-at-2 c = omega (arith, room (c .before))
+mul-at-2 c = omega (arith, room (c .before) .0)
 
 add-at : tie.Need-add-at Inv-loop μ-loop
-add-at c = omega (arith, room (c .before))
+add-at c = omega (arith, room (c .before) .0)
 
-shared-slice-read-if2 : tie.Need-shared-slice-read-if2 Inv-loop μ-loop
-shared-slice-read-if2 c = room (c .before .before)
+is-mark-requires : tie.Need-is-mark-requires Inv-loop μ-loop
+is-mark-requires c κs = room (c .before)
 
 add-k : tie.Need-add-k Inv-loop μ-loop
 add-k c = search needs
@@ -51,19 +51,19 @@ loop-less : tie.Need-loop-less Inv-loop μ-loop
 loop-less c = search needs
 
 loop-again : tie.Need-loop-again Inv-loop μ-loop
-unfolding hasMark isMark
+unfolding hasMark
 loop-again c =
     let a = c .before .before .before .before .loop in
-    (search needs, a .inv .1 ∙ from-step _ _ _ (c .if2 .left))
+    (search needs, a .inv .1 ∙ from-step _ _ _ (rw (c .before .is-mark .ensures) at (c .if2 .left)))
 
 returns : tie.Need-returns Inv-loop μ-loop
 returns c = sym (c .before .loop .inv .1 ∙ from-end _ _ _ (c .if1 .taken))
 
 returns-2 : tie.Need-returns-2 Inv-loop μ-loop
-unfolding hasMark isMark
+unfolding hasMark
 returns-2 c =
     let a = c .before .before .before .before .loop in
-    sym (a .inv .1 ∙ from-in _ _ _ _ (le-refl _) (c .before .before .before .if1 .left) (c .if2 .taken))
+    sym (a .inv .1 ∙ from-in _ _ _ _ (le-refl _) (c .before .before .before .if1 .left) (rw (c .before .is-mark .ensures) at (c .if2 .taken)))
 
 pub finds-spec : {M : Type 1} → statement M
 finds-spec =
@@ -77,7 +77,7 @@ finds-spec =
     cast-at
     mul-at-2
     add-at
-    shared-slice-read-if2
+    is-mark-requires
     add-k
     loop-less
     loop-again

@@ -1,6 +1,6 @@
--- The byte is compared with 1.
-use mathlib.Core.Path.{refl}
+-- The byte is shifted so that the mark is its lowest digit.
 use borrow.Author.Needs.{needs}
+use Rattle.word.specs.WordLaws.{digit-read}
 use Rattle.pairs.specs.Marks.{isMark}
 use Rattle.pairs.proofs.marks.is_mark.Statement.{statement}
 use Rattle.pairs.proofs.marks.is_mark.Tie as tie
@@ -8,9 +8,15 @@ use Rattle.pairs.proofs.marks.is_mark.Tie as tie
 shared-slice-read-result : tie.Need-shared-slice-read-result
 shared-slice-read-result c = search needs
 
+cast-result : tie.Need-cast-result
+cast-result c = search needs
+
+shr-result : tie.Need-shr-result
+shr-result c = search needs
+
 returns : tie.Need-returns
 unfolding isMark
-returns c = refl
+returns c = digit-read _ _
 
 pub is-mark-spec : {M : Type 1} → statement M
-is-mark-spec = tie.close (tie.spec shared-slice-read-result returns)
+is-mark-spec = tie.close (tie.spec shared-slice-read-result cast-result shr-result returns)

@@ -19,7 +19,7 @@ add-is-mark : tie.Need-add-is-mark
 add-is-mark c = omega (arith, small (c .before))
 
 is-mark-requires : tie.Need-is-mark-requires
-is-mark-requires c κs = let s = c .before in in-marks (s .args .n) (s .args .marks .now) (s .args .v) (s .args .w) (s .pre .0) (s .pre .1) (s .pre .3)
+is-mark-requires c κs = let s = c .before in in-marks (s .args .n) (s .args .marks .now) _ (digits-lt (s .pre .0) (s .pre .1)) (s .pre .2) (s .pre .3)
 
 returns : tie.Need-returns
 returns c = let s = c .before .before in c .is-mark .ensures ∙ sym (relation-mark (s .args .n) (s .args .marks .now) (s .args .v) (s .args .w))

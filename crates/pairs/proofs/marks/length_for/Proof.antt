@@ -8,8 +8,11 @@ use Rattle.pairs.proofs.marks.length_for.Tie as tie
 mul-result : tie.Need-mul-result
 mul-result c = omega (arith, mul-le-mul (c .pre) (c .pre))
 
+add-result : tie.Need-add-result
+add-result c = omega (arith, mul-le-mul (c .pre) (c .pre))
+
 returns : tie.Need-returns
 returns c = search needs
 
 pub length-for-spec : {M : Type 1} → statement M
-length-for-spec = tie.close (tie.spec mul-result returns)
+length-for-spec = tie.close (tie.spec mul-result add-result returns)

@@ -30,7 +30,7 @@ rows c =
     let p = s .pre in
     rw (c .before .before .run-of2 .ensures, c .before .before .before .run-of .ensures) (
       (group-within (p .index) (s .args .v + 1) (omega (arith, p .row)), group-within (p .index) (s .args .w + 1) (omega (arith, p .column)), p .game .vertices),
-      reaches-rows (s .args .game .now) _ _ (s .args .marks .now) (p .index) _ _ (p .row) (p .column) (p .fits),
+      reaches-rows (s .args .game .now) _ _ (s .args .marks .now) (p .index) _ _ (p .row) (p .column) (p .game .vertices) (p .fits),
     )
 
 shared-slice-read-n : tie.Need-shared-slice-read-n
@@ -90,7 +90,7 @@ some-ends-requires-4 c κs =
     let p = s .pre in
     rw (c .before .before .before .run-of2 .ensures, c .before .before .before .before .run-of .ensures) (
       (group-within (p .index) (s .args .w + 1) (omega (arith, p .column)), group-within (p .index) (s .args .v + 1) (omega (arith, p .row)), omega arith),
-      reaches-columns (s .args .game .now) _ _ (s .args .marks .now) (p .index) _ _ (p .row) (p .column) (p .fits),
+      reaches-columns (s .args .game .now) _ _ (s .args .marks .now) (p .index) _ _ (p .row) (p .column) (p .game .vertices) (p .fits),
     )
 
 returns : tie.Need-returns

@@ -1,82 +1,91 @@
-use mathlib.Core.Path.{_≡_, refl, sym, ap, _∙_}
-use Prim.Native.Nat.{ℕ, _-_, _/_, _^_, _≤_}
-use native.Mathlib.Nat.{div-one}
+-- The parts join: what is left of the first byte, whole bytes, the rest.
+use mathlib.Core.Path.{_≡_, _∙_}
+use Prim.Native.Nat.{_+_, _-_, _*_, _/_, _%_, _^_}
 use native.Mathlib.Omega.{arith}
-use lib.Bits.{bitAnd}
-use lib.ListN.{length, length-set}
 use lib.Pow.{shr-shr}
-use Rattle.theory.specs.Bools.{bit}
-use Rattle.theory.specs.BoolsLaws.{bit-le}
-use Rattle.word.specs.Word.{digit}
-use Rattle.word.specs.WordLaws.{digit-byte}
-use Rattle.pairs.specs.Writing.{BitsWritten}
-use Rattle.pairs.specs.WritingLaws.{bits-start, bits-next}
+use Rattle.pairs.specs.WritingLaws.{bits-join}
 use borrow.Author.Needs.{needs}
 use Rattle.pairs.proofs.writing.write_bits.Statement.{statement}
 use Rattle.pairs.proofs.writing.write_bits.Tie as tie
 
-abbrev Inv-loop : tie.InvT-loop
-Inv-loop marks₀ at word count rest₀ k₀ marks rest k =
-    (k ≤ count)
-    × (rest ≡ word / 2 ^ k)
-    × (length marks ≡ length marks₀)
-    × BitsWritten word at k marks₀ marks
+sub-gap : tie.Need-sub-gap
+sub-gap c = search needs
 
-abbrev μ-loop : tie.MeasureT-loop
-μ-loop marks₀ at word count rest₀ k₀ marks rest k = count - k
+write-part-requires : tie.Need-write-part-requires
+write-part-requires c κs = search needs
 
--- the byte of bit k
-byte : (c : tie.In-loop Inv-loop μ-loop) → let l = c .before in bitAnd (l .loop .rest) 1 ≡ bit (digit (l .before .args .word) (l .loop .k))
-byte c = let l = c .before in ap (λ (x : ℕ). bitAnd x 1) (l .loop .inv .1) ∙ digit-byte (l .before .args .word) (l .loop .k)
-
-loop-holds : tie.Need-loop-holds Inv-loop μ-loop
-loop-holds c = (search needs, sym (div-one _), refl, bits-start _ _ _)
-
-cast-marks : tie.Need-cast-marks Inv-loop μ-loop
-cast-marks c = omega (arith, byte c, bit-le (digit (c .before .before .args .word) (c .before .loop .k)))
-
-add-marks : tie.Need-add-marks Inv-loop μ-loop
-add-marks c = search needs
-
-slice-write-marks : tie.Need-slice-write-marks Inv-loop μ-loop
-slice-write-marks c = search needs
-
-add-k : tie.Need-add-k Inv-loop μ-loop
-add-k c = search needs
-
-loop-less : tie.Need-loop-less Inv-loop μ-loop
-loop-less c = search needs
-
-loop-again : tie.Need-loop-again Inv-loop μ-loop
-loop-again c = let l = c .before in
-    let a = l .before .args in
-    let i = l .loop .inv in (
-      search needs,
-      ap (λ (x : ℕ). x / 2 ^ 1) (i .1) ∙ shr-shr (a .word) (l .loop .k) 1,
-      simp length-set (i .2),
-      bits-next (a .word) (a .at) (l .loop .k) _ _ _ (byte c) (i .3),
-    )
-
-same-length : tie.Need-same-length Inv-loop μ-loop
+same-length : tie.Need-same-length
 same-length c = search needs
 
-returns : tie.Need-returns Inv-loop μ-loop
-returns c = let l = c .before in
-    let e : l .loop .k ≡ l .before .args .count = omega (arith, c .loop-test .left, l .loop .inv .0) in
-    rw e at (l .loop .inv .3)
+returns : tie.Need-returns
+returns c = search needs
+
+write-part-requires-2 : tie.Need-write-part-requires-2
+write-part-requires-2 c κs = search needs
+
+sub-whole : tie.Need-sub-whole
+sub-whole c = search needs
+
+add-write-whole : tie.Need-add-write-whole
+add-write-whole c = search needs
+
+shr-write-whole : tie.Need-shr-write-whole
+shr-write-whole c = search needs
+
+write-whole-requires : tie.Need-write-whole-requires
+write-whole-requires c κs = search needs
+
+mul-done : tie.Need-mul-done
+mul-done c = search needs
+
+add-done : tie.Need-add-done
+add-done c = search needs
+
+add-write-part : tie.Need-add-write-part
+add-write-part c = search needs
+
+sub-write-part : tie.Need-sub-write-part
+sub-write-part c = search needs
+
+write-part-requires-3 : tie.Need-write-part-requires-3
+write-part-requires-3 c κs = search needs
+
+same-length-2 : tie.Need-same-length-2
+same-length-2 c = search needs
+
+returns-2 : tie.Need-returns-2
+returns-2 c =
+    let last = c .before .before in
+    let mid = last .before .before .before .before in
+    let head = mid .before .before .before .before in
+    let test = head .before .before in
+    let a = test .before .before .args in
+    let gap = 8 - a .at % 8 in
+    let whole = (a .count - gap) / 8 in
+    let left : mid .write-whole .result ≡ a .word / 2 ^ (gap + 8 * whole) = mid .write-whole .ensures .0 ∙ shr-shr (a .word) gap (8 * whole) in
+    let all : gap + 8 * whole + (a .count - (gap + 8 * whole)) ≡ a .count = omega (arith, test .if1 .left) in
+    rw all at
+    (bits-join (a .word) (a .at) (gap + 8 * whole) (a .count - (gap + 8 * whole)) _ _ _
+    (bits-join (a .word) (a .at) gap (8 * whole) _ _ _ (head .write-part2 .ensures) (mid .write-whole .ensures .1))
+    (rw left at (last .write-part3 .ensures)))
 
 pub write-bits-spec : {M : Type 1} → statement M
 write-bits-spec =
     tie.close
     (tie.spec
-    Inv-loop
-    μ-loop
-    loop-holds
-    cast-marks
-    add-marks
-    slice-write-marks
-    add-k
-    loop-less
-    loop-again
+    sub-gap
+    write-part-requires
     same-length
-    returns)
+    returns
+    write-part-requires-2
+    sub-whole
+    add-write-whole
+    shr-write-whole
+    write-whole-requires
+    mul-done
+    add-done
+    add-write-part
+    sub-write-part
+    write-part-requires-3
+    same-length-2
+    returns-2)

@@ -6,9 +6,8 @@ use lib.ListN.{length}
 use Rattle.theory.specs.Range.{tabulate}
 use Rattle.table.specs.Verdict.{written}
 use Rattle.pairs.specs.Marks.{bytes}
-use Rattle.pairs.specs.MarksLaws.{fill-none}
 use Rattle.pairs.specs.Writing.{rowMark}
-use Rattle.pairs.specs.WritingLaws.{rows-next}
+use Rattle.pairs.specs.WritingLaws.{held-none, rows-next}
 use borrow.Author.Needs.{needs}
 use Rattle.pairs.proofs.writing.write_marks.Statement.{statement}
 use Rattle.pairs.proofs.writing.write_marks.Tie as tie
@@ -23,7 +22,7 @@ abbrev μ-loop : tie.MeasureT-loop
 μ-loop rows n marks₀ v₀ marks v = n - v
 
 loop-holds : tie.Need-loop-holds Inv-loop μ-loop
-loop-holds c = let a = c .before .before .args in (search needs, refl, rw (zero-mul (a .n)) (fill-none (rowMark (a .n) (a .rows .now)) (a .marks .now)))
+loop-holds c = let a = c .before .before .args in (search needs, refl, rw (zero-mul (a .n)) (held-none (rowMark (a .n) (a .rows .now)) (a .marks .now)))
 
 write-row-requires : tie.Need-write-row-requires Inv-loop μ-loop
 write-row-requires c κs = let l = c .before .before in

@@ -1,7 +1,9 @@
 use mathlib.Core.Path.{_≡_, refl, _∙_}
 use Prim.Native.Nat.{_+_, _-_, _*_, _%_, _≤_, _<_}
+use native.Mathlib.Nat.{mul-le-mul}
 use native.Mathlib.Omega.{arith}
 use lib.ListN.{length}
+use Rattle.table.specs.Limits.{pairLimit}
 use Rattle.pairs.specs.Writing.{RowWritten}
 use Rattle.pairs.specs.WritingLaws.{row-inside, row-start, row-next}
 use borrow.Author.Needs.{needs}
@@ -21,12 +23,12 @@ abbrev μ-loop : tie.MeasureT-loop
 abbrev start : tie.At-loop Inv-loop μ-loop → tie.Start Inv-loop μ-loop
 start c = c .before .before .before
 
--- the row ends inside the buffer
-inside : (c : tie.At-loop Inv-loop μ-loop) → let a = start c .args in a .v * a .n + a .n ≤ length (c .loop .marks)
-inside c = let s = start c in omega (arith, row-inside (s .args .n) (s .args .v) (s .pre .0), s .pre .3, c .loop .inv .2)
+-- the row ends among the pairs, and those are not too many
+inside : (s : tie.Start Inv-loop μ-loop) → let a = s .args in (a .v * a .n + a .n ≤ a .n * a .n) × (a .n * a .n ≤ pairLimit)
+inside s = (row-inside (s .args .n) (s .args .v) (s .pre .0), mul-le-mul (s .pre .1) (s .pre .1))
 
 mul-row : tie.Need-mul-row Inv-loop μ-loop
-mul-row c = let s = c .before .before in omega (arith, row-inside (s .args .n) (s .args .v) (s .pre .0), s .pre)
+mul-row c = omega (arith, inside (c .before .before))
 
 loop-holds : tie.Need-loop-holds Inv-loop μ-loop
 loop-holds c = (search needs, search needs, refl, row-start _ _ _ _)
@@ -35,7 +37,7 @@ end-of-requires : tie.Need-end-of-requires Inv-loop μ-loop
 end-of-requires c κs = omega (arith, c .loop-test .taken, start (c .before) .pre)
 
 add-write-bits : tie.Need-add-write-bits Inv-loop μ-loop
-add-write-bits c = let l = c .before .before .before in omega (arith, inside l, l .loop .inv .0)
+add-write-bits c = let l = c .before .before .before in omega (arith, inside (start l), l .loop .inv .0)
 
 mul-write-bits : tie.Need-mul-write-bits Inv-loop μ-loop
 mul-write-bits c = omega (arith, start (c .before .before .before) .pre)
@@ -55,7 +57,8 @@ sub-write-bits c = omega (arith, c .before .before .end-of .ensures, c .before .
 write-bits-requires : tie.Need-write-bits-requires Inv-loop μ-loop
 write-bits-requires c κs = let l = c .before .before .before .before in
     let e = c .before .before .end-of .ensures in
-    let t = c .before .before .before .loop-test .taken in (omega (arith, e, t), omega (arith, e, t, inside l))
+    let t = c .before .before .before .loop-test .taken in
+    let s = start l in (omega (arith, e, t, inside s), omega (arith, e, t, inside s, s .pre .3, l .loop .inv .2))
 
 loop-less : tie.Need-loop-less Inv-loop μ-loop
 loop-less c = omega (arith, c .before .before .before .before .before .end-of .ensures, c .before .before .before .before .before .before .loop-test .taken)

@@ -1,14 +1,14 @@
 -- The number of an edge is below that of the flags.
-use mathlib.Core.Path.{refl}
-use Prim.Native.Nat.{_<_}
+use Prim.Native.Nat.{_/_, _<_}
 use native.Mathlib.Omega.{arith}
 use lib.ListN.{length}
 use borrow.Author.Needs.{needs}
+use Rattle.word.specs.Word.{wordBits}
 use Rattle.table.specs.FlagsLaws.{edge-number-lt}
 use Rattle.table.proofs.flags.flag_edge.Statement.{statement}
 use Rattle.table.proofs.flags.flag_edge.Tie as tie
 
-inside : (c : tie.After-edge-number) → c .edge-number .result < length (c .before .before .before .args .flags .now)
+inside : (c : tie.After-edge-number) → c .edge-number .result / wordBits < length (c .before .before .before .args .flags .now)
 inside c =
     let s = c .before .before .before in
     let p = s .pre .0 in
@@ -17,17 +17,21 @@ inside c =
 edge-number-requires : tie.Need-edge-number-requires
 edge-number-requires c κs = search needs
 
-slice-read-old : tie.Need-slice-read-old
-slice-read-old c = inside (c .before)
+is-flagged-requires : tie.Need-is-flagged-requires
+is-flagged-requires c κs = inside (c .before)
 
-slice-write-flags : tie.Need-slice-write-flags
-slice-write-flags c = inside (c .before)
+raise-requires : tie.Need-raise-requires
+raise-requires c κs = inside (c .before .before .before)
 
 same-length : tie.Need-same-length
 same-length c = search needs
 
 returns : tie.Need-returns
-returns c = rw (c .before .edge-number .ensures) (refl, refl)
+returns c =
+    let r = c .before .before in
+    let f = r .before .before in
+    let e = f .before .before .edge-number .ensures in
+    (rw e at (f .is-flagged .ensures), rw e at (r .raise .ensures))
 
 pub flag-edge-spec : {M : Type 1} → statement M
-flag-edge-spec = tie.close (tie.spec edge-number-requires slice-read-old slice-write-flags same-length returns)
+flag-edge-spec = tie.close (tie.spec edge-number-requires is-flagged-requires raise-requires same-length returns)

@@ -4,20 +4,20 @@ use Prim.Native.Nat.{_≤_, _-_, _+_, _*_}
 use native.Mathlib.Omega.{arith}
 use lib.ListN.{length, length-set}
 use borrow.Author.Needs.{needs}
-use Rattle.table.specs.Table.{sourceAt, tableEdges}
-use Rattle.table.specs.Flags.{Flagged}
-use Rattle.table.specs.FlagsLaws.{flagged-none, flagged-more, source-word, source-lt, lacking-flags}
+use Rattle.table.specs.Table.{tableEdges}
+use Rattle.table.specs.Flags.{Cleared}
+use Rattle.table.specs.FlagsLaws.{cleared-none, cleared-more, source-word, source-lt, lacking-flags}
 use Rattle.table.proofs.reader.clear_sources.Statement.{statement}
 use Rattle.table.proofs.reader.clear_sources.Tie as tie
 
 abbrev Inv-loop : tie.InvT-loop
-Inv-loop game n m lacking₀ j₀ lacking j = (j ≤ m) × (length lacking ≡ length lacking₀) × Flagged 1 0 (sourceAt game) j lacking
+Inv-loop game n m lacking₀ j₀ lacking j = (j ≤ m) × (length lacking ≡ length lacking₀) × Cleared game j lacking
 
 abbrev μ-loop : tie.MeasureT-loop
 μ-loop game n m lacking₀ j₀ lacking j = m - j
 
 loop-holds : tie.Need-loop-holds Inv-loop μ-loop
-loop-holds c = (search needs, search needs, flagged-none 1 0 _ _ (c .pre .1 .1))
+loop-holds c = (search needs, search needs, cleared-none _ _ (c .pre .1 .1))
 
 mul-v : tie.Need-mul-v Inv-loop μ-loop
 mul-v c = search needs
@@ -61,7 +61,7 @@ loop-again c =
     let e = source-word (a .game .now) (a .n) (a .m) (p .0) (l .j) in (
       search needs,
       simp length-set (l .inv .1),
-      rw e (flagged-more 1 0 _ (l .j) (l .lacking) (omega (arith, e, source-lt (a .game .now) (a .n) (a .m) (p .0) (p .1) (l .j) (c .before .loop-test .taken))) (l .inv .2)),
+      rw e (cleared-more _ (l .j) (l .lacking) (omega (arith, e, source-lt (a .game .now) (a .n) (a .m) (p .0) (p .1) (l .j) (c .before .loop-test .taken))) (l .inv .2)),
     )
 
 same-length : tie.Need-same-length Inv-loop μ-loop

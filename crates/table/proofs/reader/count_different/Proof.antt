@@ -1,18 +1,18 @@
--- The fresh array has a flag of 0 for each pair of vertices.
+-- The fresh array has room for a flag for each pair of vertices, and all are clear.
 use mathlib.Core.Path.{sym}
 use Prim.Native.Nat.{ℕ}
 use native.Mathlib.Nat.{le-of-eq}
 use lib.ListN.{length-replicate}
-use Rattle.table.specs.Limits.{pairLimit}
+use Rattle.table.specs.Limits.{pairWords}
 use Rattle.table.specs.FlagsLaws.{filled}
 use Rattle.table.proofs.reader.count_different.Statement.{statement}
 use Rattle.table.proofs.reader.count_different.Tie as tie
 
 slice-aggregate-flag-edges : tie.Need-slice-aggregate-flag-edges
-slice-aggregate-flag-edges c = sym (length-replicate {A = ℕ} pairLimit 0)
+slice-aggregate-flag-edges c = sym (length-replicate {A = ℕ} pairWords 0)
 
 flag-edges-requires : tie.Need-flag-edges-requires
-flag-edges-requires c κs = (c .before .before .pre, (le-of-eq (sym (length-replicate {A = ℕ} pairLimit 0)), filled pairLimit 0))
+flag-edges-requires c κs = (c .before .before .pre, (le-of-eq (sym (length-replicate {A = ℕ} pairWords 0)), filled pairWords 0))
 
 returns : tie.Need-returns
 returns c = c .before .flag-edges .ensures .0

@@ -1,4 +1,4 @@
--- The rest of the search finds what the whole does.
+-- Where there is such a word, the rest of the search finds what the whole does.
 use mathlib.Core.Path.{_≡_, sym, _∙_}
 use Prim.Native.Nat.{_≤_, _-_}
 use native.Mathlib.Omega.{arith}
@@ -7,6 +7,7 @@ use borrow.Author.Tests.{le-leb, lt-leb}
 use Rattle.theory.specs.Range.{first}
 use Rattle.theory.specs.RangeLaws.{first-step, first-hit, first-end}
 use Rattle.table.specs.Flags.{atLeast}
+use Rattle.table.specs.HighestLaws.{highest-none}
 use Rattle.table.proofs.reader.first_at_least.Statement.{statement}
 use Rattle.table.proofs.reader.first_at_least.Tie as tie
 
@@ -16,20 +17,35 @@ Inv-loop words limit from end k₀ k = (k ≤ end) × (first (atLeast words limi
 abbrev μ-loop : tie.MeasureT-loop
 μ-loop words limit from end k₀ k = end - k
 
+sub-highest : tie.Need-sub-highest Inv-loop μ-loop
+sub-highest c = search needs
+
+highest-requires : tie.Need-highest-requires Inv-loop μ-loop
+highest-requires c κs = search needs
+
+cast-if1 : tie.Need-cast-if1 Inv-loop μ-loop
+cast-if1 c = search needs
+
+-- the highest word is below the limit, and so are all
+returns : tie.Need-returns Inv-loop μ-loop
+returns c =
+    let s = c .before .before .before in
+    highest-none (s .args .words .now) (s .args .limit) (s .args .from) (s .args .end) (s .pre .0) (rw (c .before .highest .ensures) at (c .if1 .taken))
+
 loop-holds : tie.Need-loop-holds Inv-loop μ-loop
 loop-holds c = search needs
 
-mul-if1 : tie.Need-mul-if1 Inv-loop μ-loop
-mul-if1 c = search needs
+mul-if2 : tie.Need-mul-if2 Inv-loop μ-loop
+mul-if2 c = search needs
 
-shared-slice-read-if1 : tie.Need-shared-slice-read-if1 Inv-loop μ-loop
-shared-slice-read-if1 c = search needs
+shared-slice-read-if2 : tie.Need-shared-slice-read-if2 Inv-loop μ-loop
+shared-slice-read-if2 c = search needs
 
-cast-if1 : tie.Need-cast-if1 Inv-loop μ-loop
-cast-if1 c = omega (arith, c .shared-slice-known .given (c .before .before .loop .k))
+cast-if2 : tie.Need-cast-if2 Inv-loop μ-loop
+cast-if2 c = omega (arith, c .shared-slice-known2 .given (c .before .before .loop .k))
 
-returns : tie.Need-returns Inv-loop μ-loop
-returns c = sym (c .before .before .before .loop .inv .1 ∙ first-hit _ _ _ (c .before .before .loop-test .taken) (le-leb _ _ (c .if1 .taken)))
+returns-2 : tie.Need-returns-2 Inv-loop μ-loop
+returns-2 c = sym (c .before .before .before .loop .inv .1 ∙ first-hit _ _ _ (c .before .before .loop-test .taken) (le-leb _ _ (c .if2 .taken)))
 
 add-k : tie.Need-add-k Inv-loop μ-loop
 add-k c = search needs
@@ -38,10 +54,10 @@ loop-less : tie.Need-loop-less Inv-loop μ-loop
 loop-less c = search needs
 
 loop-again : tie.Need-loop-again Inv-loop μ-loop
-loop-again c = (search needs, c .before .before .before .loop .inv .1 ∙ first-step _ _ _ (c .before .before .loop-test .taken) (lt-leb _ _ (c .if1 .left)))
+loop-again c = (search needs, c .before .before .before .loop .inv .1 ∙ first-step _ _ _ (c .before .before .loop-test .taken) (lt-leb _ _ (c .if2 .left)))
 
-returns-2 : tie.Need-returns-2 Inv-loop μ-loop
-returns-2 c = sym (c .before .loop .inv .1 ∙ first-end _ _ _ (c .loop-test .left))
+returns-3 : tie.Need-returns-3 Inv-loop μ-loop
+returns-3 c = sym (c .before .loop .inv .1 ∙ first-end _ _ _ (c .loop-test .left))
 
 pub first-at-least-spec : {M : Type 1} → statement M
 first-at-least-spec =
@@ -49,12 +65,16 @@ first-at-least-spec =
     (tie.spec
     Inv-loop
     μ-loop
-    loop-holds
-    mul-if1
-    shared-slice-read-if1
+    sub-highest
+    highest-requires
     cast-if1
     returns
+    loop-holds
+    mul-if2
+    shared-slice-read-if2
+    cast-if2
+    returns-2
     add-k
     loop-less
     loop-again
-    returns-2)
+    returns-3)
