@@ -1,6 +1,6 @@
 //! Safe calls of a proved reducer of parity games.
 //!
-//! A game has at most 256 vertices and 4,096 edges. The lowest priority seen for ever decides a play,
+//! A game has at most 512 vertices and 4,096 edges. The lowest priority seen for ever decides a play,
 //! and even favours Even; a game of a tool that lets the highest decide goes through [`convert`] first.
 //!
 //! A parity game is lent as a table of 16-bit words: the numbers n of vertices and m of edges, then
@@ -31,9 +31,11 @@
 
 #[allow(missing_docs)]
 pub mod exports;
+mod marks;
 mod refusal;
 
 use exports::RaskjomiAnswer;
+pub use marks::{is_marked, mark_bytes, pack_marks};
 pub use refusal::{explain, Explanation, Kind, Refusal};
 
 /// The player for whom an even lowest priority wins.
@@ -54,9 +56,9 @@ pub struct Size {
 }
 
 impl Size {
-    /// The bytes to lend for marks, and for the spare: n × n.
+    /// The bytes to lend for marks, and for the spare: n × n / 8, rounded up.
     pub fn marks(&self) -> usize {
-        self.vertices * self.vertices
+        mark_bytes(self.vertices)
     }
 
     /// The words of a table of this size, and the words to lend for an output: 2 + 2n + 2m.
@@ -164,28 +166,36 @@ pub fn read(game: &[u16]) -> Result<Size, Refusal> {
     verdict(exports::read(game)).map(|answer| size(answer, answer.different))
 }
 
-/// Writes the direct simulation order into the first n × n bytes of both buffers: byte v × n + w is
-/// 1 if v is below w, else 0. Gives the number of passes.
+/// Writes the direct simulation order into the first [`mark_bytes`]`(n)` bytes of both buffers: the mark of
+/// (v, w), see [`is_marked`], is set if v is below w. Unused bits of the last byte become 0. Gives the number
+/// of passes.
 ///
 /// ```
 /// let game = [3, 3, 0, 1, 0, 0, 0, 1, 0, 1, 2, 1, 1, 1];
-/// let (mut marks, mut spare) = ([0; 9], [0; 9]);
+/// let (mut marks, mut spare) = ([0xff; 2], [0xff; 2]);
 /// assert_eq!(raskjomi::order(&game, &mut marks, &mut spare)?, 1);
-/// assert_eq!(marks, [1, 0, 1, 0, 1, 0, 1, 0, 1]);
+/// // Row by row 101, 010, 101, the lowest bit first.
+/// assert_eq!(marks, [0b0101_0101, 0b0000_0001]);
+/// assert!(raskjomi::is_marked(&marks, 3, 0, 2));
 /// # Ok::<(), raskjomi::Refusal>(())
 /// ```
 pub fn order(game: &[u16], marks: &mut [u8], spare: &mut [u8]) -> Result<u32, Refusal> {
     verdict(exports::order(game, marks, spare)).map(|answer| answer.passes)
 }
 
-/// Judges a relation: whether the pairs that the first n × n bytes mark form a direct simulation.
+/// Judges a relation: whether the pairs that are marked form a direct simulation. Unused bits of the last
+/// byte needed have to be 0; bytes beyond it are ignored.
 ///
 /// ```
 /// let game = [3, 3, 0, 1, 0, 0, 0, 1, 0, 1, 2, 1, 1, 1];
-/// assert!(raskjomi::accept_relation(&game, &[1, 0, 0, 0, 1, 0, 0, 0, 1]).is_ok());
+/// // Each vertex with itself: marks 0, 4 and 8.
+/// assert!(raskjomi::accept_relation(&game, &[0b0001_0001, 1]).is_ok());
 /// // Vertices 0 and 1 have different priorities.
-/// let refusal = raskjomi::accept_relation(&game, &[0, 1, 0, 0, 0, 0, 0, 0, 0]).unwrap_err();
+/// let refusal = raskjomi::accept_relation(&game, &[0b0000_0010, 0]).unwrap_err();
 /// assert_eq!((refusal.number, refusal.place), (10, 1));
+/// // There are nine marks, so seven bits of the second byte are unused.
+/// let refusal = raskjomi::accept_relation(&game, &[0, 0b1000_0000]).unwrap_err();
+/// assert_eq!((refusal.number, refusal.place), (41, 1));
 /// ```
 pub fn accept_relation(game: &[u16], marks: &[u8]) -> Result<(), Refusal> {
     verdict(exports::accept_relation(game, marks)).map(|_| ())
@@ -196,7 +206,7 @@ pub fn accept_relation(game: &[u16], marks: &[u8]) -> Result<(), Refusal> {
 ///
 /// ```
 /// let game = [3, 3, 0, 1, 0, 0, 0, 1, 0, 1, 2, 1, 1, 1];
-/// let (mut marks, mut spare, mut classes) = ([0; 9], [0; 9], [0; 3]);
+/// let (mut marks, mut spare, mut classes) = ([0; 2], [0; 2], [0; 3]);
 /// assert_eq!(raskjomi::classes(&game, &mut marks, &mut spare, &mut classes)?, 2);
 /// assert_eq!(classes, [0, 1, 0]);
 /// # Ok::<(), raskjomi::Refusal>(())
@@ -217,7 +227,7 @@ pub fn classes(
 ///
 /// ```
 /// let game = [3, 3, 0, 1, 0, 0, 0, 1, 0, 1, 2, 1, 1, 1];
-/// let (mut marks, mut spare, mut classes, mut output) = ([0; 9], [0; 9], [0; 3], [0; 14]);
+/// let (mut marks, mut spare, mut classes, mut output) = ([0; 2], [0; 2], [0; 3], [0; 14]);
 /// let size = raskjomi::quotient(&game, &mut marks, &mut spare, &mut classes, &mut output)?;
 /// assert_eq!((size.vertices, size.edges, size.different), (2, 2, 2));
 /// assert_eq!(output[..size.words()], [2, 2, 0, 1, 0, 0, 0, 1, 1, 1]);
@@ -240,7 +250,7 @@ pub fn quotient(
 /// ```
 /// // Vertex 0 is Even's and has edges to 1 and 2; 1 is below 2, so the edge to 1 goes.
 /// let game = [5, 7, 2, 0, 0, 1, 4, 0, 0, 0, 0, 0, 0, 0, 1, 2, 2, 3, 4, 1, 2, 3, 3, 4, 3, 4];
-/// let (mut marks, mut spare, mut classes, mut output) = ([0; 25], [0; 25], [0; 5], [0; 26]);
+/// let (mut marks, mut spare, mut classes, mut output) = ([0; 4], [0; 4], [0; 5], [0; 26]);
 /// let size = raskjomi::reduce(&game, &mut marks, &mut spare, &mut classes, &mut output)?;
 /// assert_eq!((size.vertices, size.edges), (5, 6));
 /// assert_eq!(output[..12], [5, 6, 2, 0, 0, 1, 4, 0, 0, 0, 0, 0]);
@@ -287,7 +297,7 @@ pub fn accept_plan(game: &[u16], player: u32, plan: &[u16]) -> Result<(), Refusa
 /// ];
 /// // From 0 to 2 to 4, and round at 4.
 /// let plan = [3, 3, 0, 2, 4, 0, 1, 2, 1, 2, 2];
-/// let (mut marks, mut spare, mut output) = ([0; 36], [0; 36], [0; raskjomi::MOST_PLAN_WORDS]);
+/// let (mut marks, mut spare, mut output) = ([0; 5], [0; 5], [0; raskjomi::MOST_PLAN_WORDS]);
 /// let size =
 ///     raskjomi::carry(&game, raskjomi::EVEN, &plan, 5, &mut marks, &mut spare, &mut output)?;
 /// let carried = &output[..size.words()];
@@ -352,8 +362,8 @@ pub fn carry_class(
 }
 
 /// Draws a game by the seed, the same on every machine, and writes its table into the output: so many
-/// vertices, 1 to 256, with `degree` edges out of each, 1 to 16, and priorities below `priorities`, 1
-/// to 65,535. A table of n vertices has 2 + 2n + 2 × n × degree words, and [`read`] accepts it. Equal
+/// vertices, 1 to 512, with `degree` edges out of each, 1 to 16, and priorities below `priorities`, 1
+/// to 65,535; n × degree is at most 4,096. A table of n vertices has 2 + 2n + 2 × n × degree words, and [`read`] accepts it. Equal
 /// edges may be drawn; they count as one. Gives the numbers of vertices and of edges in the table.
 ///
 /// ```
@@ -405,7 +415,7 @@ pub fn convert(game: &[u16], output: &mut [u16]) -> Result<(usize, usize), Refus
 /// ```
 /// // Priorities 0, 1, 0, and an edge from each vertex to 1; two words are kept free.
 /// let mut table = [3, 3, 0, 1, 0, 0, 0, 1, 0, 1, 2, 1, 1, 1, 9, 9];
-/// let (mut marks, mut spare, mut classes) = ([0; 9], [0; 9], [0; 3]);
+/// let (mut marks, mut spare, mut classes) = ([0; 2], [0; 2], [0; 3]);
 /// let edited = raskjomi::add_edge(&mut table, 0, 2, &mut marks, &mut spare, &mut classes)?;
 /// assert_eq!(table, [3, 4, 0, 1, 0, 0, 0, 1, 0, 1, 2, 0, 1, 1, 1, 2]);
 /// // Vertices 0 and 2 no longer share a class.
@@ -434,7 +444,7 @@ pub fn add_edge(
 /// ```
 /// // The edge from 0 to 2 stands there twice.
 /// let mut table = [3, 5, 0, 1, 0, 0, 0, 1, 0, 0, 1, 2, 0, 1, 2, 1, 1, 2];
-/// let (mut marks, mut spare, mut classes) = ([0; 9], [0; 9], [0; 3]);
+/// let (mut marks, mut spare, mut classes) = ([0; 2], [0; 2], [0; 3]);
 /// let edited = raskjomi::remove_edge(&mut table, 0, 2, &mut marks, &mut spare, &mut classes)?;
 /// assert_eq!(table, [3, 3, 0, 1, 0, 0, 0, 1, 0, 1, 2, 1, 1, 1, 0, 0, 0, 0]);
 /// assert_eq!((edited.classes, edited.edges), (2, 3));
@@ -461,7 +471,7 @@ pub fn remove_edge(
 ///
 /// ```
 /// let game = [3, 3, 0, 1, 0, 0, 0, 1, 0, 1, 2, 1, 1, 1];
-/// let (mut table, mut marks, mut spare, mut classes) = ([9; 18], [0; 9], [0; 9], [0; 3]);
+/// let (mut table, mut marks, mut spare, mut classes) = ([9; 18], [0; 2], [0; 2], [0; 3]);
 /// let seen = raskjomi::preview_add(&game, 0, 2, &mut table, &mut marks, &mut spare, &mut classes)?;
 /// // Vertices 0 and 2 would no longer share a class.
 /// assert_eq!((seen.classes, seen.edges), (3, 4));
@@ -490,7 +500,7 @@ pub fn preview_add(
 ///
 /// ```
 /// let game = [3, 4, 0, 1, 0, 0, 0, 1, 0, 1, 2, 0, 1, 1, 1, 2];
-/// let (mut table, mut marks, mut spare, mut classes) = ([9; 17], [0; 9], [0; 9], [0; 3]);
+/// let (mut table, mut marks, mut spare, mut classes) = ([9; 17], [0; 2], [0; 2], [0; 3]);
 /// let seen =
 ///     raskjomi::preview_remove(&game, 0, 2, &mut table, &mut marks, &mut spare, &mut classes)?;
 /// assert_eq!((seen.classes, seen.edges, seen.words()), (2, 3, 14));
@@ -519,7 +529,7 @@ pub fn preview_remove(
 /// ```
 /// // Priorities 0, 1, 0, and an edge from each vertex to 1; two words are kept free.
 /// let mut table = [3, 3, 0, 1, 0, 0, 0, 1, 0, 1, 2, 1, 1, 1, 9, 9];
-/// let (mut marks, mut spare, mut classes) = ([0; 9], [0; 9], [0; 3]);
+/// let (mut marks, mut spare, mut classes) = ([0; 2], [0; 2], [0; 3]);
 /// // The edge from 0 to 2 comes, the one from 0 to 1 goes.
 /// let trace = [2, 0, 0, 2, 1];
 /// let replay = raskjomi::replay(&mut table, &trace, &mut marks, &mut spare, &mut classes);
@@ -544,30 +554,31 @@ pub fn replay(
     Replay { verdict: verdict(answer).map(edited), entries: answer.entries as usize }
 }
 
-/// Writes the largest governed bisimulation into the first n × n bytes of both buffers: byte v × n + w is
-/// 1 if v and w are bisimilar, else 0. Gives the number of passes. It is an equivalence, and finer than
+/// Writes the largest governed bisimulation into both buffers, as [`order`] writes the order: the mark of
+/// (v, w) is set if v and w are bisimilar. Gives the number of passes. It is an equivalence, and finer than
 /// the order: bisimilar vertices are below each other.
 ///
 /// ```
 /// // Vertex 0 has the move of 3 and a worse one; all are Even's. 0 and 3 are below each other, not bisimilar.
 /// let game = [4, 5, 2, 1, 0, 2, 0, 0, 0, 0, 0, 0, 1, 2, 3, 1, 2, 1, 2, 2];
-/// let (mut marks, mut spare) = ([0; 16], [0; 16]);
+/// let (mut marks, mut spare) = ([0; 2], [0; 2]);
 /// raskjomi::governed_order(&game, &mut marks, &mut spare)?;
-/// assert_eq!(marks, [1, 0, 0, 0, 0, 1, 0, 0, 0, 0, 1, 0, 0, 0, 0, 1]);
+/// // Each vertex with itself: marks 0, 5, 10 and 15.
+/// assert_eq!(marks, [0b0010_0001, 0b1000_0100]);
 /// # Ok::<(), raskjomi::Refusal>(())
 /// ```
 pub fn governed_order(game: &[u16], marks: &mut [u8], spare: &mut [u8]) -> Result<u32, Refusal> {
     verdict(exports::governed_order(game, marks, spare)).map(|answer| answer.passes)
 }
 
-/// Judges a relation: whether the pairs that the first n × n bytes mark form a governed bisimulation, a
-/// direct simulation that has the reverse of each of its pairs.
+/// Judges a relation as [`accept_relation`] does: whether the pairs that are marked form a governed
+/// bisimulation, a direct simulation that has the reverse of each of its pairs.
 ///
 /// ```
 /// let game = [3, 3, 0, 1, 0, 0, 0, 1, 0, 1, 2, 1, 1, 1];
-/// assert!(raskjomi::accept_governed(&game, &[1, 0, 1, 0, 1, 0, 1, 0, 1]).is_ok());
-/// // (0, 2) is marked, and (2, 0) isn't.
-/// let refusal = raskjomi::accept_governed(&game, &[1, 0, 1, 0, 1, 0, 0, 0, 1]).unwrap_err();
+/// assert!(raskjomi::accept_governed(&game, &[0b0101_0101, 1]).is_ok());
+/// // (0, 2) is marked, and (2, 0), mark 6, isn't.
+/// let refusal = raskjomi::accept_governed(&game, &[0b0001_0101, 1]).unwrap_err();
 /// assert_eq!((refusal.number, refusal.place), (10, 2));
 /// ```
 pub fn accept_governed(game: &[u16], marks: &[u8]) -> Result<(), Refusal> {
@@ -579,7 +590,7 @@ pub fn accept_governed(game: &[u16], marks: &[u8]) -> Result<(), Refusal> {
 ///
 /// ```
 /// let game = [3, 3, 0, 1, 0, 0, 0, 1, 0, 1, 2, 1, 1, 1];
-/// let (mut marks, mut spare, mut classes) = ([0; 9], [0; 9], [0; 3]);
+/// let (mut marks, mut spare, mut classes) = ([0; 2], [0; 2], [0; 3]);
 /// assert_eq!(raskjomi::governed_classes(&game, &mut marks, &mut spare, &mut classes)?, 2);
 /// assert_eq!(classes, [0, 1, 0]);
 /// # Ok::<(), raskjomi::Refusal>(())

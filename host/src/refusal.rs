@@ -111,7 +111,7 @@ const fn row(meaning: &'static str, place: &'static str, remedy: &'static str) -
     Explanation { meaning, place, remedy }
 }
 
-/// The number in words, if it is one of the library's refusals, now or, as 7 is, of earlier times.
+/// The number in words, if it is one of the library's refusals, now or, as 7 and 9 are, of earlier times.
 ///
 /// ```
 /// let five = raskjomi::explain(5).unwrap();
@@ -130,6 +130,7 @@ pub fn explain(number: u32) -> Option<Explanation> {
         36 => &OVERSIZE,
         37..=39 => &EDIT[number as usize - 37],
         40 => &TRACE,
+        41 => &UNUSED,
         _ => return None,
     };
     Some(*row)
@@ -142,9 +143,9 @@ const GAME: [Explanation; 8] = [
         "begin the table with its sizes: the number of vertices, then the number of edges",
     ),
     row(
-        "the number of vertices is 0 or above 256",
+        "the number of vertices is 0 or above 512",
         "word 0, which holds it",
-        "give the table 1 to 256 vertices",
+        "give the table 1 to 512 vertices",
     ),
     row(
         "the number of edges is above 4,096",
@@ -180,7 +181,12 @@ const GAME: [Explanation; 8] = [
 ];
 
 const RELATION: [Explanation; 2] = [
-    row("a mark is above 1", "the first such byte", "write 1 for a pair in the relation, else 0"),
+    row(
+        "a mark is above 1; it no longer occurs: since change request CR 13 a mark is a bit, and 41 stands \
+         for set bits that no mark has",
+        "the first such byte",
+        "take the library as it is since CR 13, or write 1 for a pair in the relation, else 0",
+    ),
     row(
         "a marked pair has unequal priorities or fails the test on successors, or, in a check for \
          governed bisimulation, its reverse is unmarked",
@@ -221,8 +227,16 @@ const PLAN: [Explanation; 6] = [
 ];
 
 const MEMORY: [Explanation; 4] = [
-    row("the marks are too short", "the length needed, n × n bytes", "give at least n × n marks"),
-    row("the spare is too short", "the length needed, n × n bytes", "lend at least n × n bytes"),
+    row(
+        "the marks are too short",
+        "the length needed, n × n / 8 bytes, rounded up",
+        "give n × n marks, eight in a byte",
+    ),
+    row(
+        "the spare is too short",
+        "the length needed, n × n / 8 bytes, rounded up",
+        "lend at least so many bytes",
+    ),
     row("the class words are too few", "the length needed, n words", "lend at least n words"),
     row(
         "the output, or a preview's second table, is too short",
@@ -235,7 +249,7 @@ const SEED: [Explanation; 2] = [
     row(
         "a game by the seed isn't within the limits",
         "always 0",
-        "name 1 to 256 vertices, a degree of 1 to 16, 1 to 65,535 priorities, and at most 4,096 \
+        "name 1 to 512 vertices, a degree of 1 to 16, 1 to 65,535 priorities, and at most 4,096 \
          edges in all",
     ),
     row(
@@ -291,4 +305,10 @@ const TRACE: Explanation = row(
     "the trace has no words, or more than 4,096 entries, or a length that isn't 1 + 2 times its count",
     "0",
     "begin the trace with its count, at most 4,096; then write as many sources, then as many targets",
+);
+
+const UNUSED: Explanation = row(
+    "an unused bit of the relation's last byte is set",
+    "the last byte that the marks need, from 0",
+    "clear the bits behind mark n × n − 1, the last one; if marks are meant there, the relation is of another game",
 );

@@ -1,6 +1,6 @@
 //! Plans to be carried to other vertices.
 
-use crate::families::complete;
+use crate::families::{complete, forced_ring};
 use crate::{Lcg, Plan, Table};
 use std::ops::Range;
 
@@ -58,6 +58,17 @@ pub fn round_complete(
     let game = opponents(complete(n), player);
     let vertices = (0..positions).map(|i| (i % n) as u16).collect();
     let plan = round_plan(&game, vertices, round);
+    (game, plan)
+}
+
+/// A game of n vertices of the opponent's, each with edges to itself and to the next `degree - 1`, and a plan
+/// that goes round through so many positions by the loop at 0. Carried, it has n times as many positions, and
+/// `degree` links from each.
+pub fn round_ring(n: usize, degree: usize, round: usize, player: u16) -> (Table, Plan) {
+    let mut game = opponents(forced_ring(n, degree), player);
+    game.edges.iter_mut().for_each(|edge| edge.1 = (edge.1 + n as u16 - 1) % n as u16);
+    let vertices = [vec![0; round - 1], (0..n as u16).collect()].concat();
+    let plan = round_plan(&game, vertices, 0..round);
     (game, plan)
 }
 

@@ -12,7 +12,7 @@ pub fn damaged(lcg: &mut Lcg, game: &Table, number: u32) -> Vec<u16> {
     let mut words = game.words();
     match number {
         1 => words.truncate(lcg.below(2)),
-        2 => words[0] = lcg.pick(&[0, 257, 300, 65_535]),
+        2 => words[0] = lcg.pick(&[0, 513, 600, 65_535]),
         3 => words[1] = lcg.pick(&[4_097, 5_000, 65_535]),
         4 => change_length(lcg, &mut words),
         5 => words[2 + n + lcg.below(n)] = lcg.pick(&[2, 3, 256, 65_535]),

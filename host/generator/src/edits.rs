@@ -46,7 +46,7 @@ pub fn trace(lcg: &mut Lcg, game: &Table) -> Vec<(u16, u16)> {
             2 if !entries.is_empty() => entries[lcg.below(entries.len())],
             _ => (lcg.below(n) as u16, lcg.below(n) as u16),
         };
-        let outside = lcg.pick(&[n as u16, n as u16 + 1, 256, 65_535]);
+        let outside = lcg.pick(&[n as u16, n as u16 + 1, 512, 65_535]);
         entries.push(match lcg.below(16) {
             0 if bad => (outside, entry.1),
             1 if bad => (entry.0, outside),

@@ -16,13 +16,15 @@ mod small;
 mod solver;
 mod table;
 
-pub use carries::{branching, crowded, opponents, round_complete, round_of_loops, round_plan};
+pub use carries::{
+    branching, crowded, opponents, round_complete, round_of_loops, round_plan, round_ring,
+};
 pub use damage::{damaged, damaged_often, REFUSALS};
 pub use edits::{damaged_trace, edge_to_edit, trace, trace_words, words_behind};
 pub use families::{chain, complete, copies, fans, forced_ring, random, rings, watched_rings};
 pub use lcg::Lcg;
 pub use plans::{largest_plan, strategy_plan, unfolded, Plan};
-pub use relations::relation;
+pub use relations::{relation, set_unused_bits};
 pub use repeats::{repeated, same_game};
 pub use sample::{any_game, bent_plan, old_bytes, old_words};
 pub use seeds::{seed_numbers, SEED_LIMITS};

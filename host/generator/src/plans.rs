@@ -60,14 +60,14 @@ pub fn unfolded(lcg: &mut Lcg, plan: &Plan, count: usize) -> Plan {
     Plan { vertices: plan.vertices.repeat(count), links }
 }
 
-/// A game of 256 vertices, all Odd's, and Even's plan of 4,096 positions and 16,384 links for it.
-/// All positions but a few have the wrong parity and none lies on a bad walk.
-pub fn largest_plan(lcg: &mut Lcg) -> (Table, Plan) {
-    let mut game = forced_ring(256, 4);
+/// A game of n vertices, all Odd's, and Even's plan of 4,096 positions and 16,384 links for it. n divides
+/// 4,096. All positions but a few have the wrong parity and none lies on a bad walk.
+pub fn largest_plan(lcg: &mut Lcg, n: usize) -> (Table, Plan) {
+    let mut game = forced_ring(n, 4);
     game.owners.fill(1);
     game.priorities[4..].fill(1);
-    let all = strategy_plan(&game, 0, 0, &[0; 256]);
-    let plan = unfolded(lcg, &all, 16);
+    let all = strategy_plan(&game, 0, 0, &vec![0; n]);
+    let plan = unfolded(lcg, &all, 4_096 / n);
     (game, plan)
 }
 

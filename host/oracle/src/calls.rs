@@ -2,7 +2,7 @@
 
 use crate::game::Game;
 use crate::reduction::Classes;
-use crate::{Oracle, Relation, Trap};
+use crate::{mark_bytes, Oracle, Relation, Trap};
 
 /// A call's answer: number 0 for accepted with its counts, else the refusal's number and place.
 #[derive(Clone, Copy, Debug, Default, PartialEq, Eq)]
@@ -153,7 +153,8 @@ impl Oracle {
         buffers: usize,
     ) -> Result<(), Refusal> {
         let n = game.n();
-        let needed = [n * n, n * n, n, self.output_words(game)];
+        let marks = self.mark_bytes(n);
+        let needed = [marks, marks, n, self.output_words(game)];
         let lent =
             [memory.marks.len(), memory.spare.len(), memory.classes.len(), memory.output.len()];
         for i in 0..buffers {
@@ -163,6 +164,15 @@ impl Oracle {
             refuse_if(lent[i] < needed[i], 21 + i as u32, needed[i])?;
         }
         Ok(())
+    }
+
+    /// The bytes that marks and spare need.
+    fn mark_bytes(&self, n: usize) -> usize {
+        match self.trap {
+            Some(Trap::ByteForEachMark) => n * n,
+            Some(Trap::LengthsRoundedDown) => n * n / 8,
+            _ => mark_bytes(n),
+        }
     }
 
     /// The words that the output needs.
@@ -182,10 +192,29 @@ impl Oracle {
 
     /// Writes a relation into marks and spare.
     pub(crate) fn write_relation(&self, relation: &Relation, memory: &mut Memory) {
-        self.write(&mut memory.marks, &relation.bytes());
+        self.write_marks(&mut memory.marks, relation);
         if !self.falls_for(Trap::SpareLeftOld) {
-            self.write(&mut memory.spare, &relation.bytes());
+            self.write_marks(&mut memory.spare, relation);
         }
+    }
+
+    /// Writes the bytes of a relation's marks; unused bits of the last one are 0.
+    fn write_marks(&self, memory: &mut [u8], relation: &Relation) {
+        let mut bytes = relation.bytes();
+        let last = bytes.len() - 1;
+        match self.trap {
+            Some(Trap::HighestBitFirst) => {
+                bytes.iter_mut().for_each(|byte| *byte = byte.reverse_bits())
+            }
+            Some(Trap::UnusedLeftOld) => {
+                let used = relation.cells().len() - 8 * last;
+                bytes[last] += (memory[last] as u32 >> used << used) as u8;
+            }
+            Some(Trap::NextByteCleared) if memory.len() > bytes.len() => bytes.push(0),
+            Some(Trap::LengthsRoundedDown) => bytes.truncate(memory.len()),
+            _ => {}
+        }
+        self.write(memory, &bytes);
     }
 
     /// Writes the classes of a relation; their number.

@@ -4,7 +4,7 @@ use crate::calls::{refuse_at, refuse_if};
 use crate::{Oracle, Refusal, Trap};
 use std::collections::BTreeSet;
 
-const MOST_VERTICES: usize = 256;
+const MOST_VERTICES: usize = 512;
 const MOST_EDGES: usize = 4096;
 
 /// An accepted game: priorities, owners (0 Even, 1 Odd) and successors of the vertices.
@@ -95,7 +95,8 @@ impl Oracle {
         let length = words.len();
         refuse_if(length < 2, 1, length)?;
         let (n, m) = (words[0] as usize, words[1] as usize);
-        refuse_if(n == 0 || n > MOST_VERTICES, 2, 0)?;
+        let more = self.falls_for(Trap::OneVertexMore) as usize;
+        refuse_if(n == 0 || n > MOST_VERTICES + more, 2, 0)?;
         refuse_if(m > MOST_EDGES, 3, 1)?;
         let needed = 2 + 2 * n + 2 * m;
         let long_taken = self.falls_for(Trap::LongTableTaken) && length > needed;

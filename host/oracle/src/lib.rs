@@ -1,5 +1,5 @@
 //! A second implementation of every call, for tests: written from document 01 and its change requests
-//! CR 1 to CR 4, CR 6 to CR 10 and CR 12, which docs/CONTRACT.md renders, by their definitions, slow and plain, and sharing no
+//! CR 1 to CR 4, CR 6 to CR 10, CR 12 and CR 13, which docs/CONTRACT.md renders, by their definitions, slow and plain, and sharing no
 //! code with the library that it is compared with.
 //!
 //! Each [`Trap`] is a misreading of the contract. An [`Oracle`] that falls for one gives the answers
@@ -24,7 +24,7 @@ pub use calls::{Answer, Memory, Refusal};
 pub use edit::Edit;
 pub use game::Game;
 pub use reduction::Classes;
-pub use relation::Relation;
+pub use relation::{mark_bytes, Relation};
 pub use trap::Trap;
 
 /// Answers every call by the definitions, or with one misreading of them.

@@ -1,6 +1,6 @@
 //! Direct simulations: the pair test, the order by passes, and the judge of foreign relations.
 
-use crate::calls::refuse_at;
+use crate::calls::{refuse_at, refuse_if};
 use crate::{Game, Oracle, Refusal, Trap};
 
 /// A relation between the vertices of one game and those of another, or of the same.
@@ -22,9 +22,16 @@ impl Relation {
         self.cells[v * self.columns + w]
     }
 
-    /// The relation as bytes 0 and 1, in row order.
+    /// Whether each pair is in the relation, in row order.
+    pub fn cells(&self) -> &[bool] {
+        &self.cells
+    }
+
+    /// The marks, eight in a byte: byte j is the sum of 2 to the power k over all k below 8 for which mark
+    /// 8 × j + k is there and set.
     pub fn bytes(&self) -> Vec<u8> {
-        self.cells.iter().map(|&cell| cell as u8).collect()
+        let byte = |marks: &[bool]| (0..).zip(marks).map(|(k, &set)| set as u8 * 2u8.pow(k)).sum();
+        self.cells.chunks(8).map(byte).collect()
     }
 
     /// The pairs in row order.
@@ -39,7 +46,18 @@ impl Relation {
     }
 }
 
+/// The bytes that the marks of n vertices need: n × n divided by 8, rounded up.
+pub fn mark_bytes(n: usize) -> usize {
+    n * n / 8 + (n * n % 8 > 0) as usize
+}
+
 impl Oracle {
+    /// Whether mark i of lent bytes is set. Beyond their end none is.
+    fn mark(&self, bytes: &[u8], i: usize) -> bool {
+        let k = if self.falls_for(Trap::HighestBitFirst) { 7 - i % 8 } else { i % 8 };
+        bytes.get(i / 8).is_some_and(|byte| byte / 2u8.pow(k as u32) % 2 == 1)
+    }
+
     /// The test for v of `left` and w of `right`: the pair of owners decides which of the
     /// four conditions on their successors holds.
     pub(crate) fn test(&self, left: &Game, right: &Game, v: usize, w: usize, h: &Relation) -> bool {
@@ -118,7 +136,7 @@ impl Oracle {
         next
     }
 
-    /// Judges marks from anywhere: refusals 9 and 10. The marks are at least n × n bytes.
+    /// Judges marks from anywhere, as many bytes as are needed or more: refusals 41 and 10.
     pub(crate) fn judge_relation(&self, game: &Game, marks: &[u8]) -> Result<(), Refusal> {
         self.judge_marks(game, marks, |h| h.pairs().find(|&(v, w)| self.pair_fails(game, v, w, h)))
     }
@@ -131,17 +149,27 @@ impl Oracle {
         find: impl Fn(&Relation) -> Option<(usize, usize)>,
     ) -> Result<(), Refusal> {
         let n = game.n();
-        let judged = if self.falls_for(Trap::BytesBeyondJudged) { marks.len() } else { n * n };
-        let bad_byte = marks[..judged].iter().position(|&byte| byte > 1);
-        let bad_byte = bad_byte.filter(|_| !self.falls_for(Trap::AnyByteMarks));
-        let h = Relation::of(n, n, |v, w| marks[v * n + w] >= 1);
-        let bad_pair = find(&h).map(|(v, w)| v * n + w);
-        let together = self.falls_for(Trap::BytesAndPairsTogether);
-        match (bad_byte, bad_pair) {
-            (Some(byte), Some(pair)) if together && pair < byte => refuse_at(bad_pair, 10),
-            (Some(_), _) => refuse_at(bad_byte, 9),
-            (None, _) => refuse_at(bad_pair, 10),
+        let h = Relation::of(n, n, |v, w| self.mark(marks, v * n + w));
+        let bad_pair = refuse_at(find(&h).map(|(v, w)| v * n + w), 10);
+        let unused = self.judge_unused(n, marks);
+        if self.falls_for(Trap::PairsBeforeUnused) {
+            bad_pair.and(unused)
+        } else {
+            unused.and(bad_pair)
         }
+    }
+
+    /// Refusal 41: a bit of the last byte needed is set, and no mark has it.
+    fn judge_unused(&self, n: usize, marks: &[u8]) -> Result<(), Refusal> {
+        let needed = mark_bytes(n);
+        let judged = if self.falls_for(Trap::BitsBeyondJudged) { marks.len() } else { needed };
+        let unused = (n * n..8 * judged).find(|&i| self.mark(marks, i));
+        let place = match self.trap {
+            Some(Trap::UnusedAtTheFirst) => 0,
+            Some(Trap::UnusedAsMark) => unused.unwrap_or(0),
+            _ => needed - 1,
+        };
+        refuse_if(unused.is_some() && !self.falls_for(Trap::UnusedTaken), 41, place)
     }
 
     /// Whether the pair has unequal priorities or fails the test.

@@ -3,7 +3,7 @@
 use crate::{Classes, Game, Oracle, Refusal, Trap};
 use std::fmt::Write;
 
-const MOST_WORDS: usize = 8707;
+const MOST_WORDS: usize = 9219;
 
 impl Oracle {
     /// The report on a table given as bytes, low byte first.

@@ -4,7 +4,7 @@ use crate::calls::{refuse_if, Answer, Memory};
 use crate::{Game, Oracle, Refusal, Trap};
 
 const MODULUS: u128 = 4_294_967_296;
-const MOST_VERTICES: u128 = 256;
+const MOST_VERTICES: u128 = 512;
 const MOST_DEGREE: u128 = 16;
 const MOST_PRIORITIES: u128 = 65_535;
 const MOST_EDGES: u128 = 4_096;
@@ -26,7 +26,7 @@ impl Oracle {
         let unfit = outside(n, MOST_VERTICES)
             || outside(degree, MOST_DEGREE)
             || outside(priorities, MOST_PRIORITIES)
-            || n * degree > MOST_EDGES;
+            || n * degree > MOST_EDGES && !self.falls_for(Trap::DrawnEdgesUnlimited);
         let words = (2 + 2 * n + 2 * n * degree) as usize;
         if self.falls_for(Trap::LengthBeforeRange) {
             refuse_if(output < words, 32, words)?;

@@ -30,6 +30,8 @@ pub enum Trap {
     SinkAsWord,
     /// A table longer than its sizes say is taken.
     LongTableTaken,
+    /// One vertex more than the limit is taken.
+    OneVertexMore,
 
     /// Pass 0 marks pairs of unequal priority too.
     PassZeroMarksAll,
@@ -46,12 +48,26 @@ pub enum Trap {
     /// Vertices and edges change places in the answer.
     CountsExchanged,
 
-    /// A byte above 1 and a failing pair are searched in one scan.
-    BytesAndPairsTogether,
-    /// Any byte but 0 is a mark.
-    AnyByteMarks,
-    /// Bytes beyond the n × n marks are judged too.
-    BytesBeyondJudged,
+    /// The first of eight marks is a byte's highest bit.
+    HighestBitFirst,
+    /// Marks and spare need a byte for each mark.
+    ByteForEachMark,
+    /// Marks and spare need n × n / 8 bytes, rounded down.
+    LengthsRoundedDown,
+    /// Unused bits of the last byte keep their old content.
+    UnusedLeftOld,
+    /// The byte behind the last is set to 0.
+    NextByteCleared,
+    /// A relation's unused bits are ignored.
+    UnusedTaken,
+    /// A set unused bit has the first byte for its place.
+    UnusedAtTheFirst,
+    /// A set unused bit has a place as if it were a mark.
+    UnusedAsMark,
+    /// Bits of the bytes beyond the last one needed are judged too.
+    BitsBeyondJudged,
+    /// A failing pair is told before a set unused bit.
+    PairsBeforeUnused,
     /// A marked pair of unequal priorities passes if it passes the test.
     UnequalPrioritiesPass,
 
@@ -122,6 +138,8 @@ pub enum Trap {
 
     /// The output's length is checked before the numbers' ranges.
     LengthBeforeRange,
+    /// The drawn edges have no limit of their own.
+    DrawnEdgesUnlimited,
     /// A vertex draws its owner before its priority.
     OwnerBeforePriority,
     /// Targets are drawn modulo n - 1.
@@ -226,7 +244,7 @@ pub enum Trap {
 
 impl Trap {
     /// The traps of the calls, those of document 01 first.
-    pub const OF_CALLS: [Trap; 96] = [
+    pub const OF_CALLS: [Trap; 105] = [
         Trap::SomeMemberHasEdge,
         Trap::LittleBrothersByProse,
         Trap::MixedRowsExchanged,
@@ -240,6 +258,7 @@ impl Trap {
         Trap::DifferentEverywhere,
         Trap::SinkAsWord,
         Trap::LongTableTaken,
+        Trap::OneVertexMore,
         Trap::PassZeroMarksAll,
         Trap::LastPassUncounted,
         Trap::SpareLeftOld,
@@ -247,9 +266,16 @@ impl Trap {
         Trap::OrderBeforeLengths,
         Trap::PassesEverywhere,
         Trap::CountsExchanged,
-        Trap::BytesAndPairsTogether,
-        Trap::AnyByteMarks,
-        Trap::BytesBeyondJudged,
+        Trap::HighestBitFirst,
+        Trap::ByteForEachMark,
+        Trap::LengthsRoundedDown,
+        Trap::UnusedLeftOld,
+        Trap::NextByteCleared,
+        Trap::UnusedTaken,
+        Trap::UnusedAtTheFirst,
+        Trap::UnusedAsMark,
+        Trap::BitsBeyondJudged,
+        Trap::PairsBeforeUnused,
         Trap::UnequalPrioritiesPass,
         Trap::ClassesByHighest,
         Trap::OwnerOfHighest,
@@ -283,6 +309,7 @@ impl Trap {
         Trap::VertexAmongClasses,
         Trap::PlanOnQuotient,
         Trap::LengthBeforeRange,
+        Trap::DrawnEdgesUnlimited,
         Trap::OwnerBeforePriority,
         Trap::LastVertexNoTarget,
         Trap::OldStateDrawn,

@@ -3,7 +3,7 @@
 mod games;
 
 use games::{Carried, B, C, CARRIED, D, TABLES};
-use oracle::{Answer, Edit, Memory, Oracle, Trap};
+use oracle::{mark_bytes, Answer, Edit, Memory, Oracle, Relation, Trap};
 
 /// A game of n vertices, each with the first m / n vertices as successors.
 fn regular(n: usize, m: usize) -> Vec<u16> {
@@ -22,8 +22,8 @@ fn refused(number: u32, place: usize) -> Answer {
 fn memory_for(game: &[u16]) -> Memory {
     let n = game[0] as usize;
     Memory {
-        marks: vec![7; n * n],
-        spare: vec![7; n * n],
+        marks: vec![7; mark_bytes(n)],
+        spare: vec![7; mark_bytes(n)],
         classes: vec![7; n],
         reduction: vec![7; game.len()],
         output: vec![7; game.len()],
@@ -85,7 +85,7 @@ fn p8_game_b() {
     let mut memory = memory_for(&B);
     let answer = Oracle::exact().reduce(&B, &mut memory);
     assert_eq!(answer, Answer { classes: 2, vertices: 2, edges: 2, ..Answer::default() });
-    assert_eq!(memory.marks, [1, 0, 1, 0, 1, 0, 1, 0, 1]);
+    assert_eq!(memory.marks, [85, 1]);
     assert_eq!(memory.output, [2, 2, 0, 1, 0, 0, 0, 1, 1, 1, 7, 7, 7, 7]);
 }
 
@@ -93,7 +93,8 @@ fn p8_game_b() {
 fn p9_game_c() {
     let mut memory = memory_for(&C);
     assert_eq!(Oracle::exact().order(&C, &mut memory).passes, 2);
-    assert_eq!((memory.marks[5 + 2], memory.marks[2 * 5 + 1]), (1, 0));
+    // Marks 7 and 11.
+    assert_eq!((memory.marks[0] >> 7, memory.marks[1] >> 3 & 1), (1, 0));
     let quotient = Oracle::exact().quotient(&C, &mut memory);
     assert_eq!((quotient.classes, quotient.edges), (5, 7));
 }
@@ -110,8 +111,37 @@ fn p11_relation_of_one_pair() {
     let mut memory = memory_for(&C);
     memory.marks.fill(0);
     assert_eq!(Oracle::exact().accept_relation(&C, &memory), Answer::default());
-    memory.marks[2 * 5 + 1] = 1;
+    // Mark 2 × 5 + 1.
+    memory.marks[1] = 1 << 3;
     assert_eq!(Oracle::exact().accept_relation(&C, &memory), refused(10, 11));
+}
+
+/// Nine marks take a byte and a bit, 25 take three bytes and a bit, and 36 take four bytes and four bits.
+#[test]
+fn marks_eight_in_a_byte() {
+    assert_eq!([1, 2, 3, 4, 5, 6, 512].map(mark_bytes), [1, 1, 2, 2, 4, 5, 32_768]);
+    let mut memory = Memory { marks: vec![255; 3], spare: vec![254; 4], ..Memory::default() };
+    Oracle::exact().order(&B, &mut memory);
+    assert_eq!((memory.marks, memory.spare), (vec![85, 1, 255], vec![85, 1, 254, 254]));
+    let relation = Relation::of(5, 5, |v, w| (v, w) == (4, 4) || v == 0);
+    assert_eq!(relation.bytes(), [31, 0, 0, 1]);
+    let judge = |game: &[u16], marks: &[u8]| {
+        let memory = Memory { marks: marks.to_vec(), ..Memory::default() };
+        Oracle::exact().accept_relation(game, &memory)
+    };
+    assert_eq!(judge(&B, &[85, 1]), Answer::default());
+    assert_eq!(judge(&B, &[85, 1, 255]), Answer::default(), "a byte beyond");
+    for bit in 1..8 {
+        // (0, 1) is marked, too, and would be refused with 10.
+        assert_eq!(judge(&B, &[2, 1 << bit]), refused(41, 1));
+    }
+    assert_eq!(judge(&C, &[0, 0, 0, 128]), refused(41, 3));
+    assert_eq!(judge(&D, &[0, 0, 0, 0, 16]), refused(41, 4));
+    assert_eq!(judge(&D, &[0, 0, 0, 0, 8]), refused(10, 35));
+    // Sixteen marks leave no bit unused.
+    let four = [4, 4, 0, 1, 2, 3, 0, 0, 0, 0, 0, 1, 2, 3, 0, 1, 2, 3];
+    assert_eq!(judge(&four, &[33, 132]), Answer::default());
+    assert_eq!(judge(&four, &[0, 64]), refused(10, 14));
 }
 
 #[test]
@@ -135,17 +165,18 @@ fn game_d() {
 fn limits() {
     let accepted =
         |vertices, edges, different| Answer { vertices, edges, different, ..Answer::default() };
-    assert_eq!(Oracle::exact().read(&regular(256, 4096)), accepted(256, 4096, 4096));
+    assert_eq!(Oracle::exact().read(&regular(512, 4096)), accepted(512, 4096, 4096));
+    assert_eq!(Oracle::exact().read(&regular(257, 257)), accepted(257, 257, 257));
     assert_eq!(Oracle::exact().read(&regular(64, 4096)), accepted(64, 4096, 4096));
     let loops = [&[1, 4096, 0, 0][..], &[0; 8192]].concat();
     assert_eq!(Oracle::exact().read(&loops), accepted(1, 4096, 1));
-    assert_eq!(Oracle::exact().read(&regular(257, 257)), refused(2, 0));
+    assert_eq!(Oracle::exact().read(&regular(513, 513)), refused(2, 0));
     assert_eq!(Oracle::exact().read(&regular(1, 4097)), refused(3, 1));
     let mut memory = memory_for(&B);
     memory.marks.pop();
     let old = memory.clone();
-    assert_eq!(Oracle::exact().order(&B, &mut memory), refused(21, 9));
-    assert_eq!(Oracle::exact().accept_relation(&B, &memory), refused(21, 9));
+    assert_eq!(Oracle::exact().order(&B, &mut memory), refused(21, 2));
+    assert_eq!(Oracle::exact().accept_relation(&B, &memory), refused(21, 2));
     assert_eq!(memory, old);
 }
 
@@ -157,13 +188,13 @@ fn lengths_in_their_sequence() {
         let answer = Oracle::exact().reduce(&B, &mut memory);
         seen.push((answer.number, answer.place));
         match answer.number {
-            21 => memory.marks.resize(9, 5),
-            22 => memory.spare.resize(9, 5),
+            21 => memory.marks.resize(2, 5),
+            22 => memory.spare.resize(2, 5),
             23 => memory.classes.resize(3, 5),
             _ => memory.output.resize(14, 5),
         }
     }
-    assert_eq!(seen, [(21, 9), (22, 9), (23, 3), (24, 14), (0, 0)]);
+    assert_eq!(seen, [(21, 2), (22, 2), (23, 3), (24, 14), (0, 0)]);
 }
 
 #[test]
@@ -185,6 +216,9 @@ fn games_by_the_seed() {
     let answer = Oracle::exact().seed([1, 3, 2, 4], &mut memory);
     assert_eq!(answer, refused(32, 20));
     assert_eq!(Oracle::exact().seed([1, 3, 17, 4], &mut memory), refused(31, 0));
+    assert_eq!(Oracle::exact().seed([1, 513, 1, 4], &mut memory), refused(31, 0));
+    assert_eq!(Oracle::exact().seed([1, 512, 9, 4], &mut memory), refused(31, 0));
+    assert_eq!(Oracle::exact().seed([1, 512, 8, 4], &mut memory), refused(32, 9218));
     memory.output = vec![7; 20];
     Oracle::exact().seed([1, 3, 2, 4], &mut memory);
     let table = [3, 6, 0, 0, 0, 0, 0, 1, 0, 0, 1, 1, 2, 2, 1, 1, 2, 0, 0, 2];
@@ -255,8 +289,8 @@ fn refusals_to_carry() {
         let answer = Oracle::exact().carry(row.game, row.player, plan, vertex, &mut memory);
         assert!(memory.output.iter().all(|&word| word == 7));
         // 0 is below 1, and each vertex below itself.
-        let order = [1, 1, 0, 0, 0, 1, 0, 0, 0, 0, 1, 0, 0, 0, 0, 1];
-        let held = if answer.number > 32 { order } else { [7; 16] };
+        let order = [0b0010_0011, 0b1000_0100];
+        let held = if answer.number > 32 { order } else { [7; 2] };
         assert_eq!((&memory.marks[..], &memory.spare[..]), (&held[..], &held[..]));
         answer
     };
@@ -280,7 +314,7 @@ fn report_of_b() {
     assert_eq!(Oracle::exact().report(&[1, 0, 0, 0, 0, 0, 0, 0]), "refused 8 at 0\n");
     assert_eq!(Oracle::exact().report(&[]), "refused 1 at 0\n");
     let long = [[1, 0, 1, 0].repeat(4), vec![9; 20_000]].concat();
-    assert_eq!(Oracle::exact().report(&long), "refused 4 at 8707\n");
+    assert_eq!(Oracle::exact().report(&long), "refused 4 at 9219\n");
 }
 
 /// The worked edits of docs/CONTRACT.md, by answer and words.

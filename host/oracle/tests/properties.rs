@@ -4,7 +4,7 @@
 use generator::{
     any_game, copies, damaged, random, same_game, solve, strategy_plan, Lcg, Plan, Table, REFUSALS,
 };
-use oracle::{Answer, Game, Memory, Oracle, Relation};
+use oracle::{mark_bytes, Answer, Game, Memory, Oracle, Relation};
 
 fn exact() -> Oracle {
     Oracle::exact()
@@ -141,8 +141,8 @@ fn winners_are_those_of_the_reduced_game() {
         let table = any_game(&mut lcg, 30);
         let n = table.n();
         let mut memory = Memory {
-            marks: vec![0; n * n],
-            spare: vec![0; n * n],
+            marks: vec![0; mark_bytes(n)],
+            spare: vec![0; mark_bytes(n)],
             classes: vec![0; n],
             output: vec![0; table.words().len()],
             ..Memory::default()
