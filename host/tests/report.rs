@@ -57,11 +57,27 @@ fn inputs() -> Vec<Vec<u8>> {
             inputs.push(bytes(&damaged(&mut lcg, &table, number)));
         }
     }
-    let largest = bytes(&random(&mut lcg, 256, 4096, 3).words());
-    for more in [0, 1, 2, 3, 4, 100, 200_000] {
-        inputs.push([largest.clone(), vec![1; more]].concat());
-    }
+    inputs.extend([300, 511, 512].map(|n| bytes(&random(&mut lcg, n, 2 * n, 8).words())));
+    inputs.extend([0, 1, 2, 3, 4, 100, 200_000].map(|more| largest_and(more)));
     inputs
+}
+
+/// The longest table, of 9,218 words, and so many bytes behind it.
+fn largest_and(more: usize) -> Vec<u8> {
+    let words = random(&mut Lcg::new(6), 512, 4096, 3).words();
+    assert_eq!(words.len(), 9218);
+    [bytes(&words), vec![1; more]].concat()
+}
+
+/// It reads one word more than the longest table has, and no further.
+#[test]
+fn at_most_9219_words_are_read() {
+    assert!(report(&largest_and(0)).starts_with("game 512 4096\npasses "));
+    for more in [1, 2, 3, 4, 1000] {
+        assert_eq!(report(&largest_and(more)), "refused 4 at 9219\n", "{more} bytes more");
+    }
+    let short = &largest_and(0)[..18_434];
+    assert_eq!(report(short), "refused 4 at 9217\n");
 }
 
 /// The table's bytes without the last, or with one more.
@@ -115,7 +131,7 @@ fn lines<'a>(text: &'a str, word: &'a str) -> impl Iterator<Item = Vec<usize>> +
 #[test]
 fn totals_agree_with_the_other_lines() {
     let mut lcg = Lcg::new(10);
-    for most in [1, 3, 8, 20, 60, 256].repeat(10) {
+    for most in [1, 3, 8, 20, 60, 512].repeat(10) {
         let text = report(&bytes(&any_game(&mut lcg, most).words()));
         let one = |word| lines(&text, word).next().expect("a line");
         let classes: Vec<Vec<usize>> = lines(&text, "class").collect();

@@ -108,7 +108,7 @@ pub fn rows() -> Vec<Row> {
         }
     }
     rows.push(Row::reduce("chain", chain(256)));
-    let (game, plan) = largest_plan(&mut lcg);
+    let (game, plan) = largest_plan(&mut lcg, 256);
     let work = Work::AcceptPlan(plan.words());
     rows.push(Row { name: "largest plan".into(), game: game.words(), work });
     rows.extend([carried(4, 1024), carried(64, 4)].into_iter().flatten());

@@ -4,7 +4,7 @@ use crate::common::root;
 use crate::games::{B, C, CARRIED, D, TABLES};
 use crate::run::{bytes, file, numbers, run, run_on, shipped, words};
 use generator::{any_game, Lcg};
-use oracle::{Memory, Oracle};
+use oracle::{mark_bytes, Memory, Oracle, Relation};
 use std::process::Command;
 
 const GAMES: [&str; 4] = ["b.txt", "c.txt", "d.txt", "lift-doors.txt"];
@@ -17,7 +17,7 @@ fn path(name: &str) -> String {
 fn expected(command: &str, name: &str) -> Memory {
     let game = shipped(name);
     let n = game[0] as usize;
-    let (marks, classes) = (vec![0; n * n], vec![0; n]);
+    let (marks, classes) = (vec![0; mark_bytes(n)], vec![0; n]);
     let (spare, output) = (marks.clone(), vec![0; game.len()]);
     let mut memory = Memory { marks, spare, classes, output, ..Memory::default() };
     let answer = match command {
@@ -45,7 +45,7 @@ fn report_is_the_report_programs() {
         assert_eq!(run_on(&["report", "-"], &words[..words.len() - 1]).text(), text, "half a word");
     }
     let mut lcg = Lcg::new(10);
-    for most in [3, 8, 20, 60, 256].repeat(8) {
+    for most in [3, 8, 20, 60, 200].repeat(8).into_iter().chain([512]) {
         let words = bytes(&any_game(&mut lcg, most).words());
         assert_eq!(run_on(&["report"], &words).text(), Oracle::exact().report(&words));
     }
@@ -68,13 +68,20 @@ fn report_on_one_vertex() {
     assert!(three.contains(" from each of 0 and 2, and from vertex 0 "), "{three}");
 }
 
+/// The bytes of the marks that stand in rows of 0 and 1, as many in each as there are rows.
+fn packed(text: &str) -> Vec<u8> {
+    let rows: Vec<Vec<u16>> = text.lines().map(numbers).filter(|row| !row.is_empty()).collect();
+    assert!(rows.iter().all(|row| row.len() == rows.len()), "{text}");
+    assert!(rows.iter().flatten().all(|&mark| mark <= 1), "{text}");
+    Relation::of(rows.len(), rows.len(), |v, w| rows[v][w] == 1).bytes()
+}
+
 #[test]
 fn order_in_each_form() {
     for name in GAMES {
         let marks = expected("order", name).marks;
         let text = run(&["order", &path(name)]).text();
-        let read: Vec<u8> = numbers(&text).iter().map(|&mark| mark as u8).collect();
-        assert_eq!(read, marks);
+        assert_eq!(packed(&text), marks);
         assert_eq!(run(&["order", &path(name), "--as", "words"]).bytes(), marks);
         assert_eq!(
             run_on(&["check-relation", &path(name), "-"], text.as_bytes()).text(),
@@ -110,8 +117,7 @@ fn governed_in_each_form() {
         let Memory { marks, classes, .. } = expected("governed", name);
         let game = path(name);
         let text = run(&["governed", "order", &game]).text();
-        let read: Vec<u8> = numbers(&text).iter().map(|&mark| mark as u8).collect();
-        assert_eq!(read, marks);
+        assert_eq!(packed(&text), marks);
         assert_eq!(run(&["governed", "order", &game, "--as", "words"]).bytes(), marks);
         let check = ["governed", "check", &game, "-"];
         assert_eq!(run_on(&check, text.as_bytes()).text(), "accepted\n");
@@ -203,6 +209,49 @@ fn a_repeated_edge_is_one() {
 }
 
 #[test]
+fn numbers_that_no_longer_occur() {
+    let explained = run(&["explain", "9"]).text();
+    assert!(explained.starts_with("refusal 9, about the relation\n"), "{explained}");
+    assert!(explained.contains("no longer occurs: since change request CR 13 "), "{explained}");
+    let help = run(&["explain", "--help"]).text().replace('\n', " ");
+    assert!(help.contains("; 7 and 9 no longer occur."), "{help}");
+}
+
+/// Marks of 4 vertices, all of them: two bytes 255, of which none is a control character.
+#[test]
+fn marks_that_could_be_text() {
+    let game = file("complete.bin", &bytes(&generator::complete(4).words()));
+    let marks = run(&["order", &game, "--as", "words"]).bytes();
+    assert_eq!(marks, [255, 255]);
+    assert_eq!(run_on(&["check-relation", &game, "-"], &marks).text(), "accepted\n");
+    // Bytes that look like text have the length that marks need, so they are none.
+    run_on(&["check-relation", &game, "-"], b"01").fails(
+        1,
+        &[
+            "standard input: byte 0 from 0 (pair 1, 0, bit 4 from 0), read as binary since it has the \
+             2 bytes that the marks need: refused 10 at 4: ",
+        ],
+    );
+    // One vertex: a mark as text, and as a byte.
+    let loops = file("loop.txt", b"1 1 / 0 / 0 / 0 / 0");
+    for relation in [&b"0"[..], b"1", b"1\n", &[0], &[1]] {
+        assert_eq!(run_on(&["check-relation", &loops, "-"], relation).text(), "accepted\n");
+    }
+    let parts = ["byte 0 from 0 (its bits from 1 on belong to no pair)", ": refused 41 at 0: "];
+    run_on(&["check-relation", &loops, "-"], b"3").fails(1, &parts);
+}
+
+/// 512 vertices: rows of as many marks, and exactly the bytes needed.
+#[test]
+fn the_largest_order() {
+    let game = file("chain-512.bin", &bytes(&generator::chain(512).words()));
+    let binary = run(&["order", &game, "--as", "words"]).bytes();
+    assert_eq!(binary.len(), 32_768);
+    assert_eq!(packed(&run(&["order", &game]).text()), binary);
+    assert_eq!(run_on(&["check-relation", &game, "-"], &binary).text(), "accepted\n");
+}
+
+#[test]
 fn games_by_the_seed() {
     let game = [3, 6, 0, 0, 0, 0, 0, 1, 0, 0, 1, 1, 2, 2, 1, 1, 2, 0, 0, 2];
     let seed = |options: &[&str]| run(&[&["seed", "1", "3", "2", "4"], options].concat());
@@ -215,8 +264,8 @@ fn games_by_the_seed() {
     let [one, other] = [text.as_bytes(), &binary].map(|input| run_on(&["report"], input).text());
     assert_eq!(one, other, "the same game as text and as words");
     assert!(one.starts_with("game 3 5\n"), "{one}");
-    for numbers in [["0", "1", "1", "1"], ["4294967295", "256", "16", "65535"]] {
-        let mut memory = Memory { output: vec![0; 8706], ..Memory::default() };
+    for numbers in [["0", "1", "1", "1"], ["4294967295", "512", "8", "65535"]] {
+        let mut memory = Memory { output: vec![0; 9218], ..Memory::default() };
         let parsed = numbers.map(|number| number.parse().expect("a number"));
         let answer = Oracle::exact().seed(parsed, &mut memory);
         memory.output.truncate(2 + 2 * answer.vertices as usize + 2 * answer.edges as usize);
@@ -374,7 +423,7 @@ fn carried_plans_from_standard_input() {
 
 #[test]
 fn explain_each_number() {
-    for number in (1..=16).chain(21..=24).chain(31..=40) {
+    for number in (1..=16).chain(21..=24).chain(31..=41) {
         let text = run(&["explain", &number.to_string()]).text();
         let about = if number < 31 { "the " } else { "a later addition\n" };
         assert!(text.starts_with(&format!("refusal {number}, about {about}")), "{text}");
@@ -388,7 +437,7 @@ fn explain_each_number() {
 fn help_begins_with_what_a_newcomer_needs() {
     let overview = run(&["--help"]).text();
     let (first, rest) = overview.split_once("\nusage: ").expect("a usage");
-    for fact in ["256 vertices and 4,096 edges", "lowest priority seen for ever decides"] {
+    for fact in ["512 vertices and 4,096 edges", "lowest priority seen for ever decides"] {
         assert!(first.replace('\n', " ").contains(fact), "{first}");
         assert!(run(&["reduce", "--help"]).text().replace('\n', " ").contains(fact), "{fact}");
     }

@@ -49,10 +49,10 @@ fn governed_bisimulations() {
 fn numbers() {
     bad(&["explain"], &["arguments: 0 instead of 1"]);
     bad(&["explain", "-1"], &["no option -1"]);
-    for word in ["17", "0", "41", "x", "+8", "65544"] {
+    for word in ["17", "0", "42", "x", "+8", "65544"] {
         bad(
             &["explain", word],
-            &[&format!("`{word}` is no refusal number"), "1 to 16, 21 to 24 and 31 to 40"],
+            &[&format!("`{word}` is no refusal number"), "1 to 16, 21 to 24 and 31 to 41"],
         );
     }
     for vertex in ["3", "x", "-1", "+1", ""] {
@@ -147,6 +147,14 @@ fn words_of_text() {
     input("1 1\r\n1 x\r\n").fails(2, &["line 2, word 2: `x`"]);
     input(&"9".repeat(5000)).fails(2, &[&format!("`{}..` is no number", "9".repeat(24))]);
     run_on(&["report"], &[255; 8]).fails(2, &["line 1, word 1: `"]);
-    let relation = run_on(&["check-relation", "games/b.txt", "-"], b"1 0\n256");
-    relation.fails(2, &["line 2, word 1: `256`", "from 0 to 255"]);
+    for mark in ["2", "256", "x", "-1", "101"] {
+        let relation = format!("1 0\n{mark}");
+        run_on(&["check-relation", "games/b.txt", "-"], relation.as_bytes()).fails(
+            2,
+            &[
+                &format!("line 2, word 1: `{mark}` is no mark; write 0 or 1 for each pair, "),
+                "or give exactly 2 bytes, eight marks in each",
+            ],
+        );
+    }
 }

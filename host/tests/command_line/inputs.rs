@@ -77,4 +77,9 @@ fn surplus_marks_are_told() {
     let ran = run(&["check-relation", "games/c.txt", &order]);
     assert_eq!((ran.status, &ran.out[..]), (1, &b"refused 10 at 0\n"[..]));
     assert!(ran.err.contains("only the first 25 of 36 marks are judged\n"), "{}", ran.err);
+    let ran = run_on(&["check-relation", "games/b.txt", "-"], &[0b0101_0101, 1, 255, 0]);
+    assert_eq!((ran.status, &ran.out[..]), (0, &b"accepted\n"[..]));
+    let note = "byte 2 from 0, read as binary since byte 1 is a control character: only the first 2 of 4 bytes \
+                are judged\n";
+    assert!(ran.err.ends_with(note), "{}", ran.err);
 }

@@ -28,10 +28,10 @@ fn a_reader_that_goes_away() {
     assert!(ran.stderr.is_empty(), "{ran:?}");
 }
 
-/// 256 vertices, each with a loop alone.
+/// 512 vertices, each with a loop alone.
 fn largest() -> Vec<u16> {
-    let loops: Vec<u16> = (0..256).collect();
-    [&[256, 256], &[0; 512][..], &loops, &loops].concat()
+    let loops: Vec<u16> = (0..512).collect();
+    [&[512, 512], &[0; 1024][..], &loops, &loops].concat()
 }
 
 #[test]

@@ -3,10 +3,11 @@
 use crate::run::{bytes, file, run, run_on, shipped};
 
 /// Games as text, the refusal, and where it is.
-const GAMES: [(&str, &str, &str); 8] = [
+const GAMES: [(&str, &str, &str); 9] = [
     ("# nothing", "1 at 0", "no number in it"),
     ("1", "1 at 1", "after line 1, word 1, the last of 1"),
     ("0 1", "2 at 0", "line 1, word 1 (n is 0)"),
+    ("513 1", "2 at 0", "line 1, word 1 (n is 513)"),
     ("1 4097", "3 at 1", "line 1, word 2 (m is 4097)"),
     ("1 1 0 0\n0", "4 at 5", "after line 2, word 1, the last of 5 (n is 1 and m is 1, so 6 words)"),
     ("1 1 # sizes\n0 2 / 0 0", "5 at 3", "line 2, word 2 (owner 2)"),
@@ -53,10 +54,10 @@ fn relations() {
     let rows: [(&str, &str, &str); 3] = [
         (
             "1 0 0\n0 1 0\n0 0",
-            "21 at 9",
+            "21 at 2",
             "after line 3, word 2, the last of 8 (9 marks are needed)",
         ),
-        ("1 1 0\n0 3 0\n0 0 1", "9 at 4", "line 2, word 2 (mark 3)"),
+        ("# none", "21 at 2", "no number in it (9 marks are needed)"),
         ("1 0 0\n0 1 0\n0 1 1", "10 at 7", "line 3, word 2 (pair 2, 1)"),
     ];
     for (text, verdict, place) in rows {
@@ -71,8 +72,31 @@ fn relations() {
     let parts = ["relation.txt: line 1, word 3 (pair 0, 2): refused 10 at 2: "];
     let out = run(&["governed", "check", "games/b.txt", &relation]).fails(1, &parts);
     assert_eq!(out, "refused 10 at 2\n");
-    run_on(&["check-relation", "games/b.txt", "-"], &[0, 1, 2, 0, 0, 0, 0, 0, 0])
-        .fails(1, &["standard input: byte 2 from 0 (mark 2), read as binary ", ": refused 9 at 2"]);
+    // 36 marks take five bytes, and so would 33: that three are missing is told.
+    let parts =
+        ["the last of 33 (36 marks are needed)", ": refused 21 at 5: ", "; give n × n marks"];
+    let short = "1 ".repeat(33);
+    run_on(&["check-relation", "games/d.txt", "-"], short.as_bytes()).fails(1, &parts);
+    // Marks of text beyond the last pair are no unused bits.
+    let ran = run_on(&["check-relation", "games/b.txt", "-"], "0 ".repeat(9).as_bytes());
+    assert_eq!(ran.text(), "accepted\n");
+}
+
+#[test]
+fn relations_in_binary() {
+    let rows: [(&[u8], &str, &str); 4] = [
+        (&[1], "21 at 2", "after byte 0 from 0, the last of 1 (2 bytes are needed)"),
+        (&[1, 2], "41 at 1", "byte 1 from 0 (its bits from 1 on belong to no pair)"),
+        (&[2, 128], "41 at 1", "byte 1 from 0 (its bits from 1 on belong to no pair)"),
+        (&[0b1001_0001, 1], "10 at 7", "byte 0 from 0 (pair 2, 1, bit 7 from 0)"),
+    ];
+    for (marks, verdict, place) in rows {
+        for check in [&["check-relation"][..], &["governed", "check"]] {
+            let parts = [&*format!("standard input: {place}, read as binary "), ": refused "];
+            let line = [check, &["games/b.txt", "-"]].concat();
+            assert_eq!(run_on(&line, marks).fails(1, &parts), format!("refused {verdict}\n"));
+        }
+    }
 }
 
 #[test]
@@ -169,8 +193,8 @@ fn edits() {
     let full_parts = [": refused 37 at 0: ", "; name two vertices"];
     run(&["edit", &full, "--add=0:0"]).fails(1, &full_parts);
     let mut lcg = generator::Lcg::new(1);
-    let most = generator::random(&mut lcg, 256, 4096, 2);
-    let absent = (0..256).find(|w| !most.edges.contains(&(0, *w))).expect("a vertex");
+    let most = generator::random(&mut lcg, 512, 4096, 2);
+    let absent = (0..512).find(|w| !most.edges.contains(&(0, *w))).expect("a vertex");
     let most = file("most.bin", &bytes(&most.words()));
     let parts = [": refused 39 at 4096: ", "; remove an edge first"];
     assert_eq!(run(&["edit", &most, "--add", &format!("0:{absent}")]).fails(1, &parts), "");
@@ -205,8 +229,8 @@ fn traces() {
         assert_eq!(out, "", "nothing is written");
     }
     let mut lcg = generator::Lcg::new(1);
-    let most = generator::random(&mut lcg, 256, 4096, 2);
-    let absent = (0..256).find(|w| !most.edges.contains(&(0, *w))).expect("a vertex");
+    let most = generator::random(&mut lcg, 512, 4096, 2);
+    let absent = (0..512).find(|w| !most.edges.contains(&(0, *w))).expect("a vertex");
     let most = file("most-replay.bin", &bytes(&most.words()));
     let parts = [": refused 39 at 4096: ", "; remove an edge first"];
     let trace = format!("1 0 {absent}");
@@ -215,10 +239,16 @@ fn traces() {
 
 #[test]
 fn games_by_the_seed() {
-    for numbers in [["0", "2", "4"], ["257", "2", "4"], ["3", "17", "4"], ["3", "2", "65536"]] {
+    for numbers in [
+        ["0", "2", "4"],
+        ["513", "2", "4"],
+        ["512", "9", "4"],
+        ["3", "17", "4"],
+        ["3", "2", "65536"],
+    ] {
         let [n, degree, priorities] = numbers;
         let place = format!("raskjomi: {n} vertices, degree {degree}, {priorities} priorities: ");
-        let parts = [&*place, "refused 31 at 0: ", "; name 1 to 256 vertices, "];
+        let parts = [&*place, "refused 31 at 0: ", "; name 1 to 512 vertices, "];
         assert_eq!(run(&["seed", "7", n, degree, priorities]).fails(1, &parts), "");
     }
 }

@@ -9,7 +9,8 @@ use std::collections::BTreeMap;
 use std::thread;
 
 /// Games of at most so many vertices, and how many of them in a shard.
-const GAMES: [(usize, usize); 5] = [(4, 4000), (12, 4000), (40, 1500), (100, 300), (256, 200)];
+const GAMES: [(usize, usize); 6] =
+    [(4, 4000), (12, 4000), (40, 1500), (100, 300), (256, 150), (512, 10)];
 const SHARDS: u64 = 2;
 /// How often each call gives each of its refusals, at the least.
 const REACHED: usize = 50;
@@ -68,14 +69,14 @@ fn kinds_agree() {
     }
 }
 
-/// The library explains exactly the numbers that it gives, and 7, which it gave before CR 2.
+/// The library explains exactly the numbers that it gives, and 7 and 9, which it gave before CR 2 and CR 13.
 #[test]
 fn every_refusal_is_explained() {
     for number in 0..1000 {
-        let given = matches!(number, 1..=16 | 21..=24 | 31..=40);
+        let given = matches!(number, 1..=16 | 21..=24 | 31..=41);
         assert_eq!(raskjomi::explain(number).is_some(), given, "{number}");
         let kind = Oracle::exact().kind(number);
-        let known = (1..=4).contains(&kind) || kind == 5 && number <= 40;
+        let known = (1..=4).contains(&kind) || kind == 5 && number <= 41;
         assert_eq!(given, known, "{number}");
     }
 }

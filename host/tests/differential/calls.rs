@@ -66,7 +66,7 @@ impl Call {
             Call::Seed => return vec![31, 32],
             Call::Read => &[],
             Call::Order | Call::GovernedOrder => &[21..=22],
-            Call::AcceptRelation | Call::AcceptGoverned => &[9..=10, 21..=21],
+            Call::AcceptRelation | Call::AcceptGoverned => &[10..=10, 21..=21, 41..=41],
             Call::Classes | Call::GovernedClasses => &[21..=23],
             Call::Quotient | Call::Reduce => &[21..=24],
             Call::Convert => &[24..=24, 36..=36],

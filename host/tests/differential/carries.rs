@@ -9,7 +9,7 @@ use generator::{
     any_game, bent_plan, complete, opponents, round_of_loops, round_plan, same_game, solve, Lcg,
     Plan, Table,
 };
-use oracle::{Answer, Memory, Oracle};
+use oracle::{mark_bytes, Answer, Memory, Oracle};
 use raskjomi::MOST_PLAN_WORDS;
 use std::ops::Range;
 
@@ -165,8 +165,8 @@ fn dirty(lcg: &mut Lcg, table: &Table, output: usize) -> Memory {
     let bytes = |words: Vec<u16>| words.into_iter().map(|word| word as u8).collect();
     let n = table.n();
     Memory {
-        marks: bytes(old(n * n + 3)),
-        spare: bytes(old(n * n + 5)),
+        marks: bytes(old(mark_bytes(n) + 3)),
+        spare: bytes(old(mark_bytes(n) + 5)),
         classes: old(n + 7),
         reduction: old(table.words().len() + 9),
         output: old(output),
@@ -265,8 +265,8 @@ fn memory_after_a_plan_is_refused() {
 fn lengths_come_before_the_plan_and_leave_all_memory_old() {
     type Shorten = fn(&mut Memory, usize, usize);
     let shortened: [Shorten; 4] = [
-        |memory, n, _| memory.marks.truncate(n * n - 1),
-        |memory, n, _| memory.spare.truncate(n * n - 1),
+        |memory, n, _| memory.marks.truncate(mark_bytes(n) - 1),
+        |memory, n, _| memory.spare.truncate(mark_bytes(n) - 1),
         |memory, n, _| memory.classes.truncate(n - 1),
         |memory, _, words| memory.reduction.truncate(words - 1),
     ];
@@ -282,7 +282,7 @@ fn lengths_come_before_the_plan_and_leave_all_memory_old() {
                 let case =
                     Case::of_carrying(call, &table.words(), 2, &[], u32::MAX, memory.clone());
                 if i < buffers {
-                    let place = [n * n, n * n, n, words][i];
+                    let place = [mark_bytes(n), mark_bytes(n), n, words][i];
                     leaves(&case, 21 + i as u32, place, &memory);
                 } else {
                     leaves(&case, 11, 0, &memory);

@@ -33,7 +33,7 @@ fn priorities_word_by_word() {
         (&[65_535], &[1]),
         (&[65_534, 0, 65_533, 1], &[0, 65_534, 1, 65_533]),
         (&[1, 65_535, 2], &[65_535, 1, 65_534]),
-        (&[7; 256], &[1; 256]),
+        (&[7; 512], &[1; 512]),
     ];
     for (priorities, expected) in rows {
         let table = ring(priorities);
@@ -59,7 +59,7 @@ fn a_priority_that_fits_no_word() {
 #[test]
 fn outputs_of_any_length() {
     let mut lcg = Lcg::new(81);
-    for most in [1, 3, 20, 256].repeat(40) {
+    for most in [1, 3, 20, 512].repeat(40) {
         let table = extreme(&mut lcg, most);
         let needed = table.words().len();
         for length in [0, 1, 2, needed - 1, needed, needed + 1, needed + 30] {
@@ -130,7 +130,7 @@ fn two_in_a_row_shift_by_one_even_number() {
 #[test]
 fn the_reader_accepts_what_is_written() {
     let mut lcg = Lcg::new(85);
-    for most in [1, 2, 5, 40, 256].repeat(100) {
+    for most in [1, 2, 5, 40, 512].repeat(100) {
         let table = any_game(&mut lcg, most);
         let [one, two] = [&table, &converted(&table)].map(|game| {
             let case = Case::on_memory(Call::Read, &game.words(), Memory::default());

@@ -4,11 +4,12 @@
 use crate::calls::{Call, Case, Outcome};
 use crate::limits::agree;
 use generator::{any_game, edge_to_edit, random, repeated, words_behind, Lcg, Table};
-use oracle::Memory;
+use oracle::{mark_bytes, Memory};
 
 /// Memory of the exact lengths, and a buffer.
 pub fn memory(n: usize, table: Vec<u16>) -> Memory {
-    let (marks, spare, classes) = (vec![9; n * n], vec![8; n * n], vec![7; n]);
+    let (marks, spare) = (vec![9; mark_bytes(n)], vec![8; mark_bytes(n)]);
+    let classes = vec![7; n];
     Memory { table, marks, spare, classes, ..Memory::default() }
 }
 
@@ -26,8 +27,8 @@ fn edited(call: Call, edge: (u32, u32), buffer: &[u16]) -> Outcome {
 
 /// An edge added to the largest table that has room for one, and one removed from it.
 pub fn at_the_limit() -> [Case; 2] {
-    let table = random(&mut Lcg::new(83), 256, 4095, 2);
-    let memory = memory(256, [table.words(), vec![5; 2]].concat());
+    let table = random(&mut Lcg::new(83), 512, 4095, 2);
+    let memory = memory(512, [table.words(), vec![5; 2]].concat());
     let case = |call, (source, target): (u16, u16)| {
         Case::of_edit(call, (source as u32, target as u32), memory.clone())
     };
@@ -151,7 +152,7 @@ fn buffers_of_each_length() {
 #[test]
 fn most_edges() {
     for (m, number) in [(4095, 0), (4096, 39)] {
-        let table = random(&mut Lcg::new(85), 256, m, 8);
+        let table = random(&mut Lcg::new(85), 512, m, 8);
         let (source, target) = absent_edge(&table);
         let buffer = [table.words(), vec![1; 4]].concat();
         let answer = edited(Call::AddEdge, (source as u32, target as u32), &buffer).answer;

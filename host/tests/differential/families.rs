@@ -41,7 +41,7 @@ fn two_rings_take_the_product_of_their_lengths_and_one() {
     for [p, q] in TWO.into_iter().chain([[40, 41], [2, 253]]) {
         takes(&rings(&[p, q]), p * q + 1);
     }
-    for [p, q] in [[63, 64], [127, 128]] {
+    for [p, q] in [[63, 64], [127, 128], [255, 256]] {
         takes_many(&rings(&[p, q]), p * q + 1);
     }
 }
@@ -69,14 +69,20 @@ fn several_rings_take_the_passes_of_each_pair() {
     }
 }
 
-/// A counter of 15 bits would take the second game's pass 1 for the last.
+/// Counters of 15, 16 and 17 bits would take the pass 1 of the second, third and fourth game for the last.
 #[test]
-fn one_pass_clears_more_marks_than_15_bits_count() {
-    for (sizes, cleared) in [(&[15; 16][..], 54_000), (&[64, 64, 96], 32_768)] {
+fn one_pass_clears_more_marks_than_17_bits_count() {
+    for (sizes, cleared) in [
+        (&[15; 16][..], 54_000),
+        (&[64, 64, 96], 32_768),
+        (&[128, 256], 65_536),
+        (&[128, 128, 192], 131_072),
+    ] {
         let table = fans(sizes);
         takes(&table, 2);
         let alike = sizes.iter().sum::<usize>().pow(2) + sizes.len();
-        let marked = order(&table).actual().memory.marks.iter().filter(|&&mark| mark == 1).count();
+        let marks = order(&table).actual().memory.marks;
+        let marked: usize = marks.iter().map(|byte| byte.count_ones() as usize).sum();
         assert_eq!(alike - marked, cleared);
     }
 }
@@ -97,9 +103,12 @@ fn all_calls_agree_on_each_family() {
 #[test]
 fn all_calls_agree_near_multiples_of_64() {
     let mut lcg = Lcg::new(92);
-    for n in [63, 64, 65, 127, 128, 129, 191, 192, 193, 255, 256] {
+    for n in [63, 64, 65, 127, 128, 129, 191, 192, 193, 255, 256, 257] {
         for priorities in [1, 2, 8] {
             all_calls_agree(&random(&mut lcg, n, 2 * n, priorities));
         }
+    }
+    for n in [320, 383, 385, 448, 511, 512] {
+        all_calls_agree(&random(&mut lcg, n, 2 * n, 8));
     }
 }

@@ -5,7 +5,8 @@ use crate::calls::{Call, Case, Outcome};
 use crate::limits::{agree, exact_memory};
 use crate::tables::games::{B, C, D};
 use generator::{any_game, rings, Lcg, Table};
-use oracle::Memory;
+use oracle::{Memory, Relation};
+use raskjomi::is_marked;
 
 /// The outcome of a call on a game and memory of the exact lengths, compared with the oracle's.
 fn outcome(call: Call, table: &Table, memory: Memory) -> Outcome {
@@ -32,8 +33,8 @@ fn worked_games() {
     assert_eq!(order.classes, [0, 1, 2, 3, 4, 0]);
     // The pairs that the order has both ways are no governed bisimulation: (0, 5) fails.
     let n = table.n();
-    let mutual = |i: usize| order.marks[i] & order.marks[i % n * n + i / n];
-    let marks: Vec<u8> = (0..n * n).map(mutual).collect();
+    let mutual = |v, w| is_marked(&order.marks, n, v, w) && is_marked(&order.marks, n, w, v);
+    let marks = Relation::of(n, n, mutual).bytes();
     let judged = outcome(Call::AcceptGoverned, &table, Memory { marks, ..Memory::default() });
     assert_eq!((judged.answer.number, judged.answer.place), (10, 5));
 }
@@ -44,8 +45,8 @@ fn with_shortened(table: &Table, order: &[u8]) -> Option<Table> {
     let (n, successors) = (table.n(), table.successors());
     let useless = |v: usize, x: usize| {
         let no_better = |y: usize| match table.owners[v] {
-            0 => order[x * n + y] == 1,
-            _ => order[y * n + x] == 1,
+            0 => is_marked(order, n, x, y),
+            _ => is_marked(order, n, y, x),
         };
         successors[v].iter().any(|&y| y != x && no_better(y))
     };
@@ -72,9 +73,10 @@ fn inside_the_order() {
         let n = table.n();
         let governed = outcome(Call::GovernedClasses, &table, exact_memory(&table)).memory;
         let order = outcome(Call::Classes, &table, exact_memory(&table)).memory;
-        for i in 0..n * n {
-            assert_eq!(governed.marks[i], governed.marks[i % n * n + i / n], "symmetric");
-            assert!(governed.marks[i] <= order.marks[i], "inside the order");
+        for (v, w) in (0..n).flat_map(|v| (0..n).map(move |w| (v, w))) {
+            let mark = is_marked(&governed.marks, n, v, w);
+            assert_eq!(mark, is_marked(&governed.marks, n, w, v), "symmetric");
+            assert!(!mark || is_marked(&order.marks, n, v, w), "inside the order");
         }
         let marks = Memory { marks: governed.marks.clone(), ..Memory::default() };
         for call in [Call::AcceptGoverned, Call::AcceptRelation] {

@@ -1,34 +1,51 @@
 //! The largest sizes, and one beyond them.
 
-use crate::calls::{Call, Case};
+use crate::calls::{Call, Case, Outcome};
 use crate::carries::{room, round};
 use crate::{edits, previews, replays};
-use generator::{chain, complete, largest_plan, opponents, random, Lcg, Table};
-use oracle::{Memory, Oracle};
+use generator::{
+    chain, complete, largest_plan, opponents, random, round_of_loops, round_ring, Lcg, Table,
+};
+use oracle::{mark_bytes, Memory, Oracle};
+use std::sync::OnceLock;
 
 /// Memory of the exact lengths.
 pub fn exact_memory(table: &Table) -> Memory {
     let n = table.n();
     Memory {
-        marks: vec![9; n * n],
-        spare: vec![8; n * n],
+        marks: vec![9; mark_bytes(n)],
+        spare: vec![8; mark_bytes(n)],
         classes: vec![7; n],
         output: vec![6; table.words().len()],
         ..Memory::default()
     }
 }
 
-/// The largest games: dense ones of 64 and 256 vertices, a chain, and the largest plan's.
+/// The largest games: dense ones of 64 and 512 vertices, one of 511, where bits of the last byte are unused, a
+/// chain, and the largest plan's.
 pub fn largest_games() -> Vec<Table> {
     let mut lcg = Lcg::new(77);
     let mut games: Vec<Table> =
-        [1, 2, 8].map(|priorities| random(&mut lcg, 256, 4096, priorities)).into();
-    games.extend([complete(64), chain(256), largest_plan(&mut lcg).0]);
+        [1, 2, 8].map(|priorities| random(&mut lcg, 512, 4096, priorities)).into();
+    games.extend([complete(64), random(&mut lcg, 511, 4096, 2), chain(512)]);
+    games.push(largest_plan(&mut lcg, 512).0);
     games
 }
 
+/// Cases at the largest sizes, each with its outcome by the oracle, which takes long and is worked out once.
+pub fn largest() -> &'static [(Case, Outcome)] {
+    static LARGEST: OnceLock<Vec<(Case, Outcome)>> = OnceLock::new();
+    LARGEST.get_or_init(|| {
+        let with_outcome = |case: Case| {
+            let outcome = case.expected(&Oracle::exact());
+            (case, outcome)
+        };
+        largest_cases().into_iter().map(with_outcome).collect()
+    })
+}
+
 /// A case for each call with a game at the largest sizes; the relation judged is the order.
-pub fn largest_cases() -> Vec<Case> {
+fn largest_cases() -> Vec<Case> {
     let mut cases = Vec::new();
     for table in largest_games() {
         let words = table.words();
@@ -42,8 +59,9 @@ pub fn largest_cases() -> Vec<Case> {
             _ => Case::on_memory(call, &words, exact_memory(&table)),
         }));
     }
-    let (table, plan) = largest_plan(&mut Lcg::new(78));
+    let (table, plan) = largest_plan(&mut Lcg::new(78), 512);
     cases.extend([0, 1].map(|player| Case::of_plan(&table.words(), player, plan.words())));
+    cases.extend(largest_carries());
     // Carried, these plans have as many links as there may be, the first also as many positions.
     for (n, positions, around) in [(4, 1024, 0..1024), (64, 64, 0..4)] {
         let table = opponents(complete(n), 0);
@@ -52,10 +70,28 @@ pub fn largest_cases() -> Vec<Case> {
             cases.push(Case::of_carrying(call, &table.words(), 0, &plan, 1, room(&table)));
         }
     }
-    cases.push(Case::of_seed([7, 256, 16, 65_535], vec![6; 8706]));
+    cases.push(Case::of_seed([7, 512, 8, 65_535], vec![6; 9218]));
     cases.extend(edits::at_the_limit());
     cases.extend(previews::at_the_limit());
     cases.push(replays::at_the_limit());
+    cases
+}
+
+/// Plans on games of 512 vertices that, carried, have as many links as there may be; the first two also as
+/// many positions.
+fn largest_carries() -> Vec<Case> {
+    let mut cases = Vec::new();
+    for (degree, round) in [(4, 8), (8, 4)] {
+        let (table, plan) = round_ring(512, degree, round, 0);
+        for call in Call::CARRYING {
+            let plan = match call {
+                Call::CarryClass => round_of_loops(round, 0..round),
+                _ => plan.clone(),
+            };
+            let (game, plan) = (table.words(), plan.words());
+            cases.push(Case::of_carrying(call, &game, 0, &plan, 511, room(&table)));
+        }
+    }
     cases
 }
 
@@ -68,8 +104,24 @@ pub fn agree(case: &Case) -> u32 {
 
 #[test]
 fn largest_sizes_agree() {
-    let numbers: Vec<u32> = largest_cases().iter().map(agree).collect();
-    assert!(numbers.contains(&0));
+    for (case, expected) in largest() {
+        assert!(case.actual() == *expected, "{:?} differs", case.call);
+    }
+    let accepted = |call: Call| {
+        let mut of_call = largest().iter().filter(|(case, _)| case.call == call);
+        of_call.any(|(_, expected)| expected.answer.number == 0)
+    };
+    assert!(Call::all().all(accepted), "each call accepts something at the largest sizes");
+}
+
+#[test]
+fn largest_carries_reach_both_limits() {
+    let sizes = largest_carries().into_iter().map(|case| {
+        let answer = case.actual().answer;
+        (answer.number, answer.positions, answer.links)
+    });
+    let largest = [(0, 4096, 16_384); 2];
+    assert_eq!(sizes.collect::<Vec<_>>(), [largest, [(0, 2048, 16_384); 2]].concat());
 }
 
 #[test]
@@ -78,7 +130,9 @@ fn one_beyond_a_limit_is_refused() {
         let edges = (0..m).map(|i| ((i % n) as u16, (i / n) as u16)).collect();
         Table { priorities: vec![0; n], owners: vec![1; n], edges }
     };
-    for (n, m, number) in [(256, 4096, 0), (257, 4096, 2), (256, 4097, 3), (64, 4096, 0)] {
+    for (n, m, number) in
+        [(512, 4096, 0), (513, 4096, 2), (512, 4097, 3), (64, 4096, 0), (257, 4096, 0)]
+    {
         let table = game(n, m);
         for call in Call::ON_MEMORY {
             let mut memory = exact_memory(&table);
@@ -91,7 +145,6 @@ fn one_beyond_a_limit_is_refused() {
 
 #[test]
 fn one_byte_or_word_short_is_refused() {
-    let table = chain(256);
     type Shorten = fn(&mut Memory);
     let shortened: [(u32, Shorten); 4] = [
         (21, |memory| memory.marks.truncate(memory.marks.len() - 1)),
@@ -99,11 +152,23 @@ fn one_byte_or_word_short_is_refused() {
         (23, |memory| memory.classes.truncate(memory.classes.len() - 1)),
         (24, |memory| memory.output.truncate(memory.output.len() - 1)),
     ];
-    for (number, shorten) in shortened {
-        let mut memory = exact_memory(&table);
-        shorten(&mut memory);
-        let case = Case::on_memory(Call::Reduce, &table.words(), memory);
-        assert_eq!(agree(&case), number);
+    for table in [chain(20), random(&mut Lcg::new(79), 512, 600, 3)] {
+        for (number, shorten) in shortened {
+            let mut memory = exact_memory(&table);
+            shorten(&mut memory);
+            let case = Case::on_memory(Call::Reduce, &table.words(), memory);
+            assert_eq!(agree(&case), number);
+        }
+    }
+}
+
+/// What is to be lent by the safe functions is what the oracle asks for.
+#[test]
+fn bytes_to_lend() {
+    for vertices in 0..=600 {
+        let size = raskjomi::Size { vertices, edges: 0, different: 0 };
+        assert_eq!(size.marks(), mark_bytes(vertices));
+        assert_eq!(raskjomi::mark_bytes(vertices), mark_bytes(vertices));
     }
 }
 

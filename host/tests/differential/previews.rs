@@ -5,7 +5,7 @@ use crate::calls::{Call, Case, Outcome};
 use crate::edits::{absent_edge, memory};
 use crate::limits::agree;
 use generator::{any_game, edge_to_edit, old_bytes, old_words, random, words_behind, Lcg, Table};
-use oracle::Memory;
+use oracle::{mark_bytes, Memory};
 
 /// The edit that a preview is of.
 fn edit_of(call: Call) -> Call {
@@ -25,9 +25,9 @@ fn copied(table: &[u16], memory: &Memory) -> Memory {
 
 /// Previews of the largest table that has room for an edge, with a dirty second set.
 pub fn at_the_limit() -> [Case; 2] {
-    let table = random(&mut Lcg::new(86), 256, 4095, 2);
+    let table = random(&mut Lcg::new(86), 512, 4095, 2);
     let case = |call, (source, target): (u16, u16)| {
-        let second = memory(256, vec![5; table.words().len() + 2]);
+        let second = memory(512, vec![5; table.words().len() + 2]);
         Case::of_preview(call, (source as u32, target as u32), &table.words(), second)
     };
     [case(Call::PreviewAdd, absent_edge(&table)), case(Call::PreviewRemove, table.edges[7])]
@@ -48,8 +48,8 @@ fn a_preview_is_the_edit_on_a_copy() {
         let second = [old_words(&mut lcg, 1), words_behind(&mut lcg), words.clone()].concat();
         let second = Memory {
             table: second,
-            marks: old_bytes(&mut lcg, n * n),
-            spare: old_bytes(&mut lcg, n * n),
+            marks: old_bytes(&mut lcg, mark_bytes(n)),
+            spare: old_bytes(&mut lcg, mark_bytes(n)),
             classes: old_words(&mut lcg, n),
             ..Memory::default()
         };
@@ -114,9 +114,9 @@ fn room_is_the_second_tables() {
 #[test]
 fn most_edges() {
     for (m, number) in [(4095, 0), (4096, 39)] {
-        let table = random(&mut Lcg::new(89), 256, m, 8);
+        let table = random(&mut Lcg::new(89), 512, m, 8);
         let (source, target) = absent_edge(&table);
-        let second = memory(256, vec![1; table.words().len() + 4]);
+        let second = memory(512, vec![1; table.words().len() + 4]);
         let edge = (source as u32, target as u32);
         let case = Case::of_preview(Call::PreviewAdd, edge, &table.words(), second);
         assert_eq!(agree(&case), number, "m {m}");

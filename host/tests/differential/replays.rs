@@ -2,15 +2,10 @@
 //! last entry, in buffers of several lengths, and at the limits.
 
 use crate::calls::{Call, Case, Outcome};
+use crate::edits::memory;
 use crate::limits::agree;
 use generator::{any_game, damaged_trace, random, repeated, trace, trace_words, Lcg, Table};
 use oracle::Memory;
-
-/// Memory of the exact lengths, and a buffer.
-fn memory(n: usize, table: Vec<u16>) -> Memory {
-    let (marks, spare, classes) = (vec![9; n * n], vec![8; n * n], vec![7; n]);
-    Memory { table, marks, spare, classes, ..Memory::default() }
-}
 
 /// The words of the table that begins a buffer.
 fn table_in(buffer: &[u16]) -> &[u16] {
@@ -177,8 +172,8 @@ fn checks_in_sequence() {
     let full = memory(3, doubles().words());
     for (number, short) in [
         (4, Memory { table: doubles().words()[..13].to_vec(), ..full.clone() }),
-        (21, Memory { marks: vec![9; 8], spare: vec![], classes: vec![], ..full.clone() }),
-        (22, Memory { spare: vec![9; 8], classes: vec![], ..full.clone() }),
+        (21, Memory { marks: vec![9; 1], spare: vec![], classes: vec![], ..full.clone() }),
+        (22, Memory { spare: vec![9; 1], classes: vec![], ..full.clone() }),
         (23, Memory { classes: vec![9; 2], ..full.clone() }),
         (40, full.clone()),
     ] {
@@ -192,8 +187,8 @@ fn checks_in_sequence() {
 
 /// The largest replay: as many entries as there may be, on a full table.
 pub fn at_the_limit() -> Case {
-    let table = random(&mut Lcg::new(93), 256, 4096, 2);
-    Case::of_replay(trace_words(&turns(&table)), memory(256, table.words()))
+    let table = random(&mut Lcg::new(93), 512, 4096, 2);
+    Case::of_replay(trace_words(&turns(&table)), memory(512, table.words()))
 }
 
 /// 4,096 entries on a table: an edge goes and comes back, and so the next.
@@ -214,7 +209,7 @@ fn most_entries_on_a_full_table() {
     let Outcome { answer, .. } = case.actual();
     assert_eq!((answer.edges, answer.entries), (4096, 4096));
     let table = Table::from_words(table_in(&case.memory.table));
-    let absent = (0..256).map(|w| (0, w)).find(|pair| !table.edges.contains(pair));
+    let absent = (0..512).map(|w| (0, w)).find(|pair| !table.edges.contains(pair));
     let Outcome { answer, .. } =
         replayed(&[absent.expect("a vertex")], &[case.memory.table, vec![1; 4]].concat());
     assert_eq!((answer.number, answer.place, answer.entries), (39, 4096, 0));

@@ -4,10 +4,10 @@ use crate::calls::{Call, Case};
 use crate::carries::{of_both, plan_words, room, round, Origin};
 use generator::{
     any_game, bent_plan, branching, crowded, damaged, damaged_often, damaged_trace, edge_to_edit,
-    old_bytes, old_words, relation, seed_numbers, solve, strategy_plan, trace, trace_words,
-    unfolded, words_behind, Lcg, Plan, Solution, Table, REFUSALS,
+    old_bytes, old_words, relation, seed_numbers, set_unused_bits, solve, strategy_plan, trace,
+    trace_words, unfolded, words_behind, Lcg, Plan, Solution, Table, REFUSALS,
 };
-use oracle::{Memory, Oracle};
+use oracle::{mark_bytes, Memory, Oracle, Relation};
 
 /// Among so many games there is one for a large plan.
 const CROWDS: usize = 50;
@@ -34,21 +34,27 @@ fn damaged_table(lcg: &mut Lcg, table: &Table) -> Vec<u16> {
 fn memory(lcg: &mut Lcg, table: &Table) -> Memory {
     let n = table.n();
     Memory {
-        marks: old_bytes(lcg, n * n),
-        spare: old_bytes(lcg, n * n),
+        marks: old_bytes(lcg, mark_bytes(n)),
+        spare: old_bytes(lcg, mark_bytes(n)),
         classes: old_words(lcg, n),
         output: old_words(lcg, 2 + 2 * n + 2 * table.m()),
         ..Memory::default()
     }
 }
 
-/// Relations made from the order, and from the governed one, with random bytes beyond their end.
+/// Relations made from the order, and from the governed one; some have unused bits that are set, and some
+/// random bytes beyond their end.
 pub fn foreign_relations(lcg: &mut Lcg, table: &Table) -> Vec<Case> {
     let game = Oracle::exact().game(&table.words()).expect("a whole table");
-    let order = Oracle::exact().order_of(&game).0.bytes();
-    let governed = Oracle::exact().governed_of(&game).0.bytes();
-    let mut relation_case = |call, largest: &[u8]| {
-        let mut marks = relation(lcg, largest, table.n());
+    let (order, governed) =
+        (Oracle::exact().order_of(&game).0, Oracle::exact().governed_of(&game).0);
+    let n = table.n();
+    let mut relation_case = |call, largest: &Relation| {
+        let cells = relation(lcg, largest.cells(), n);
+        let mut marks = Relation::of(n, n, |v, w| cells[v * n + w]).bytes();
+        if lcg.once_in(4) {
+            set_unused_bits(lcg, &mut marks, n);
+        }
         if lcg.once_in(2) {
             marks.extend(old_bytes(lcg, 5));
         }
@@ -180,7 +186,7 @@ pub fn case_of_replay(lcg: &mut Lcg, table: &Table) -> Case {
 /// The drawing of a game of mostly at most `most` vertices into an output of several lengths.
 pub fn case_of_seed(lcg: &mut Lcg, most: usize) -> Case {
     let numbers = seed_numbers(lcg, most);
-    let [n, degree] = [numbers[1], numbers[2]].map(|number| number.min(256) as usize);
+    let [n, degree] = [numbers[1], numbers[2]].map(|number| number.min(512) as usize);
     Case::of_seed(numbers, old_words(lcg, 2 + 2 * n + 2 * n * degree.min(16)))
 }
 

@@ -20,7 +20,9 @@ fn table(numbers: [u32; 4]) -> Vec<u16> {
 /// Numbers within the limits.
 fn fit(lcg: &mut Lcg, most: usize) -> [u32; 4] {
     let within = |numbers: &[u32; 4]| {
-        numbers[1..].iter().zip(SEED_LIMITS).all(|(number, limit)| (1..=limit).contains(number))
+        let mut limits = numbers[1..].iter().zip(SEED_LIMITS);
+        limits.all(|(number, limit)| (1..=limit).contains(number))
+            && numbers[1] * numbers[2] <= 4096
     };
     std::iter::repeat_with(|| seed_numbers(lcg, most)).find(within).expect("most are")
 }
@@ -28,13 +30,15 @@ fn fit(lcg: &mut Lcg, most: usize) -> [u32; 4] {
 #[test]
 fn limits_of_each_argument() {
     for seed in [0, 1, u32::MAX - 1, u32::MAX] {
-        for others in [[1, 1, 1], [2, 3, 4], SEED_LIMITS] {
+        for others in [[1, 1, 1], [2, 3, 4], [512, 8, 65_535], [256, 16, 65_535], SEED_LIMITS] {
             for (which, limit) in SEED_LIMITS.into_iter().enumerate() {
                 for number in [0, 1, 2, limit - 1, limit, limit + 1, 65_536, u32::MAX] {
                     let mut numbers = [seed, others[0], others[1], others[2]];
                     numbers[1 + which] = number;
-                    let expected = if (1..=limit).contains(&number) { 0 } else { 31 };
-                    let case = Case::of_seed(numbers, vec![6; 8706]);
+                    let edges = u64::from(numbers[1]) * u64::from(numbers[2]);
+                    let fits = (1..=limit).contains(&number) && edges <= 4096;
+                    let expected = if fits { 0 } else { 31 };
+                    let case = Case::of_seed(numbers, vec![6; 9218]);
                     assert_eq!(agree(&case), expected, "{numbers:?}");
                 }
             }
@@ -44,17 +48,24 @@ fn limits_of_each_argument() {
 
 #[test]
 fn most_edges() {
-    let numbers = [5, 256, 16, 2];
-    let answer = Case::of_seed(numbers, vec![6; 8706]).actual().answer;
-    assert_eq!(answer, Answer { vertices: 256, edges: 4096, ..Answer::default() });
-    let read = Case::on_memory(Call::Read, &table(numbers), Memory::default()).actual().answer;
-    assert_eq!((read.number, read.edges), (0, 4096));
+    for (vertices, degree) in [(256, 16), (512, 8)] {
+        let numbers = [5, vertices, degree, 2];
+        let answer = Case::of_seed(numbers, vec![6; 9218]).actual().answer;
+        assert_eq!(answer, Answer { vertices, edges: 4096, ..Answer::default() });
+        let read = Case::on_memory(Call::Read, &table(numbers), Memory::default()).actual().answer;
+        assert_eq!((read.number, read.edges), (0, 4096));
+    }
+    // Each number is within its limit, and their product above 4,096.
+    for (vertices, degree) in [(512, 9), (256, 17), (257, 16), (456, 9), (512, 16), (342, 12)] {
+        let case = Case::of_seed([5, vertices, degree, 2], vec![6; 20_000]);
+        assert_eq!(agree(&case), 31, "{vertices} × {degree}");
+    }
 }
 
 #[test]
 fn outputs_of_any_length() {
     let mut lcg = Lcg::new(71);
-    for most in [1, 3, 20, 256].repeat(50) {
+    for most in [1, 3, 20, 512].repeat(50) {
         let numbers = fit(&mut lcg, most);
         let needed = words(numbers);
         let table = table(numbers);
@@ -74,7 +85,9 @@ fn outputs_of_any_length() {
 
 #[test]
 fn ranges_are_judged_before_the_length() {
-    for numbers in [[1, 0, 1, 1], [1, 257, 1, 1], [1, 1, 17, 1], [1, 1, 1, 0], [1; 4]] {
+    for numbers in
+        [[1, 0, 1, 1], [1, 513, 1, 1], [1, 512, 9, 1], [1, 1, 17, 1], [1, 1, 1, 0], [1; 4]]
+    {
         let case = Case::of_seed(numbers, vec![]);
         assert_eq!(agree(&case), if numbers == [1; 4] { 32 } else { 31 });
     }
@@ -84,7 +97,7 @@ fn ranges_are_judged_before_the_length() {
 fn the_reader_accepts_every_table() {
     let mut lcg = Lcg::new(72);
     let mut repeats = 0;
-    for most in [1, 2, 5, 40, 256].repeat(300) {
+    for most in [1, 2, 5, 40, 512].repeat(300) {
         let numbers = fit(&mut lcg, most);
         let words = table(numbers);
         let case = Case::on_memory(Call::Read, &words, Memory::default());

@@ -8,7 +8,7 @@ use crate::calls::{Call, Case, Outcome};
 use crate::limits::{exact_memory, largest_games};
 use games::TABLES;
 use generator::{any_game, Lcg, Table};
-use oracle::Memory;
+use oracle::{mark_bytes, Memory};
 
 /// The calls that write a table.
 const WRITING: [Call; 2] = [Call::Quotient, Call::Reduce];
@@ -16,7 +16,7 @@ const WRITING: [Call; 2] = [Call::Quotient, Call::Reduce];
 /// Games of each size, and the largest.
 pub fn games(lcg: &mut Lcg) -> Vec<Table> {
     let mut games = largest_games();
-    for (most, count) in [(8, 1000), (40, 300), (256, 60)] {
+    for (most, count) in [(8, 1000), (40, 300), (256, 50), (512, 8)] {
         games.extend((0..count).map(|_| any_game(lcg, most)));
     }
     games
@@ -27,8 +27,8 @@ pub fn written(call: Call, table: &Table, memory: Memory) -> Outcome {
     let Outcome { answer, mut memory } = Case::on_memory(call, &table.words(), memory).actual();
     assert_eq!(answer.number, 0, "{call:?} {table:?}");
     let n = table.n();
-    memory.marks.truncate(n * n);
-    memory.spare.truncate(n * n);
+    memory.marks.truncate(mark_bytes(n));
+    memory.spare.truncate(mark_bytes(n));
     memory.classes.truncate(n);
     memory.output.truncate(2 + 2 * answer.vertices as usize + 2 * answer.edges as usize);
     Outcome { answer, memory }
@@ -48,8 +48,8 @@ fn any_memory(lcg: &mut Lcg, table: &Table) -> Memory {
     };
     let bytes = |words: Vec<u16>| words.iter().map(|&word| word as u8).collect();
     Memory {
-        marks: bytes(old(n * n)),
-        spare: bytes(old(n * n)),
+        marks: bytes(old(mark_bytes(n))),
+        spare: bytes(old(mark_bytes(n))),
         classes: old(n),
         output: old(table.words().len()),
         ..Memory::default()

@@ -1,6 +1,6 @@
 //! All calls at once on threads, and all calls with the least stack.
 
-use crate::limits::largest_cases;
+use crate::limits::largest;
 use oracle::Oracle;
 use std::sync::{Arc, Barrier};
 use std::thread;
@@ -10,17 +10,16 @@ const DEFAULT: usize = 2 * 1024 * 1024;
 /// The stack that docs/TRUST.md asks of a host's thread.
 const LEAST: usize = 256 * 1024;
 
-/// Threads with this stack make all calls, each from another one on.
+/// Threads with this stack make all calls, at 512 vertices and with the largest plans among them, each from
+/// another one on.
 fn agree_on(threads: usize, stack: usize) {
-    let cases = largest_cases().into_iter();
-    let cases = cases.map(|case| (case.expected(&Oracle::exact()), case)).collect::<Vec<_>>();
-    let (cases, start) = (Arc::new(cases), Arc::new(Barrier::new(threads)));
+    let (cases, start) = (largest(), Arc::new(Barrier::new(threads)));
     let spawn = |first: usize| {
-        let (cases, start) = (cases.clone(), start.clone());
+        let start = start.clone();
         let work = move || {
             start.wait();
             for i in 0..cases.len() {
-                let (expected, case) = &cases[(first + i) % cases.len()];
+                let (case, expected) = &cases[(first + i) % cases.len()];
                 assert!(case.actual() == *expected, "{:?} differs on a thread", case.call);
                 assert_eq!(raskjomi::exports::kind(i as u32), Oracle::exact().kind(i as u32));
             }

@@ -23,7 +23,7 @@ fn plan_shows_winner(table: &Table, solution: &Solution, vertex: usize) {
 #[test]
 fn winners_are_those_of_the_reduced_game() {
     let mut lcg = Lcg::new(42);
-    for (most, games) in [(8, 1500), (30, 500), (100, 60), (256, 40)] {
+    for (most, games) in [(8, 1500), (30, 500), (100, 60), (256, 30), (512, 8)] {
         for _ in 0..games {
             let table = any_game(&mut lcg, most);
             let (small, classes) = reduced(&table);

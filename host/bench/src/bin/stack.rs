@@ -105,7 +105,7 @@ fn game_to_edit() -> (Table, u32) {
 /// Even's plan of 4,096 positions and 16,384 links, and a game of 4,096 edges in which it wins: where
 /// all vertices are Even's, edges that no link follows are harmless.
 fn plan() -> (Vec<u16>, Vec<u16>) {
-    let (ring, plan) = largest_plan(&mut Lcg::new(1));
+    let (ring, plan) = largest_plan(&mut Lcg::new(1), 256);
     let mut game = forced_ring(256, 16);
     game.priorities = ring.priorities;
     (game.words(), plan.words())

@@ -12,7 +12,7 @@ pub struct Game {
     pub size: Size,
 }
 
-/// A relation's marks and its passes.
+/// A relation's marks, eight in a byte, and its passes.
 pub struct Order {
     pub marks: Vec<u8>,
     pub passes: u32,
@@ -55,6 +55,11 @@ impl Game {
     /// The game's table.
     pub fn table(&self) -> Table<'_> {
         Table::new(&self.input.numbers)
+    }
+
+    /// The number of pairs of vertices.
+    pub fn pairs(&self) -> usize {
+        self.size.vertices.pow(2)
     }
 
     /// The order.

@@ -101,7 +101,7 @@ fn marks(
     let game = Game::load(arguments.file(file))?;
     let (order, table) = (write(&game)?, game.table());
     Ok(match form {
-        Form::Text => text::marks(title, &order.marks, table.n(), order.passes).into(),
+        Form::Text => text::marks(title, &order, table.n()).into(),
         Form::Words => order.marks,
         Form::Dot => picture::order(&table, &order.marks).into(),
     })
@@ -153,13 +153,20 @@ fn table(
     })
 }
 
-/// Both inputs of a check, of which one at most is standard input; the game is argument number `file`.
-fn two_inputs(arguments: &Arguments, file: usize, unit: Unit) -> Result<(Input, Input), Failure> {
+/// The names of both inputs of a check, of which one at most is standard input; the game is argument number
+/// `file`.
+fn two_files(arguments: &Arguments, file: usize) -> Result<(&str, &str), Failure> {
     let (game, other) = (arguments.file(file), arguments.file(file + 1));
     if game == "-" && other == "-" {
         return Err(Failure::usage("both inputs are standard input; name a file for one of them"));
     }
-    Ok((Input::read(game, Unit::Word)?, Input::read(other, unit)?))
+    Ok((game, other))
+}
+
+/// A game and a plan.
+fn two_inputs(arguments: &Arguments) -> Result<(Input, Input), Failure> {
+    let (game, plan) = two_files(arguments, 0)?;
+    Ok((Input::read(game, Unit::Word)?, Input::read(plan, Unit::Word)?))
 }
 
 /// `check-relation`.
@@ -167,19 +174,17 @@ pub fn check_relation(arguments: &Arguments) -> Written {
     judged(arguments, 0, raskjomi::accept_relation)
 }
 
-/// A relation judged. Like the library, it judges the first n × n marks alone.
+/// A relation judged. Like the library, it judges the marks of the game's pairs alone.
 fn judged(
     arguments: &Arguments,
     file: usize,
     accept: fn(&[u16], &[u8]) -> Result<(), Refusal>,
 ) -> Written {
-    let (game, relation) = two_inputs(arguments, file, Unit::Byte)?;
-    let marks: Vec<u8> = relation.numbers.iter().map(|&mark| mark as u8).collect();
-    let verdict = accept(&game.numbers, &marks);
-    if !verdict.is_err_and(|refusal| refusal.kind() == Kind::Game) {
-        tell_surplus(&relation, Table::new(&game.numbers).n().pow(2));
-    }
-    match verdict {
+    let (game, relation) = two_files(arguments, file)?;
+    let game = Game::load(game).map_err(Failure::with_verdict)?;
+    let relation = Input::read(relation, Unit::Mark(game.size.marks()))?;
+    tell_surplus(&relation, &game);
+    match accept(&game.input.numbers, &relation.packed(game.pairs())) {
         Ok(()) => Ok("accepted\n".into()),
         Err(refusal) => Err(relation_refused(refusal, &game, &relation).with_verdict()),
     }
@@ -203,19 +208,23 @@ pub fn governed(arguments: &Arguments) -> Written {
     }
 }
 
-/// A relation with more marks than pairs may belong to another game.
-fn tell_surplus(relation: &Input, pairs: usize) {
+/// A relation with more marks than the game has pairs may belong to another one.
+fn tell_surplus(relation: &Input, game: &Game) {
+    let (needed, what) = match relation.is_text() {
+        true => (game.pairs(), "marks"),
+        false => (game.size.marks(), "bytes"),
+    };
     let count = relation.numbers.len();
-    if count > pairs {
-        let place = relation.at(pairs, "");
-        tell(&format!("{place}: only the first {pairs} of {count} marks are judged"));
+    if count > needed {
+        let place = relation.at(needed, "");
+        tell(&format!("{place}: only the first {needed} of {count} {what} are judged"));
     }
 }
 
 /// `check-plan`.
 pub fn check_plan(arguments: &Arguments) -> Written {
     let player = arguments.player()?;
-    let (game, plan) = two_inputs(arguments, 0, Unit::Word)?;
+    let (game, plan) = two_inputs(arguments)?;
     match raskjomi::accept_plan(&game.numbers, player, &plan.numbers) {
         Ok(()) => Ok("accepted\n".into()),
         Err(refusal) => Err(plan_refused(refusal, &game, &plan).with_verdict()),
@@ -226,7 +235,7 @@ pub fn check_plan(arguments: &Arguments) -> Written {
 pub fn carry(arguments: &Arguments) -> Written {
     let (player, vertex) = (arguments.player()?, vertex_to(arguments)?);
     let as_words = as_words(arguments, "carry", "")?;
-    let (game, plan) = two_inputs(arguments, 0, Unit::Word)?;
+    let (game, plan) = two_inputs(arguments)?;
     let game = Game::of(game)?;
     let class = arguments.has("--class");
     let write = if class { Game::carry_class } else { Game::carry };
@@ -331,7 +340,7 @@ fn told(edits: &[Edit]) -> String {
 }
 
 /// The words of the longest table.
-const MOST_WORDS: usize = 8_706;
+const MOST_WORDS: usize = 9_218;
 
 /// `seed`.
 pub fn seed(arguments: &Arguments) -> Written {

@@ -3,6 +3,7 @@
 use crate::analysis::members;
 use crate::table::Table;
 use crate::text::listed;
+use raskjomi::is_marked;
 use std::fmt::Write;
 
 /// A directed graph from its lines.
@@ -53,7 +54,8 @@ pub fn merged(name: &str, table: &Table, classes: &[u16]) -> String {
 pub fn order(table: &Table, marks: &[u8]) -> String {
     let n = table.n();
     let mut lines: Vec<String> = (0..n).map(|v| node(table, v, &v.to_string())).collect();
-    let pairs = (0..n * n).filter(|&i| marks[i] == 1 && i / n != i % n);
-    lines.extend(pairs.map(|i| format!("{} -> {};", i / n, i % n)));
+    let pairs = (0..n).flat_map(|v| (0..n).map(move |w| (v, w)));
+    let below = pairs.filter(|&(v, w)| v != w && is_marked(marks, n, v, w));
+    lines.extend(below.map(|(v, w)| format!("{v} -> {w};")));
     digraph("order", &lines)
 }

@@ -24,7 +24,7 @@ pub struct Command {
 }
 
 /// The refusal numbers that `explain` knows.
-pub const NUMBERS: &str = "1 to 16, 21 to 24 and 31 to 40";
+pub const NUMBERS: &str = "1 to 16, 21 to 24 and 31 to 41";
 
 /// What `seed` takes, in the sequence of its usage.
 pub const SEED_NUMBERS: [&str; 4] = ["SEED", "VERTICES", "DEGREE", "PRIORITIES"];
@@ -36,7 +36,7 @@ const AS: &[Opt] = &[Opt { name: "--as", value: Some("text, words or dot") }];
 
 /// What a newcomer has to know of every game.
 const LIMITS: &str =
-    "A game has at most 256 vertices and 4,096 edges. The lowest priority seen for ever decides, and \
+    "A game has at most 512 vertices and 4,096 edges. The lowest priority seen for ever decides, and \
      even favours Even; a game of a tool that says the highest goes through `convert` first.";
 
 /// How games are given, for every command that takes one.
@@ -79,8 +79,10 @@ pub const COMMANDS: [Command; 15] = [
         usage: "order [GAME] [--as text|words|dot]",
         summary: "the direct simulation order",
         details:
-            "Text: a row of marks for each vertex. Words: the marks as bytes. Dot: an arrow from \
-                  each vertex to those that it is below.",
+            "Text: a row of marks for each vertex, 0 or 1. Words: the same marks eight in a byte, n × n / 8 \
+                  bytes, rounded up; mark i = v × n + w is bit i mod 8 of byte i div 8, where bit 0 \
+                  is the lowest, and unused bits are 0. Dot: an arrow from each vertex to those that \
+                  it is below.",
         example: "./raskjomi order games/c.txt",
         files: 0..=1,
         options: AS,
@@ -123,8 +125,10 @@ pub const COMMANDS: [Command; 15] = [
         usage: "check-relation GAME RELATION",
         summary: "whether a relation is a direct simulation",
         details:
-            "The relation is given as n × n marks in rows, 1 for a pair that is in it, else 0: \
-                  bytes, or decimal text. The output of `order` is one. Marks beyond are ignored.",
+            "The relation is given as n × n marks in rows, 1 for a pair that is in it, else 0: as text, \
+                  0 and 1 between blanks; or in binary, eight marks in a byte, as `order --as words` \
+                  writes them. An input of exactly the n × n / 8 bytes, rounded up, that binary needs \
+                  is binary. The output of `order` is a relation. Marks beyond are ignored.",
         example: "./raskjomi order games/c.txt | ./raskjomi check-relation games/c.txt -",
         files: 2..=2,
         options: &[],
@@ -229,7 +233,7 @@ pub const COMMANDS: [Command; 15] = [
         usage: "explain NUMBER",
         summary: "what a refusal number means, what its place counts, and what to do",
         details:
-            "A refused input gets one of the numbers 1 to 16, 21 to 24 and 31 to 40; 7 no longer occurs.",
+            "A refused input gets one of the numbers 1 to 16, 21 to 24 and 31 to 41; 7 and 9 no longer occur.",
         example: "./raskjomi explain 8",
         files: 1..=1,
         options: &[],
@@ -240,8 +244,9 @@ pub const COMMANDS: [Command; 15] = [
         usage: "seed SEED VERTICES DEGREE PRIORITIES [--as text|words]",
         summary: "a game drawn by a seed, the same on every machine",
         details:
-            "SEED is any number below 4,294,967,296. There are VERTICES vertices, 1 to 256, with \
-                  DEGREE edges out of each, 1 to 16, and priorities below PRIORITIES, 1 to 65,535. \
+            "SEED is any number below 4,294,967,296. There are VERTICES vertices, 1 to 512, with \
+                  DEGREE edges out of each, 1 to 16, at most 4,096 in all, and priorities below \
+                  PRIORITIES, 1 to 65,535. \
                   Owners and targets are drawn, too; equal edges count as one. Text and words are \
                   game tables, which every command reads.",
         example: "./raskjomi seed 1 8 2 4 --as words | ./raskjomi reduce",

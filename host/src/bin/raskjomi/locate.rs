@@ -25,19 +25,19 @@ pub fn game_refused(refusal: Refusal, game: &Input) -> Failure {
     tell(refusal, game.at(index, &detail))
 }
 
-/// A refusal of a relation, or of the game itself.
-pub fn relation_refused(refusal: Refusal, game: &Input, relation: &Input) -> Failure {
-    let place = refusal.place;
-    let detail = match refusal.number {
-        9 => format!("mark {}", relation.numbers[place]),
-        10 => {
-            let n = game.numbers[0] as usize;
-            format!("pair {}, {}", place / n, place % n)
-        }
-        21 => format!("{place} marks are needed"),
-        _ => return game_refused(refusal, game),
+/// A refusal of a relation on a game that is accepted.
+pub fn relation_refused(refusal: Refusal, game: &Game, relation: &Input) -> Failure {
+    let (place, n, text) = (refusal.place, game.size.vertices, relation.is_text());
+    let pair = format!("pair {}, {}", place / n, place % n);
+    let (index, detail) = match refusal.number {
+        10 if text => (place, pair),
+        10 => (place / 8, format!("{pair}, bit {} from 0", place % 8)),
+        21 if text => (relation.numbers.len(), format!("{} marks are needed", game.pairs())),
+        21 => (relation.numbers.len(), format!("{place} bytes are needed")),
+        41 => (place, format!("its bits from {} on belong to no pair", game.pairs() % 8)),
+        _ => return game_refused(refusal, &game.input),
     };
-    tell(refusal, relation.at(place, &detail))
+    tell(refusal, relation.at(index, &detail))
 }
 
 /// A refusal of a plan, or of the game itself.

@@ -1,7 +1,8 @@
 //! Outputs as decimal text, which the commands read back, and as bytes.
 
-use crate::analysis::members;
+use crate::analysis::{members, Order};
 use crate::table::Table;
+use raskjomi::is_marked;
 use std::fmt::{Display, Write};
 
 /// Numbers in a line.
@@ -62,8 +63,10 @@ pub fn plan(sentence: &str, words: &[u16]) -> String {
 }
 
 /// The marks, a row for each vertex.
-pub fn marks(title: &str, marks: &[u8], n: usize, passes: u32) -> String {
-    format!("# {title}; passes {passes}\n") + &lines(marks, n)
+pub fn marks(title: &str, Order { marks, passes }: &Order, n: usize) -> String {
+    let mark = |i: usize| is_marked(marks, n, i / n, i % n) as u8;
+    let marks: Vec<u8> = (0..n * n).map(mark).collect();
+    format!("# {title}; passes {passes}\n") + &lines(&marks, n)
 }
 
 /// What a mark says: in the order, and in the largest governed bisimulation.
