@@ -3,6 +3,7 @@
 
 use crate::{baseline, Figures};
 use raskjomi::exports::{self, RaskjomiAnswer};
+use raskjomi::mark_bytes;
 
 /// A call that edits a table.
 type Edit = fn(&mut [u16], u32, u32, &mut [u8], &mut [u8], &mut [u16]) -> RaskjomiAnswer;
@@ -33,7 +34,7 @@ struct Memory {
 impl Memory {
     fn for_game(game: &[u16]) -> Memory {
         let n = game[0] as usize;
-        let (table, marks) = ([game, &[7; 2]].concat(), vec![7; n * n]);
+        let (table, marks) = ([game, &[7; 2]].concat(), vec![7; mark_bytes(n)]);
         Memory { table, spare: marks.clone(), marks, classes: vec![7; n] }
     }
 

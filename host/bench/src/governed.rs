@@ -3,6 +3,7 @@
 use crate::rows::{Row, Work};
 use crate::{baseline, measure, Sides};
 use raskjomi::exports::{self, RaskjomiAnswer};
+use raskjomi::mark_bytes;
 use std::time::Duration;
 
 /// A call that writes a relation and its classes.
@@ -21,7 +22,7 @@ struct Memory {
 impl Memory {
     fn for_game(game: &[u16]) -> Memory {
         let n = game[0] as usize;
-        let marks = vec![7; n * n];
+        let marks = vec![7; mark_bytes(n)];
         Memory { spare: marks.clone(), marks, classes: vec![7; n] }
     }
 

@@ -1,17 +1,19 @@
 //! The library beside a baseline: safe Rust of the same algorithms, in one run, on buffers of the same
-//! lengths, which neither clears first. The order stands beside plain passes, too.
+//! lengths, which neither clears first. Up to 256 vertices the order stands beside plain passes, too.
 #![forbid(unsafe_code)]
 
 mod baseline;
 mod edits;
 mod governed;
 mod measure;
+mod packing;
 mod rows;
 
 use measure::First;
 use raskjomi::exports::{self, RaskjomiAnswer};
 use rows::{Row, Work, WATCHED};
 use std::array::from_fn;
+use std::collections::BTreeMap;
 use std::time::Duration;
 
 /// The memory that a side works in.
@@ -48,7 +50,7 @@ type CarryClass = fn(
 impl Memory {
     fn for_game(game: &[u16]) -> Memory {
         let n = game[0] as usize;
-        let (marks, classes) = (vec![7; n * n], vec![7; n]);
+        let (marks, classes) = (vec![7; raskjomi::mark_bytes(n)], vec![7; n]);
         let (output, plan) = (vec![7; game.len()], vec![7; raskjomi::MOST_PLAN_WORDS]);
         Memory { spare: marks.clone(), marks, classes, output, plan }
     }
@@ -134,6 +136,10 @@ fn reduce_figures(game: &[u16]) -> Figures {
         LIBRARY => RaskjomiAnswer { passes, ..memory.reduce(side, game) },
         _ => memory.reduce(side, game),
     };
+    if game[0] as usize > baseline::MOST_BY_PASSES {
+        let (figures, _) = figures(Memory::for_game(game), call);
+        return Figures { passes: Some(passes), ..figures };
+    }
     let Sides { times: [library, baseline, plain], stack, .. } =
         Sides::of(Memory::for_game(game), call);
     Figures { passes: Some(passes), library, plain: Some(plain), baseline, stack }
@@ -176,8 +182,15 @@ fn line(cells: [&str; 10]) -> String {
     )
 }
 
-/// Measures a row and prints its line; the ratios to the baseline and to plain passes.
-fn show(Row { name, game, work }: &Row) -> (f64, Option<f64>) {
+/// What is kept of a row that is shown: the library's time, and its ratios to the baseline and to plain passes.
+struct Shown {
+    library: Duration,
+    ratio: f64,
+    to_plain: Option<f64>,
+}
+
+/// Measures a row and prints its line.
+fn show(Row { name, game, work, .. }: &Row) -> Shown {
     let Figures { passes, library, plain, baseline, stack } = match work {
         Work::Reduce => reduce_figures(game),
         Work::AcceptPlan(plan) => plan_figures(game, plan),
@@ -212,28 +225,49 @@ fn show(Row { name, game, work }: &Row) -> (f64, Option<f64>) {
         shown(stack.map(|size| size.to_string())),
     ];
     println!("{}", line(cells.each_ref().map(|cell| cell.as_str())));
-    (ratio, to_plain)
+    Shown { library, ratio, to_plain }
+}
+
+/// A line for each family that has a row at 256 and one at 512 vertices, and the largest growth.
+fn show_growth(times: &BTreeMap<(&str, u16), Duration>) {
+    println!("\nfamily                             256 µs      512 µs  times");
+    let mut largest = 0f64;
+    for (&(family, n), &small) in times {
+        if let (256, Some(large)) = (n, times.get(&(family, 512))) {
+            let [small, large] = [small, *large].map(|time| time.as_secs_f64() * 1e6);
+            println!("{family:30} {small:>11.1} {large:>11.1} {:>6.2}", large / small);
+            largest = largest.max(large / small);
+        }
+    }
+    println!("time at n 512 over the time at n 256, at most 10 asked: {largest:.2}");
 }
 
 fn main() {
     let [library, plain, baseline] = ["library µs", "plain µs", "bit rows µs"];
     let heads = ["game", "n", "m", "passes", library, plain, "ratio", baseline, "ratio", "KiB"];
     println!("{}", line(heads));
-    let (mut largest, mut largest_to_plain, mut watched) = (0f64, 0f64, 0f64);
+    let (mut largest_to_plain, mut watched) = (0f64, 0f64);
+    let mut largest: BTreeMap<u16, f64> = BTreeMap::new();
+    let mut times = BTreeMap::new();
     let rows = rows::rows();
     for row in &rows {
-        let (ratio, to_plain) = show(row);
-        if row.game[0] == 256 {
-            largest = largest.max(ratio);
-        }
+        let Shown { library, ratio, to_plain } = show(row);
+        let n = row.game[0];
+        let of_size = largest.entry(n).or_default();
+        *of_size = of_size.max(ratio);
+        times.extend(row.family.as_deref().map(|family| ((family, n), library)));
         let to_plain = to_plain.unwrap_or(0.0);
         largest_to_plain = largest_to_plain.max(to_plain);
         if row.name.starts_with(WATCHED) {
             watched = watched.max(to_plain);
         }
     }
-    println!("largest ratio to the bit rows at n 256: {largest:.2}");
+    for n in [256, 512] {
+        println!("largest ratio to the bit rows at n {n}, at most 1.5 asked: {:.2}", largest[&n]);
+    }
     println!("largest ratio to plain passes: {largest_to_plain:.2}");
     println!("{WATCHED}: at least {:.1} times as fast as plain passes", 1.0 / watched);
+    show_growth(&times);
+    packing::show(&rows);
     governed::show(&rows);
 }

@@ -46,7 +46,8 @@ pub fn best_times<const N: usize>(
     best
 }
 
-fn timed(call: impl FnOnce() -> RaskjomiAnswer) -> (RaskjomiAnswer, Duration) {
+/// The call's answer, and how long it takes.
+pub fn timed(call: impl FnOnce() -> RaskjomiAnswer) -> (RaskjomiAnswer, Duration) {
     let start = Instant::now();
     let answer = black_box(call());
     (answer, start.elapsed())

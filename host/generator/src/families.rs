@@ -103,6 +103,18 @@ pub fn rings(lengths: &[usize]) -> Table {
     game
 }
 
+/// Rings as above, and a chain of vertices of priority 0 that leads to the first vertex, up to n in all.
+pub fn tailed_rings(lengths: &[usize], n: usize) -> Table {
+    let mut game = rings(lengths);
+    let mut next = 0;
+    while game.n() < n {
+        let v = add_vertex(&mut game, 0);
+        add_edges(&mut game, [(v, next)]);
+        next = v;
+    }
+    game
+}
+
 /// Two rings a and b with their exit t, a vertex u of priority 0 with a loop and an edge to t, and watchers
 /// of priority 2: so many with an edge to each vertex of a, and as many with one to each of b and to u. The
 /// passes are those of the rings.

@@ -21,7 +21,9 @@ pub use carries::{
 };
 pub use damage::{damaged, damaged_often, REFUSALS};
 pub use edits::{damaged_trace, edge_to_edit, trace, trace_words, words_behind};
-pub use families::{chain, complete, copies, fans, forced_ring, random, rings, watched_rings};
+pub use families::{
+    chain, complete, copies, fans, forced_ring, random, ring, rings, tailed_rings, watched_rings,
+};
 pub use lcg::Lcg;
 pub use plans::{largest_plan, strategy_plan, unfolded, Plan};
 pub use relations::{relation, set_unused_bits};

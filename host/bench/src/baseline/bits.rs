@@ -1,18 +1,24 @@
-//! Sets of vertices as rows of bits.
+//! Sets of vertices as rows of bits, and sets of pairs.
 
+use super::VERTICES;
 use std::array::from_fn;
 use std::ops::{BitAnd, BitOr, Sub};
 
 /// A set of vertices: v is in it if bit v % 64 of word v / 64 is set.
 #[derive(Clone, Copy)]
-pub struct Row([u64; 4]);
+pub struct Row([u64; VERTICES / 64]);
 
 /// A row for each vertex.
-pub type Rows = [Row; 256];
+pub type Rows = [Row; VERTICES];
 
 impl Row {
-    pub const EMPTY: Row = Row([0; 4]);
-    pub const FULL: Row = Row([u64::MAX; 4]);
+    pub const EMPTY: Row = Row([0; VERTICES / 64]);
+    pub const FULL: Row = Row([u64::MAX; VERTICES / 64]);
+
+    /// The words that the first n vertices take.
+    pub fn words(&self, n: usize) -> &[u64] {
+        &self.0[..n.div_ceil(64)]
+    }
 
     /// The places of the items for which the test holds.
     pub fn of<T>(items: &[T], test: impl Fn(&T) -> bool) -> Row {
@@ -76,14 +82,23 @@ impl Row {
         self.each(|v| union = union | rows[v]);
         union
     }
+}
 
-    /// Writes a byte for each vertex: 1 if it is in the set, else 0.
-    pub fn write(self, bytes: &mut [u8]) {
-        for (word, bytes) in self.0.iter().zip(bytes.chunks_mut(64)) {
-            for (i, byte) in bytes.iter_mut().enumerate() {
-                *byte = (word >> i & 1) as u8;
-            }
-        }
+/// A set of pairs of vertices, which are numbered row by row.
+pub struct Pairs([u64; VERTICES * VERTICES / 64]);
+
+impl Pairs {
+    pub const NONE: Pairs = Pairs([0; VERTICES * VERTICES / 64]);
+
+    /// Adds a pair; whether it is new.
+    pub fn insert(&mut self, pair: usize) -> bool {
+        let new = !self.has(pair);
+        self.0[pair / 64] |= 1 << (pair % 64);
+        new
+    }
+
+    pub fn has(&self, pair: usize) -> bool {
+        self.0[pair / 64] >> (pair % 64) & 1 == 1
     }
 }
 

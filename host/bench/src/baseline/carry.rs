@@ -1,12 +1,14 @@
 //! Plans carried to another vertex: a search through pairs of a position and a vertex, in which those
 //! found for one position are a chain.
 
+use super::bits::Pairs;
 use super::game::Game;
 use super::index::Index;
 use super::reduction::{lengths, reduce};
 use super::rounds::write_order;
-use super::{plan, reader, refused};
+use super::{plan, reader, refused, EDGES, STARTS, VERTICES};
 use raskjomi::exports::RaskjomiAnswer;
+use raskjomi::{is_marked, mark_bytes};
 
 const MOST_POSITIONS: usize = 4096;
 const MOST_LINKS: usize = 16384;
@@ -24,7 +26,7 @@ pub fn carry(
     output: &mut [u16],
 ) -> RaskjomiAnswer {
     let judged = reader::read(game).and_then(|(n, m)| {
-        lengths(&[marks.len(), spare.len()], &[n * n, n * n])?;
+        lengths(&[marks.len(), spare.len()], &[mark_bytes(n); 2])?;
         plan::judge(game, n, m, player, plan)?;
         Ok((n, m))
     });
@@ -32,10 +34,11 @@ pub fn carry(
         Ok(sizes) => sizes,
         Err(refusal) => return refusal,
     };
-    let (mut starts, mut places) = ([0; 257], [0; 4096]);
+    let (mut starts, mut places) = ([0; STARTS], [0; EDGES]);
     let parts = Game::new(game, n, m, &mut starts, &mut places);
-    write_order(&parts, &mut marks[..n * n], &mut spare[..n * n]);
-    let mut same = [0; 256];
+    let bytes = mark_bytes(n);
+    write_order(&parts, &mut marks[..bytes], &mut spare[..bytes]);
+    let mut same = [0; VERTICES];
     (0..n).for_each(|v| same[v] = v as u16);
     let order = Order { marks, n, stands_for: &same, turned: player == raskjomi::ODD };
     let written = write(game, game, player, plan, vertex as usize, &order, output);
@@ -61,7 +64,7 @@ pub fn carry_class(
     }
     let (n, k, e) = (game[0] as usize, counts.vertices as usize, counts.edges as usize);
     let reduced = &reduction[..2 + 2 * k + 2 * e];
-    let mut lowest = [0; 256];
+    let mut lowest = [0; VERTICES];
     (0..n).rev().for_each(|v| lowest[classes[v] as usize] = v as u16);
     let order = Order { marks, n, stands_for: &lowest, turned: player == raskjomi::ODD };
     let written = plan::judge(reduced, k, e, player, plan)
@@ -79,15 +82,15 @@ struct Order<'a> {
     marks: &'a [u8],
     n: usize,
     /// The vertex as which each vertex of the plan's game compares.
-    stands_for: &'a [u16; 256],
+    stands_for: &'a [u16; VERTICES],
     turned: bool,
 }
 
 impl Order<'_> {
     fn keeps(&self, old: u16, new: u16) -> bool {
         let (old, new) = (self.stands_for[old as usize] as usize, new as usize);
-        let pair = if self.turned { new * self.n + old } else { old * self.n + new };
-        self.marks[pair] == 1
+        let (v, w) = if self.turned { (new, old) } else { (old, new) };
+        is_marked(self.marks, self.n, v, w)
     }
 }
 
@@ -164,7 +167,7 @@ fn write(
     if vertex >= n || !order.keeps(plan[2], vertex as u16) {
         return Err(refused(33, vertex));
     }
-    let (mut starts, mut places) = ([0; 257], [0; 4096]);
+    let (mut starts, mut places) = ([0; STARTS], [0; EDGES]);
     ascending(to, &mut starts, &mut places);
     let (p, l) = (plan[0] as usize, plan[1] as usize);
     let (vertices, ends) = plan[2..].split_at(p);
@@ -204,16 +207,16 @@ fn write(
 }
 
 /// The successors of each vertex, ascending, each once.
-fn ascending(game: &[u16], starts: &mut [u16; 257], places: &mut [u16; 4096]) {
+fn ascending(game: &[u16], starts: &mut [u16; STARTS], places: &mut [u16; EDGES]) {
     let (n, m) = (game[0] as usize, game[1] as usize);
     let (sources, targets) = game[2 + 2 * n..].split_at(m);
-    let mut edges = [false; 65536];
+    let mut edges = Pairs::NONE;
     for (&source, &target) in sources.iter().zip(targets) {
-        edges[source as usize * n + target as usize] = true;
+        edges.insert(source as usize * n + target as usize);
     }
     let mut end = 0;
     for v in 0..n {
-        for w in (0..n).filter(|&w| edges[v * n + w]) {
+        for w in (0..n).filter(|&w| edges.has(v * n + w)) {
             places[end] = w as u16;
             end += 1;
         }

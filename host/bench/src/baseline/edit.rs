@@ -3,8 +3,9 @@
 use super::game::Game;
 use super::reduction::{lengths, write_classes};
 use super::rounds::write_order;
-use super::{reader, refused};
+use super::{reader, refused, EDGES, STARTS, VERTICES};
 use raskjomi::exports::RaskjomiAnswer;
+use raskjomi::mark_bytes;
 
 /// An edge added, as the library's call of this name.
 pub fn add_edge(
@@ -70,7 +71,7 @@ fn edit(
         Err(refusal) => return refusal,
     };
     let lent = [marks.len(), spare.len(), classes.len()];
-    if let Err(refusal) = lengths(&lent, &[n * n, n * n, n]) {
+    if let Err(refusal) = lengths(&lent, &[mark_bytes(n), mark_bytes(n), n]) {
         return refusal;
     }
     let edge = (source as usize, target as usize);
@@ -97,7 +98,7 @@ fn preview(
     };
     let size = 2 + 2 * n + 2 * m;
     let lent = [marks.len(), spare.len(), classes.len(), table.len()];
-    if let Err(refusal) = lengths(&lent, &[n * n, n * n, n, size]) {
+    if let Err(refusal) = lengths(&lent, &[mark_bytes(n), mark_bytes(n), n, size]) {
         return refusal;
     }
     let edge = (source as usize, target as usize);
@@ -127,11 +128,7 @@ fn make(
     add: bool,
 ) -> RaskjomiAnswer {
     let edges = if add { arrive(table, n, m, edge) } else { leave(table, n, m, edge) };
-    let end = 2 + 2 * n + 2 * edges;
-    let (mut starts, mut places) = ([0; 257], [0; 4096]);
-    let game = Game::new(&table[..end], n, edges, &mut starts, &mut places);
-    write_order(&game, &mut marks[..n * n], &mut spare[..n * n]);
-    let k = write_classes(&marks[..n * n], &mut classes[..n], &mut [0; 256]);
+    let k = fill(table, n, edges, marks, spare, classes);
     let (classes, vertices, edges) = (k as u32, n as u32, edges as u32);
     RaskjomiAnswer { classes, vertices, edges, ..RaskjomiAnswer::default() }
 }
@@ -154,7 +151,7 @@ pub fn replay(
         Err(refusal) => return refusal,
     };
     let lent = [marks.len(), spare.len(), classes.len()];
-    if let Err(refusal) = lengths(&lent, &[n * n, n * n, n]) {
+    if let Err(refusal) = lengths(&lent, &[mark_bytes(n), mark_bytes(n), n]) {
         return refusal;
     }
     let count = trace.first().map_or(0, |&count| count as usize);
@@ -192,10 +189,11 @@ fn fill(
     spare: &mut [u8],
     classes: &mut [u16],
 ) -> usize {
-    let (mut starts, mut places) = ([0; 257], [0; 4096]);
+    let (mut starts, mut places) = ([0; STARTS], [0; EDGES]);
     let game = Game::new(&table[..2 + 2 * n + 2 * m], n, m, &mut starts, &mut places);
-    write_order(&game, &mut marks[..n * n], &mut spare[..n * n]);
-    write_classes(&marks[..n * n], &mut classes[..n], &mut [0; 256])
+    let bytes = mark_bytes(n);
+    write_order(&game, &mut marks[..bytes], &mut spare[..bytes]);
+    write_classes(marks, &mut classes[..n], &mut [0; VERTICES])
 }
 
 /// One scan tells how often the edge is there, where it stands first, and whether its source has another; then
@@ -218,7 +216,7 @@ fn enter(table: &mut [u16], n: usize, m: usize, edge: (u16, u16)) -> Result<usiz
         }
     }
     match copies {
-        0 if m == 4096 || table.len() < 2 + 2 * n + 2 * m + 2 => Err(refused(39, m)),
+        0 if m == EDGES || table.len() < 2 + 2 * n + 2 * m + 2 => Err(refused(39, m)),
         0 => Ok(arrive(table, n, m, edge)),
         _ if others == 0 => Err(refused(38, source as usize)),
         1 => Ok(leave_one(table, n, m, first)),
@@ -256,7 +254,7 @@ fn judge(
     if !add && !some(&|to| to != target) {
         return Err(refused(38, source));
     }
-    if add && (m == 4096 || room < 2 + 2 * n + 2 * m + 2) {
+    if add && (m == EDGES || room < 2 + 2 * n + 2 * m + 2) {
         return Err(refused(39, m));
     }
     Ok(())

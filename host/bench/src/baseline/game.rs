@@ -1,6 +1,7 @@
 //! A game by its parts.
 
 use super::index::Index;
+use super::{EDGES, STARTS};
 
 /// A game's priorities, owners and successors.
 pub struct Game<'a> {
@@ -15,8 +16,8 @@ impl<'a> Game<'a> {
         table: &'a [u16],
         n: usize,
         m: usize,
-        starts: &'a mut [u16; 257],
-        places: &'a mut [u16; 4096],
+        starts: &'a mut [u16; STARTS],
+        places: &'a mut [u16; EDGES],
     ) -> Game<'a> {
         let (sources, targets) = table[2 + 2 * n..].split_at(m);
         let next = Index::build(sources, targets, &mut starts[..n + 1], places);

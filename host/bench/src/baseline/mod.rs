@@ -8,6 +8,7 @@ mod edit;
 mod game;
 mod governed;
 mod index;
+mod packing;
 mod passes;
 mod plan;
 mod reader;
@@ -19,13 +20,18 @@ pub use carry::{carry, carry_class};
 pub use convert::convert;
 pub use edit::{add_edge, preview_add, preview_remove, remove_edge, replay};
 pub use governed::governed_classes;
-pub use passes::write_order as by_passes;
+pub use passes::{write_order as by_passes, MOST as MOST_BY_PASSES};
 pub use plan::accept_plan;
 pub use reduction::reduce;
-pub use rounds::write_order as by_rows;
+pub use rounds::{timed as timed_order, write_order as by_rows};
 pub use seed::seed;
 
 use raskjomi::exports::RaskjomiAnswer;
+
+/// The limits of a game, and the places of an index of its edges.
+const VERTICES: usize = 512;
+const EDGES: usize = 4096;
+const STARTS: usize = VERTICES + 1;
 
 /// A refusal as an answer.
 fn refused(number: u32, place: usize) -> RaskjomiAnswer {

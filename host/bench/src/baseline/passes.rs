@@ -1,21 +1,28 @@
-//! The order by plain passes: each tests every marked pair.
+//! The order by plain passes over a byte for each pair: each tests every marked pair.
 
 use super::game::Game;
+use super::packing;
 
-/// Writes the order into both buffers, whose length is n × n; the number of passes.
+/// The most vertices of a game whose order goes by plain passes.
+pub const MOST: usize = 256;
+
+/// Writes the order into both buffers, of as many bytes as its marks need; the number of passes.
 pub fn write_order(game: &Game, marks: &mut [u8], spare: &mut [u8]) -> u32 {
     let n = game.priorities.len();
-    for (v, row) in marks.chunks_mut(n).enumerate() {
+    let (mut one, mut other) = ([0; MOST * MOST], [0; MOST * MOST]);
+    let (mut from, mut to) = (&mut one[..n * n], &mut other[..n * n]);
+    for (v, row) in from.chunks_mut(n).enumerate() {
         for (w, mark) in row.iter_mut().enumerate() {
             *mark = (game.priorities[v] == game.priorities[w]) as u8;
         }
     }
-    let (mut from, mut to) = (marks, spare);
     let mut passes = 1;
     while pass(game, from, to) != 0 {
         std::mem::swap(&mut from, &mut to);
         passes += 1;
     }
+    packing::write_bytes(from, marks);
+    spare.copy_from_slice(marks);
     passes
 }
 

@@ -1,7 +1,8 @@
 //! The plan acceptor.
 
+use super::bits::Pairs;
 use super::index::Index;
-use super::{reader, refused};
+use super::{reader, refused, EDGES, STARTS, VERTICES};
 use raskjomi::exports::RaskjomiAnswer;
 
 /// A plan in range, with its links grouped by source.
@@ -68,12 +69,12 @@ fn follow_edges(
     targets: &[u16],
 ) -> Result<(), RaskjomiAnswer> {
     let (edge_sources, edge_targets) = game[2 + 2 * n..].split_at(m);
-    let mut edges = [false; 65536];
+    let mut edges = Pairs::NONE;
     for (&source, &target) in edge_sources.iter().zip(edge_targets) {
-        edges[source as usize * n + target as usize] = true;
+        edges.insert(source as usize * n + target as usize);
     }
     let vertex = |&position: &u16| vertices[position as usize] as usize;
-    let along = |(source, target)| edges[vertex(source) * n + vertex(target)];
+    let along = |(source, target)| edges.has(vertex(source) * n + vertex(target));
     match sources.iter().zip(targets).position(|link| !along(link)) {
         Some(link) => Err(refused(14, link)),
         None => Ok(()),
@@ -89,10 +90,10 @@ fn answered(
     plan: &Plan,
 ) -> Result<(), RaskjomiAnswer> {
     let (sources, targets) = game[2 + 2 * n..].split_at(m);
-    let (mut starts, mut places) = ([0; 257], [0; 4096]);
+    let (mut starts, mut places) = ([0; STARTS], [0; EDGES]);
     let successors = Index::build(sources, targets, &mut starts[..n + 1], &mut places);
     let owners = &game[2 + n..2 + 2 * n];
-    let mut stamps = [0; 256];
+    let mut stamps = [0; VERTICES];
     for (i, &vertex) in plan.vertices.iter().enumerate() {
         let (stamp, links) = (i + 1, plan.next.of(i));
         links.iter().for_each(|&j| stamps[plan.vertices[j as usize] as usize] = stamp);

@@ -1,6 +1,7 @@
 //! The reader.
 
-use super::refused;
+use super::bits::Pairs;
+use super::{refused, EDGES, VERTICES};
 use raskjomi::exports::RaskjomiAnswer;
 use std::hint::black_box;
 
@@ -10,10 +11,10 @@ pub fn read(game: &[u16]) -> Result<(usize, usize), RaskjomiAnswer> {
         return Err(refused(1, game.len()));
     }
     let (n, m) = (game[0] as usize, game[1] as usize);
-    if n == 0 || n > 256 {
+    if n == 0 || n > VERTICES {
         return Err(refused(2, 0));
     }
-    if m > 4096 {
+    if m > EDGES {
         return Err(refused(3, 1));
     }
     if game.len() != 2 + 2 * n + 2 * m {
@@ -38,7 +39,7 @@ fn parts(game: &[u16], n: usize, m: usize) -> Result<(), RaskjomiAnswer> {
     let (sources, targets) = game[first..].split_at(m);
     // The library's reader counts for every call, so the compiler may not leave it out here.
     black_box(count_different(sources, targets, n));
-    let mut has_edge = [false; 256];
+    let mut has_edge = [false; VERTICES];
     sources.iter().for_each(|&source| has_edge[source as usize] = true);
     match has_edge[..n].iter().position(|&has| !has) {
         Some(vertex) => Err(refused(8, vertex)),
@@ -48,10 +49,7 @@ fn parts(game: &[u16], n: usize, m: usize) -> Result<(), RaskjomiAnswer> {
 
 /// How many different edges there are.
 fn count_different(sources: &[u16], targets: &[u16], n: usize) -> usize {
-    let mut seen = [false; 65536];
-    let new = sources.iter().zip(targets).filter(|(&source, &target)| {
-        let edge = source as usize * n + target as usize;
-        !std::mem::replace(&mut seen[edge], true)
-    });
-    new.count()
+    let mut seen = Pairs::NONE;
+    let edges = sources.iter().zip(targets);
+    edges.filter(|(&source, &target)| seen.insert(source as usize * n + target as usize)).count()
 }

@@ -1,10 +1,11 @@
 //! Classes and the reduced game.
 
 use super::game::Game;
-use super::{reader, refused};
+use super::{reader, refused, EDGES, STARTS, VERTICES};
 use raskjomi::exports::RaskjomiAnswer;
+use raskjomi::{is_marked, mark_bytes};
 
-/// Writes the order of a game into two buffers, whose length is n × n; the number of passes.
+/// Writes the order of a game into two buffers, of as many bytes as its marks need; the number of passes.
 pub type WriteOrder = fn(&Game, &mut [u8], &mut [u8]) -> u32;
 
 /// The reduced game, as the library's call of this name. The answer tells the passes, too.
@@ -21,13 +22,14 @@ pub fn reduce(
         Err(refusal) => return refusal,
     };
     let lent = [marks.len(), spare.len(), classes.len(), output.len()];
-    if let Err(refusal) = lengths(&lent, &[n * n, n * n, n, game.len()]) {
+    let bytes = mark_bytes(n);
+    if let Err(refusal) = lengths(&lent, &[bytes, bytes, n, game.len()]) {
         return refusal;
     }
-    let (mut starts, mut places) = ([0; 257], [0; 4096]);
+    let (mut starts, mut places) = ([0; STARTS], [0; EDGES]);
     let game = Game::new(game, n, m, &mut starts, &mut places);
-    let passes = write_order(&game, &mut marks[..n * n], &mut spare[..n * n]);
-    let counts = write_reduced(&game, &marks[..n * n], &mut classes[..n], output);
+    let passes = write_order(&game, &mut marks[..bytes], &mut spare[..bytes]);
+    let counts = write_reduced(&game, marks, &mut classes[..n], output);
     RaskjomiAnswer { passes, ..counts }
 }
 
@@ -46,14 +48,14 @@ fn write_reduced(
     classes: &mut [u16],
     output: &mut [u16],
 ) -> RaskjomiAnswer {
-    let mut lowest = [0; 256];
+    let mut lowest = [0; VERTICES];
     let k = write_classes(marks, classes, &mut lowest);
     let lowest = &lowest[..k];
     for (class, &vertex) in lowest.iter().enumerate() {
         output[2 + class] = game.priorities[vertex as usize];
         output[2 + k + class] = game.owners[vertex as usize];
     }
-    let (mut sources, mut targets) = ([0; 4096], [0; 4096]);
+    let (mut sources, mut targets) = ([0; EDGES], [0; EDGES]);
     let mut e = 0;
     for class in 0..k {
         let first = e;
@@ -69,11 +71,12 @@ fn write_reduced(
 }
 
 /// The class of each vertex and the lowest member of each class; the number of classes.
-pub fn write_classes(marks: &[u8], classes: &mut [u16], lowest: &mut [u16; 256]) -> usize {
+pub fn write_classes(marks: &[u8], classes: &mut [u16], lowest: &mut [u16; VERTICES]) -> usize {
     let n = classes.len();
     let mut k = 0;
     for v in 0..n {
-        let shared = (0..v).find(|&w| marks[v * n + w] == 1 && marks[w * n + v] == 1);
+        let both = |&w: &usize| is_marked(marks, n, v, w) && is_marked(marks, n, w, v);
+        let shared = (0..v).find(both);
         classes[v] = shared.map_or(k as u16, |w| classes[w]);
         if shared.is_none() {
             lowest[k] = v as u16;
@@ -92,7 +95,7 @@ fn quotient_edges(
     targets: &mut [u16],
     first: usize,
 ) -> usize {
-    let (mut members, mut counts, mut stamps) = (0u16, [0u16; 256], [0u16; 256]);
+    let (mut members, mut counts, mut stamps) = (0u16, [0u16; VERTICES], [0u16; VERTICES]);
     for v in (0..classes.len()).filter(|&v| classes[v] as usize == class) {
         members += 1;
         for &x in game.next.of(v) {
@@ -120,10 +123,10 @@ fn drop_little_brothers(
     end: usize,
 ) -> usize {
     let n = game.priorities.len();
-    let below =
-        |d: u16, e: u16| marks[lowest[d as usize] as usize * n + lowest[e as usize] as usize] == 1;
+    let lowest_of = |class: u16| lowest[class as usize] as usize;
+    let below = |d: u16, e: u16| is_marked(marks, n, lowest_of(d), lowest_of(e));
     let even = game.owners[lowest[class] as usize] == 0;
-    let mut all = [0; 256];
+    let mut all = [0; VERTICES];
     let count = end - first;
     all[..count].copy_from_slice(&targets[first..end]);
     let mut kept = first;

@@ -3,8 +3,11 @@
 
 use super::bits::{Row, Rows};
 use super::game::Game;
+use super::{packing, EDGES, STARTS, VERTICES};
+use std::hint::black_box;
+use std::time::{Duration, Instant};
 
-/// Writes the order into both buffers, whose length is n × n; the number of passes.
+/// Writes the order into both buffers, of as many bytes as its marks need; the number of passes.
 pub fn write_order(game: &Game, marks: &mut [u8], spare: &mut [u8]) -> u32 {
     write(Rounds::start(game, false), game, marks, spare)
 }
@@ -15,16 +18,23 @@ pub fn write_governed(game: &Game, marks: &mut [u8], spare: &mut [u8]) -> u32 {
 }
 
 fn write(mut rounds: Rounds, game: &Game, marks: &mut [u8], spare: &mut [u8]) -> u32 {
-    let mut passes = 1;
-    while rounds.pass() != 0 {
-        passes += 1;
-    }
-    let n = game.priorities.len();
-    for (row, bytes) in rounds.marked.iter().zip(marks.chunks_mut(n)) {
-        row.write(bytes);
-    }
-    spare.copy_from_slice(marks);
+    let passes = rounds.passes();
+    rounds.write(game.priorities.len(), marks, spare);
     passes
+}
+
+/// The order of an accepted table, into buffers of the exact length: how long its rows take, and how long
+/// packing them into the two buffers does.
+pub fn timed(table: &[u16], marks: &mut [u8], spare: &mut [u8]) -> [Duration; 2] {
+    let start = Instant::now();
+    let (n, m) = (table[0] as usize, table[1] as usize);
+    let (mut starts, mut places) = ([0; STARTS], [0; EDGES]);
+    let game = Game::new(table, n, m, &mut starts, &mut places);
+    let mut rounds = Rounds::start(&game, false);
+    black_box(rounds.passes());
+    let rows = start.elapsed();
+    rounds.write(n, marks, spare);
+    [rows, start.elapsed() - rows]
 }
 
 /// The rows of a game and of its marks.
@@ -49,12 +59,12 @@ struct Rounds {
 impl Rounds {
     /// The rows of a game, and pass 0.
     fn start(game: &Game, mirror: bool) -> Rounds {
-        let none = [Row::EMPTY; 256];
+        let none = [Row::EMPTY; VERTICES];
         let mut rounds = Rounds {
             odd: Row::EMPTY,
             successors: none,
             predecessors: none,
-            marked: [Row::FULL; 256],
+            marked: [Row::FULL; VERTICES],
             changed: Row::EMPTY,
             lost: none,
             falls: none,
@@ -86,6 +96,21 @@ impl Rounds {
                 (left, lost, self.fall(lost, left))
             }
         };
+    }
+
+    /// All passes; their number.
+    fn passes(&mut self) -> u32 {
+        let mut passes = 1;
+        while self.pass() != 0 {
+            passes += 1;
+        }
+        passes
+    }
+
+    /// Packs the marks of n vertices into both buffers.
+    fn write(&self, n: usize, marks: &mut [u8], spare: &mut [u8]) {
+        packing::write_rows(&self.marked, n, marks);
+        spare.copy_from_slice(marks);
     }
 
     /// A pass, and how many marks it clears.

@@ -1,6 +1,6 @@
 //! Games by the seed.
 
-use super::refused;
+use super::{refused, EDGES, VERTICES};
 use raskjomi::exports::RaskjomiAnswer;
 
 /// The generator, with its state.
@@ -23,12 +23,12 @@ pub fn seed(
     output: &mut [u16],
 ) -> RaskjomiAnswer {
     let outside = |number: u32, limit: u32| number == 0 || number > limit;
-    if outside(vertices, 256) || outside(degree, 16) || outside(priorities, 65_535) {
+    if outside(vertices, VERTICES as u32) || outside(degree, 16) || outside(priorities, 65_535) {
         return refused(31, 0);
     }
     let (n, d) = (vertices as usize, degree as usize);
     let m = n * d;
-    if m > 4096 {
+    if m > EDGES {
         return refused(31, 0);
     }
     let words = 2 + 2 * n + 2 * m;

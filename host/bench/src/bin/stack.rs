@@ -2,9 +2,7 @@
 //! its process, so the program runs itself once for each size that it tries.
 #![forbid(unsafe_code)]
 
-use generator::{
-    forced_ring, largest_plan, opponents, random, round_of_loops, round_plan, Lcg, Table,
-};
+use generator::{forced_ring, largest_plan, random, round_of_loops, round_ring, Lcg, Table};
 use raskjomi::exports;
 use std::os::unix::process::ExitStatusExt;
 use std::process::{Command, ExitStatus, Stdio};
@@ -38,12 +36,13 @@ const PAGE: usize = 4;
 const LEAST: usize = 16;
 const DEFAULT: usize = 2048;
 
-/// A call on a game of 256 vertices and 4,096 edges; its answer's number.
+/// A call on a game of 512 vertices and 4,096 edges; its answer's number.
 fn call(name: &str) -> impl FnOnce() -> u32 + Send + 'static {
     let name = name.to_string();
-    let game = random(&mut Lcg::new(1), 256, 4096, 2).words();
-    let (mut marks, mut spare) = (vec![0; 65536], vec![0; 65536]);
-    let (mut classes, mut output) = (vec![0; 256], vec![0; game.len()]);
+    let game = random(&mut Lcg::new(1), 512, 4096, 2).words();
+    let bytes = raskjomi::mark_bytes(512);
+    let (mut marks, mut spare) = (vec![0; bytes], vec![0; bytes]);
+    let (mut classes, mut output) = (vec![0; 512], vec![0; game.len()]);
     let (plan_game, plan) = plan();
     let (carry_game, carried, of_classes) = plans_to_carry();
     let mut written = vec![0; raskjomi::MOST_PLAN_WORDS];
@@ -74,7 +73,7 @@ fn call(name: &str) -> impl FnOnce() -> u32 + Send + 'static {
                 o,
                 &mut written,
             ),
-            "seed" => exports::seed(1, 256, 16, 8, o),
+            "seed" => exports::seed(1, 512, 8, 8, o),
             "convert" => exports::convert(&game, o),
             "add_edge" => exports::add_edge(&mut table, 0, absent, m, s, c),
             "remove_edge" => exports::remove_edge(&mut table, source, target, m, s, c),
@@ -97,16 +96,16 @@ fn call(name: &str) -> impl FnOnce() -> u32 + Send + 'static {
 
 /// A game one edge below the limit, and a vertex to which there is no edge from 0.
 fn game_to_edit() -> (Table, u32) {
-    let game = random(&mut Lcg::new(1), 256, 4095, 2);
-    let absent = (0..256).find(|&target| !game.edges.contains(&(0, target)));
+    let game = random(&mut Lcg::new(1), 512, 4095, 2);
+    let absent = (0..512).find(|&target| !game.edges.contains(&(0, target)));
     (game, absent.expect("a vertex without an edge from 0") as u32)
 }
 
 /// Even's plan of 4,096 positions and 16,384 links, and a game of 4,096 edges in which it wins: where
 /// all vertices are Even's, edges that no link follows are harmless.
 fn plan() -> (Vec<u16>, Vec<u16>) {
-    let (ring, plan) = largest_plan(&mut Lcg::new(1), 256);
-    let mut game = forced_ring(256, 16);
+    let (ring, plan) = largest_plan(&mut Lcg::new(1), 512);
+    let mut game = forced_ring(512, 8);
     game.priorities = ring.priorities;
     (game.words(), plan.words())
 }
@@ -114,9 +113,7 @@ fn plan() -> (Vec<u16>, Vec<u16>) {
 /// A game of 4,096 edges, each of its vertices below each, and Even's plans on it and on its classes, which
 /// are one. Both go round through four positions by loops; carried, they have 16,384 links.
 fn plans_to_carry() -> (Vec<u16>, Vec<u16>, Vec<u16>) {
-    let mut game = opponents(forced_ring(256, 16), 0);
-    game.edges.iter_mut().for_each(|edge| edge.1 = (edge.1 + 255) % 256);
-    let plan = round_plan(&game, [vec![0; 3], (0..256).collect()].concat(), 0..4);
+    let (game, plan) = round_ring(512, 8, 4, 0);
     (game.words(), plan.words(), round_of_loops(4, 0..4).words())
 }
 
