@@ -22,12 +22,12 @@ pub fn exact_memory(table: &Table) -> Memory {
 }
 
 /// The largest games: dense ones of 64 and 512 vertices, one of 511, where bits of the last byte are unused, a
-/// chain, and the largest plan's.
+/// chain of 256, whose passes are many, and the largest plan's.
 pub fn largest_games() -> Vec<Table> {
     let mut lcg = Lcg::new(77);
     let mut games: Vec<Table> =
         [1, 2, 8].map(|priorities| random(&mut lcg, 512, 4096, priorities)).into();
-    games.extend([complete(64), random(&mut lcg, 511, 4096, 2), chain(512)]);
+    games.extend([complete(64), random(&mut lcg, 511, 4096, 2), chain(256)]);
     games.push(largest_plan(&mut lcg, 512).0);
     games
 }
@@ -59,6 +59,8 @@ fn largest_cases() -> Vec<Case> {
             _ => Case::on_memory(call, &words, exact_memory(&table)),
         }));
     }
+    // The oracle takes long for this one, so that it has no more than one call.
+    cases.push(Case::on_memory(Call::Order, &chain(512).words(), exact_memory(&chain(512))));
     let (table, plan) = largest_plan(&mut Lcg::new(78), 512);
     cases.extend([0, 1].map(|player| Case::of_plan(&table.words(), player, plan.words())));
     cases.extend(largest_carries());
