@@ -230,7 +230,7 @@ const MEMORY: [Explanation; 4] = [
     row(
         "the marks are too short",
         "the length needed, n × n / 8 bytes, rounded up",
-        "give n × n marks, eight in a byte",
+        "give n × n marks; in memory they stand eight in a byte",
     ),
     row(
         "the spare is too short",

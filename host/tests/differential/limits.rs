@@ -111,9 +111,20 @@ fn largest_sizes_agree() {
     }
     let accepted = |call: Call| {
         let mut of_call = largest().iter().filter(|(case, _)| case.call == call);
-        of_call.any(|(_, expected)| expected.answer.number == 0)
+        of_call.any(|(case, expected)| vertices(case) == 512 && expected.answer.number == 0)
     };
-    assert!(Call::all().all(accepted), "each call accepts something at the largest sizes");
+    for call in Call::all() {
+        assert!(accepted(call), "{call:?} accepts no game of 512 vertices");
+    }
+}
+
+/// The vertices of the game that a call reads, edits or draws.
+fn vertices(case: &Case) -> u32 {
+    match case.call {
+        Call::Seed => case.seed[1],
+        Call::AddEdge | Call::RemoveEdge | Call::Replay => case.memory.table[0].into(),
+        _ => case.game[0].into(),
+    }
 }
 
 #[test]
