@@ -21,7 +21,7 @@ ghost use Rattle.answer.specs.Exports.{OrderExport, ClassesExport, TableExport,
 pub extern "C" fn raskjomi_kind(number: u32) -> u32
     ensures { λ r. ⌜ r ≡ kindOf number ⌝ }
 {
-    table::kind(number)
+    reader::kind(number)
 }
 
 // The reader.
@@ -29,7 +29,7 @@ pub extern "C" fn raskjomi_kind(number: u32) -> u32
 pub extern "C" fn raskjomi_read(game: &[u16]) -> RaskjomiAnswer
     ensures { λ r. ⌜ r ≡ readFields (readAnswer (now (game .entry))) ⌝ }
 {
-    of_reading(table::read(game))
+    of_reading(reader::read(game))
 }
 
 // The relation acceptor.

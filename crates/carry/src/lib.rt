@@ -46,7 +46,7 @@ pub fn carry_plan(
 ) -> Carrying
     ensures { λ r. ⌜ CarryCall (now (game .entry)) player (now (plan .entry)) vertex (now (marks .entry)) (now (spare .entry)) (now (output .entry)) (carryingAnswer r) (now (marks .exit)) (now (spare .exit)) (now (output .exit)) ⌝ }
 {
-    let reading = table::read(game);
+    let reading = reader::read(game);
     let Reading::Accepted(sizes) = reading else {
         return Carrying::Refused(refusal_of(reading));
     };
@@ -86,7 +86,7 @@ pub fn carry_class_plan(
 ) -> ClassCarrying
     ensures { λ r. ⌜ CarryClassCall (now (game .entry)) player (now (plan .entry)) vertex (now (marks .entry)) (now (spare .entry)) (now (classes .entry)) (now (reduction .entry)) (now (output .entry)) (classCarryingAnswer r) (now (marks .exit)) (now (spare .exit)) (now (classes .exit)) (now (reduction .exit)) (now (output .exit)) ⌝ }
 {
-    let reading = table::read(game);
+    let reading = reader::read(game);
     let Reading::Accepted(sizes) = reading else {
         return ClassCarrying::Refused(refusal_of(reading));
     };

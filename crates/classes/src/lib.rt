@@ -118,7 +118,7 @@ pub fn write_classes(
 ) -> Classification
     ensures { λ r. ⌜ ClassesCall (now (game .entry)) (now (marks .entry)) (now (spare .entry)) (now (classes .entry)) (classificationAnswer r) (now (marks .exit)) (now (spare .exit)) (now (classes .exit)) ⌝ }
 {
-    let reading = table::read(game);
+    let reading = reader::read(game);
     let Reading::Accepted(sizes) = reading else {
         return Classification::Refused(refusal_of(reading));
     };

@@ -19,7 +19,7 @@ ghost use Rattle.convert.specs.ConvertCall.{ConvertCall};
 pub fn write_lowest(game: &[u16], output: &mut [u16]) -> Filling
     ensures { λ r. ⌜ ConvertCall (now (game .entry)) (now (output .entry)) (fillingAnswer r) (now (output .exit)) ⌝ }
 {
-    let reading = table::read(game);
+    let reading = reader::read(game);
     let Reading::Accepted(sizes) = reading else {
         return Filling::Refused(refusal_of(reading));
     };

@@ -26,5 +26,5 @@ pub fn read_in(buffer: &[u16]) -> Reading
     ensures { λ r. ⌜ readingAnswer r ≡ readAnswer (tableIn (now (buffer .entry))) ⌝ }
 {
     let end = table_end(buffer);
-    table::read(&buffer[..end])
+    reader::read(&buffer[..end])
 }

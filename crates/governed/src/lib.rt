@@ -18,7 +18,7 @@ ghost use Rattle.governed.specs.GovernedCall.{GovernedCall, governedAnsw
 pub fn write_governed(game: &[u16], marks: &mut [u8], spare: &mut [u8]) -> Ordering
     ensures { λ r. ⌜ GovernedCall (now (game .entry)) (now (marks .entry)) (now (spare .entry)) (orderingAnswer r) (now (marks .exit)) (now (spare .exit)) ⌝ }
 {
-    let reading = table::read(game);
+    let reading = reader::read(game);
     let Reading::Accepted(sizes) = reading else {
         return Ordering::Refused(refusal_of(reading));
     };
@@ -29,7 +29,7 @@ pub fn write_governed(game: &[u16], marks: &mut [u8], spare: &mut [u8]) -> Order
 pub fn accept_governed(game: &[u16], marks: &[u8]) -> Acceptance
     ensures { λ r. ⌜ acceptanceAnswer r ≡ governedAnswer (now (game .entry)) (now (marks .entry)) ⌝ }
 {
-    let reading = table::read(game);
+    let reading = reader::read(game);
     let Reading::Accepted(sizes) = reading else {
         return Acceptance::Refused(refusal_of(reading));
     };
@@ -45,7 +45,7 @@ pub fn write_governed_classes(
 ) -> Classification
     ensures { λ r. ⌜ GovernedClassesCall (now (game .entry)) (now (marks .entry)) (now (spare .entry)) (now (classes .entry)) (classificationAnswer r) (now (marks .exit)) (now (spare .exit)) (now (classes .exit)) ⌝ }
 {
-    let reading = table::read(game);
+    let reading = reader::read(game);
     let Reading::Accepted(sizes) = reading else {
         return Classification::Refused(refusal_of(reading));
     };

@@ -102,7 +102,7 @@ pub fn write_relation(
 pub fn write_order(game: &[u16], marks: &mut [u8], spare: &mut [u8]) -> Ordering
     ensures { λ r. ⌜ OrderCall (now (game .entry)) (now (marks .entry)) (now (spare .entry)) (orderingAnswer r) (now (marks .exit)) (now (spare .exit)) ⌝ }
 {
-    let reading = table::read(game);
+    let reading = reader::read(game);
     let Reading::Accepted(sizes) = reading else {
         return Ordering::Refused(refusal_of(reading));
     };

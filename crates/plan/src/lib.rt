@@ -23,7 +23,7 @@ ghost use Rattle.plan.specs.Acceptance.{planRows, planAnswer};
 pub fn accept_plan(game: &[u16], player: u32, plan: &[u16]) -> Acceptance
     ensures { λ r. ⌜ acceptanceAnswer r ≡ planAnswer (now (game .entry)) player (now (plan .entry)) ⌝ }
 {
-    let reading = table::read(game);
+    let reading = reader::read(game);
     let Reading::Accepted(_) = reading else {
         return Acceptance::Refused(refusal_of(reading));
     };

@@ -64,7 +64,7 @@ pub fn write_quotient(
 ) -> Tabulation
     ensures { λ r. ⌜ TableCall quotient (now (game .entry)) (now (marks .entry)) (now (spare .entry)) (now (classes .entry)) (now (output .entry)) (tabulationAnswer r) (now (marks .exit)) (now (spare .exit)) (now (classes .exit)) (now (output .exit)) ⌝ }
 {
-    let reading = table::read(game);
+    let reading = reader::read(game);
     let Reading::Accepted(sizes) = reading else {
         return Tabulation::Refused(refusal_of(reading));
     };
@@ -81,7 +81,7 @@ pub fn write_reduced(
 ) -> Tabulation
     ensures { λ r. ⌜ TableCall reduced (now (game .entry)) (now (marks .entry)) (now (spare .entry)) (now (classes .entry)) (now (output .entry)) (tabulationAnswer r) (now (marks .exit)) (now (spare .exit)) (now (classes .exit)) (now (output .exit)) ⌝ }
 {
-    let reading = table::read(game);
+    let reading = reader::read(game);
     let Reading::Accepted(sizes) = reading else {
         return Tabulation::Refused(refusal_of(reading));
     };

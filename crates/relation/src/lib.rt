@@ -40,7 +40,7 @@ pub fn judge_marks(game: &[u16], n: usize, marks: &[u8], mirror: bool) -> Accept
 pub fn accept_relation(game: &[u16], marks: &[u8]) -> Acceptance
     ensures { λ r. ⌜ acceptanceAnswer r ≡ relationAnswer (now (game .entry)) (now (marks .entry)) ⌝ }
 {
-    let reading = table::read(game);
+    let reading = reader::read(game);
     let Reading::Accepted(sizes) = reading else {
         return Acceptance::Refused(refusal_of(reading));
     };

@@ -25,7 +25,7 @@ fn find(
     requires { ⌜ Enough (now marks) (now spare) (now output) (now classes) (now members) (now edges) ⌝ }
     ensures { λ r. ⌜ Reported (now (game .entry)) (now (classes .entry)) (now (members .entry)) (now (edges .entry)) r (now (classes .exit)) (now (members .exit)) (now (edges .exit)) ⌝ }
 {
-    let verdict = table::read(game);
+    let verdict = reader::read(game);
     let Reading::Accepted(_) = verdict else {
         return Report {
             verdict,

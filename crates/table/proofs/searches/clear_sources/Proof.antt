@@ -7,8 +7,8 @@ use borrow.Author.Needs.{needs}
 use Rattle.table.specs.Table.{tableEdges}
 use Rattle.table.specs.Flags.{Cleared}
 use Rattle.table.specs.FlagsLaws.{cleared-none, cleared-more, source-word, source-lt, lacking-flags}
-use Rattle.table.proofs.reader.clear_sources.Statement.{statement}
-use Rattle.table.proofs.reader.clear_sources.Tie as tie
+use Rattle.table.proofs.searches.clear_sources.Statement.{statement}
+use Rattle.table.proofs.searches.clear_sources.Tie as tie
 
 abbrev Inv-loop : tie.InvT-loop
 Inv-loop game n m lacking₀ j₀ lacking j = (j ≤ m) × (length lacking ≡ length lacking₀) × Cleared game j lacking

@@ -1,8 +1,8 @@
 -- The definition is the search's, at the table's own size.
 use borrow.Author.Needs.{needs}
 use Rattle.table.specs.Reading.{firstOwner}
-use Rattle.table.proofs.reader.first_owner.Statement.{statement}
-use Rattle.table.proofs.reader.first_owner.Tie as tie
+use Rattle.table.proofs.searches.first_owner.Statement.{statement}
+use Rattle.table.proofs.searches.first_owner.Tie as tie
 
 add-first-at-least : tie.Need-add-first-at-least
 add-first-at-least c = search needs

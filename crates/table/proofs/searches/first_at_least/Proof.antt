@@ -8,8 +8,8 @@ use Rattle.theory.specs.Range.{first}
 use Rattle.theory.specs.RangeLaws.{first-step, first-hit, first-end}
 use Rattle.table.specs.Flags.{atLeast}
 use Rattle.table.specs.HighestLaws.{highest-none}
-use Rattle.table.proofs.reader.first_at_least.Statement.{statement}
-use Rattle.table.proofs.reader.first_at_least.Tie as tie
+use Rattle.table.proofs.searches.first_at_least.Statement.{statement}
+use Rattle.table.proofs.searches.first_at_least.Tie as tie
 
 abbrev Inv-loop : tie.InvT-loop
 Inv-loop words limit from end k₀ k = (k ≤ end) × (first (atLeast words limit) from end ≡ first (atLeast words limit) k end)

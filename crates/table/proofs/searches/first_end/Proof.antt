@@ -1,8 +1,8 @@
 -- The definition is the search's, at the table's own sizes.
 use borrow.Author.Needs.{needs}
 use Rattle.table.specs.Reading.{firstEnd}
-use Rattle.table.proofs.reader.first_end.Statement.{statement}
-use Rattle.table.proofs.reader.first_end.Tie as tie
+use Rattle.table.proofs.searches.first_end.Statement.{statement}
+use Rattle.table.proofs.searches.first_end.Tie as tie
 
 mul-first-at-least : tie.Need-mul-first-at-least
 mul-first-at-least c = search needs

@@ -6,8 +6,8 @@ use borrow.Author.Needs.{needs}
 use Rattle.table.specs.Limits.{vertexLimit}
 use Rattle.table.specs.Table.{vertexCount}
 use Rattle.table.specs.FlagsLaws.{filled, lacking-first}
-use Rattle.table.proofs.reader.first_lacking.Statement.{statement}
-use Rattle.table.proofs.reader.first_lacking.Tie as tie
+use Rattle.table.proofs.searches.first_lacking.Statement.{statement}
+use Rattle.table.proofs.searches.first_lacking.Tie as tie
 
 slice-aggregate-clear-sources : tie.Need-slice-aggregate-clear-sources
 slice-aggregate-clear-sources c = search needs

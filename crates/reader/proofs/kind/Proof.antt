@@ -2,10 +2,10 @@
 use mathlib.Core.Path.{_≡_}
 use Prim.Native.Nat.{ℕ, _≤_}
 use native.Mathlib.Omega.{arith}
 use Rattle.table.specs.Kind.{kindOf}
 use Rattle.table.specs.KindLaws.{within-in, within-fails}
-use Rattle.table.proofs.kind.Statement.{statement}
-use Rattle.table.proofs.kind.Tie as tie
+use Rattle.reader.proofs.kind.Statement.{statement}
+use Rattle.reader.proofs.kind.Tie as tie
 
 returns : tie.Need-returns
 unfolding kindOf

@@ -12,15 +12,15 @@ use lib.ListN.{drop}
 use Rattle.theory.specs.Bools.{_or_}
 use Rattle.theory.specs.BoolsLaws.{or-left, or-right}
 use Rattle.theory.specs.Game.{edgeCount}
 use Rattle.table.specs.Limits.{vertexLimit}
 use Rattle.table.specs.Table.{vertexCount, tableEdges, gameOf}
 use Rattle.table.specs.Verdict.{Answer, accepted, refused, judge}
 use Rattle.table.specs.VerdictLaws.{judge-hit, judge-next}
 use Rattle.table.specs.Reading.{gameRowsBy, gameRows, readAnswer}
 use Rattle.table.specs.Flags.{Sized, EndsInside}
 use Rattle.table.specs.FlagsLaws.{ends-inside}
-use Rattle.table.proofs.read.Statement.{statement}
-use Rattle.table.proofs.read.Tie as tie
+use Rattle.reader.proofs.read.Statement.{statement}
+use Rattle.reader.proofs.read.Tie as tie
 
 -- what the rows after the first k say
 abbrev rest : List ℕ → ℕ → Answer

@@ -5,8 +5,8 @@ use native.Mathlib.Nat.{le-of-eq}
 use lib.ListN.{length-replicate}
 use Rattle.table.specs.Limits.{pairWords}
 use Rattle.table.specs.FlagsLaws.{filled}
-use Rattle.table.proofs.reader.count_different.Statement.{statement}
-use Rattle.table.proofs.reader.count_different.Tie as tie
+use Rattle.table.proofs.searches.count_different.Statement.{statement}
+use Rattle.table.proofs.searches.count_different.Tie as tie
 
 slice-aggregate-flag-edges : tie.Need-slice-aggregate-flag-edges
 slice-aggregate-flag-edges c = sym (length-replicate {A = ℕ} pairWords 0)
