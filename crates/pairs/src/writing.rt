@@ -5,6 +5,7 @@ ghost use mathlib.Core.Path.{_≡_};
 ghost use Prim.Native.Nat.{_+_, _*_, _/_, _%_, _^_, _<_, _≤_};
 ghost use lib.ListN.{length};
 ghost use Rattle.table.specs.Limits.{vertexLimit, pairLimit};
+ghost use Rattle.word.specs.Word.{wordBits};
 ghost use Rattle.bits.specs.Bits.{rowWords};
 ghost use Rattle.pairs.specs.Marks.{bytesFor, marksLength};
 ghost use Rattle.pairs.specs.Writing.{begunByte, BitsWritten, RowWritten, RowsWritten, Copied};
@@ -47,7 +48,7 @@ fn write_whole(marks: &mut [u8], at: usize, word: u64, count: usize) -> u64
 }
 
 // Writes the first `count` bits of a word as marks, from mark `at` on: what is left of at's byte, whole bytes, the rest.
-fn write_bits(marks: &mut [u8], at: usize, word: u64, count: usize)
+fn write_parts(marks: &mut [u8], at: usize, word: u64, count: usize)
     requires { ⌜ (at + count ≤ pairLimit) × (bytesFor (at + count) ≤ length (now marks)) ⌝ }
     ensures { λ r. ⌜ BitsWritten word at count (now (marks .entry)) (now (marks .exit)) ⌝ }
 {
@@ -61,6 +62,35 @@ fn write_bits(marks: &mut [u8], at: usize, word: u64, count: usize)
     let rest = write_whole(marks, at + gap, word >> gap, whole);
     let done = gap + 8 * whole;
     write_part(marks, at + done, rest, count - done);
+}
+
+// Writes all 64 bits of a word as marks, from mark `at` on, the first of a byte. The stores stand one by one, so that the compiler joins them.
+fn write_word(marks: &mut [u8], at: usize, word: u64)
+    requires { ⌜ (at % 8 ≡ 0) × (at / 8 + 8 ≤ length (now marks)) ⌝ }
+    ensures { λ r. ⌜ BitsWritten word at wordBits (now (marks .entry)) (now (marks .exit)) ⌝ }
+{
+    let first = at / 8;
+    marks[first + 0] = ((word >> 0) & 255) as u8;
+    marks[first + 1] = ((word >> 8) & 255) as u8;
+    marks[first + 2] = ((word >> 16) & 255) as u8;
+    marks[first + 3] = ((word >> 24) & 255) as u8;
+    marks[first + 4] = ((word >> 32) & 255) as u8;
+    marks[first + 5] = ((word >> 40) & 255) as u8;
+    marks[first + 6] = ((word >> 48) & 255) as u8;
+    marks[first + 7] = ((word >> 56) & 255) as u8;
+}
+
+// Writes the first `count` bits of a word as marks, from mark `at` on.
+fn write_bits(marks: &mut [u8], at: usize, word: u64, count: usize)
+    requires { ⌜ (count ≤ wordBits) × (at + count ≤ pairLimit) × (bytesFor (at + count) ≤ length (now marks)) ⌝ }
+    ensures { λ r. ⌜ BitsWritten word at count (now (marks .entry)) (now (marks .exit)) ⌝ }
+{
+    // all of the word, at the start of a byte
+    if at % 8 + 64 == count {
+        write_word(marks, at, word);
+        return;
+    }
+    write_parts(marks, at, word, count);
 }
 
 // Writes row v of n.

@@ -58,7 +58,7 @@ write-bits-requires : tie.Need-write-bits-requires Inv-loop μ-loop
 write-bits-requires c κs = let l = c .before .before .before .before in
     let e = c .before .before .end-of .ensures in
     let t = c .before .before .before .loop-test .taken in
-    let s = start l in (omega (arith, e, t, inside s), omega (arith, e, t, inside s, s .pre .3, l .loop .inv .2))
+    let s = start l in (omega (arith, e, t), omega (arith, e, t, inside s), omega (arith, e, t, inside s, s .pre .3, l .loop .inv .2))
 
 loop-less : tie.Need-loop-less Inv-loop μ-loop
 loop-less c = omega (arith, c .before .before .before .before .before .end-of .ensures, c .before .before .before .before .before .before .loop-test .taken)
