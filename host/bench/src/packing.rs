@@ -1,7 +1,8 @@
-//! What it costs to pack the marks, beside the order.
+//! What it costs to pack the marks, beside all else that the order's call does.
 //!
-//! Packing goes by the number of vertices alone. The baseline tells its own exactly. The library's isn't to be had
-//! alone; but the order of a ring takes one pass that loses nothing, so what it takes after reading bounds it.
+//! Packing goes by the number of vertices alone. The baseline's is timed by itself. The library's can't be called
+//! alone: it is what the order of a ring takes, whose one pass loses nothing, less reading and less the baseline's
+//! rows of the ring. Where the library's rows take longer than the baseline's, that is too much, and never too little.
 
 use crate::rows::{Row, Work};
 use crate::{baseline, measure};
@@ -11,8 +12,8 @@ use raskjomi::mark_bytes;
 use std::collections::BTreeMap;
 use std::time::Duration;
 
-/// The library's best time for the order of a game, without reading it.
-fn order_time(game: &[u16]) -> Duration {
+/// The library's best times for the order of a game, and for reading it.
+fn library_times(game: &[u16]) -> [Duration; 2] {
     let bytes = mark_bytes(game[0] as usize);
     let (mut marks, mut spare) = (vec![7; bytes], vec![7; bytes]);
     let mut call = |side: usize| match side {
@@ -20,15 +21,14 @@ fn order_time(game: &[u16]) -> Duration {
         _ => exports::read(game),
     };
     let first = [0, 1].map(|side| measure::timed(|| call(side)).1);
-    let [order, read] = measure::best_times(first, call);
-    order.saturating_sub(read)
+    measure::best_times(first, call)
 }
 
-/// The baseline's best times for the rows of the order, and for packing them.
-fn baseline_times(game: &[u16]) -> [Duration; 2] {
+/// The baseline's best times for reading a game, for the rows of its order, and for packing them.
+fn baseline_times(game: &[u16]) -> [Duration; 3] {
     let bytes = mark_bytes(game[0] as usize);
     let (mut marks, mut spare) = (vec![7; bytes], vec![7; bytes]);
-    let mut best = [Duration::MAX; 2];
+    let mut best = [Duration::MAX; 3];
     let call = |_: usize| {
         let times = baseline::timed_order(game, &mut marks, &mut spare);
         for (best, time) in best.iter_mut().zip(times) {
@@ -40,30 +40,46 @@ fn baseline_times(game: &[u16]) -> [Duration; 2] {
     best
 }
 
-/// A line for each game whose reduction is measured and that has 256 vertices or more, and the largest ratio.
+/// What the library takes at most to pack the marks of n vertices.
+fn library_packing(n: u16) -> Duration {
+    let ring = ring(n as usize).words();
+    let [order, read] = library_times(&ring);
+    order.saturating_sub(read + baseline_times(&ring)[1])
+}
+
+/// A line for each game whose reduction is measured and that has 256 vertices or more, and the largest ratios.
 pub fn show(rows: &[Row]) {
-    println!("\npacking                    n     m   library: order at most  ratio   bit rows: rows     packing  ratio");
-    let (mut bounds, mut largest) = (BTreeMap::new(), 0f64);
+    println!(
+        "\n{:23} {:>4} {:>5} {:>11} {:>11} {:>6} {:>11} {:>11} {:>6}",
+        "packing",
+        "n",
+        "m",
+        "library µs",
+        "packing µs",
+        "ratio",
+        "bit rows µs",
+        "packing µs",
+        "ratio"
+    );
+    let (mut packing, mut largest) = (BTreeMap::new(), [0f64; 2]);
     let reduced = rows.iter().filter(|row| matches!(row.work, Work::Reduce) && row.game[0] >= 256);
     for Row { name, game, .. } in reduced {
         let n = game[0];
-        let ring = |n: u16| order_time(&ring(n as usize).words());
-        let bound = *bounds.entry(n).or_insert_with(|| ring(n));
-        let order = order_time(game);
-        let [rows, packing] = baseline_times(game);
-        let micros = |time: Duration| time.as_secs_f64() * 1e6;
-        let [share, exact] = [micros(bound) / micros(order), micros(packing) / micros(rows)];
+        let packed = *packing.entry(n).or_insert_with(|| library_packing(n));
+        let [read, rows, packed_rows] = baseline_times(game);
+        let both =
+            [[library_times(game)[0].saturating_sub(packed), packed], [read + rows, packed_rows]];
+        let [library, baseline] = both.map(|times| times.map(|time| time.as_secs_f64() * 1e6));
+        let ratios = [library, baseline].map(|[order, packing]| packing / order);
         println!(
-            "{name:23} {n:>4} {:>5} {:>16.1} {:>7.1} {share:>6.2} {:>16.1} {:>11.1} {exact:>6.2}",
-            game[1],
-            micros(order),
-            micros(bound),
-            micros(rows),
-            micros(packing)
+            "{name:23} {n:>4} {:>5} {:>11.1} {:>11.1} {:>6.2} {:>11.1} {:>11.1} {:>6.2}",
+            game[1], library[0], library[1], ratios[0], baseline[0], baseline[1], ratios[1]
         );
-        largest = largest.max(exact);
+        largest = [0, 1].map(|side| largest[side].max(ratios[side]));
     }
+    let [library, baseline] = largest;
     println!(
-        "packing beside the rows of the order, less than 1 asked: {largest:.2} in the bit rows"
+        "packing beside the rest of the order, less than 1 asked: at most {library:.2} in the library, \
+         {baseline:.2} in the bit rows"
     );
 }

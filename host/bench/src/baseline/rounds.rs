@@ -3,7 +3,7 @@
 
 use super::bits::{Row, Rows};
 use super::game::Game;
-use super::{packing, EDGES, STARTS, VERTICES};
+use super::{packing, reader, EDGES, STARTS, VERTICES};
 use std::hint::black_box;
 use std::time::{Duration, Instant};
 
@@ -23,18 +23,19 @@ fn write(mut rounds: Rounds, game: &Game, marks: &mut [u8], spare: &mut [u8]) ->
     passes
 }
 
-/// The order of an accepted table, into buffers of the exact length: how long its rows take, and how long
-/// packing them into the two buffers does.
-pub fn timed(table: &[u16], marks: &mut [u8], spare: &mut [u8]) -> [Duration; 2] {
+/// The order of an accepted table, into buffers of the exact length: how long reading takes, how long the rows
+/// take, and how long packing them into the two buffers does.
+pub fn timed(table: &[u16], marks: &mut [u8], spare: &mut [u8]) -> [Duration; 3] {
     let start = Instant::now();
-    let (n, m) = (table[0] as usize, table[1] as usize);
+    let (n, m) = reader::read(table).expect("an accepted table");
+    let read = start.elapsed();
     let (mut starts, mut places) = ([0; STARTS], [0; EDGES]);
     let game = Game::new(table, n, m, &mut starts, &mut places);
     let mut rounds = Rounds::start(&game, false);
     black_box(rounds.passes());
     let rows = start.elapsed();
     rounds.write(n, marks, spare);
-    [rows, start.elapsed() - rows]
+    [read, rows - read, start.elapsed() - rows]
 }
 
 /// The rows of a game and of its marks.
