@@ -1,7 +1,7 @@
 -- Laws of the connectives and of bits: how a test is shown (`-in`) and used (`-out`).
 use mathlib.Core.Path.{_≡_, refl, sym, _∙_}
 use mathlib.Core.Logic.{_⊎_, inl, inr, _↔_, ⊎-elim}
-use mathlib.Core.Bool.{Bool, true, false, not, So, cond, true≢false, false≢true}
+use mathlib.Core.Bool.{Bool, true, false, not, So, true≢false, false≢true}
 use Prim.Native.Nat.{ℕ, _+_, _≤_, _<_, zero-le}
 use native.Mathlib.Nat.{le-refl}
 use native.Mathlib.Omega.{arith}
@@ -170,17 +170,6 @@ unfolding bit
 bit-le true = omega arith
 bit-le false = omega arith
 
--- as a choice of flags
-pub bit-cond : (b : Bool) → cond b 1 0 ≡ bit b
-unfolding bit
-bit-cond true = refl
-bit-cond false = refl
-
-pub bit-not : (b : Bool) → cond b 0 1 ≡ bit (not b)
-unfolding bit
-bit-not true = refl
-bit-not false = refl
-
 -- a test holds or fails
 pub bit-either : (b : Bool) → bit b + bit (not b) ≡ 1
 unfolding bit
@@ -192,11 +181,6 @@ pub bit-is-one : (b : Bool) → eqb (bit b) 1 ≡ b
 unfolding bit
 bit-is-one true = refl
 bit-is-one false = refl
-
-pub bit-is-zero : (b : Bool) → eqb (bit b) 0 ≡ not b
-unfolding bit
-bit-is-zero true = refl
-bit-is-zero false = refl
 
 pub bit-is-some : (b : Bool) → leb 1 (bit b) ≡ b
 unfolding bit
