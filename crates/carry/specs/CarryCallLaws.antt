@@ -1,7 +1,7 @@
 -- The promises of the two calls at each way out.
 use mathlib.Core.Path.{_≡_, refl, sym, ap, _∙_}
 use mathlib.Core.Bool.{true, false}
-use mathlib.Core.List.{List, [], _∷_, _++_, append-nil}
+use mathlib.Core.List.{List, [], _∷_, _++_}
 use Prim.Native.Nat.{ℕ, _≤_}
 use native.Mathlib.Omega.{arith}
 use lib.ListN.{length}
@@ -31,6 +31,7 @@ use Rattle.reduction.specs.declared.TableCounts.{TableCounts}
 use Rattle.links.specs.PlanFormed.{WordsPass}
 use Rattle.plan.specs.Acceptance.{planRows}
 use Rattle.plan.specs.AcceptanceLaws.{clean-words}
+use Rattle.plan.specs.NumbersLaws.{recount}
 use Rattle.arrival.specs.PlanWords.{planWords, planCounts}
 use Rattle.carry.specs.CarryCall.{carriedTo, judgedRows, carryRows, CarryCall, carriedFromClass, carryClassRows, CarryClassCall}
 use Rattle.arrival.specs.Arrival.{neededBy, carriedBy, arrivalRows, Arrived, planVertices, Carriable}
@@ -67,10 +68,6 @@ module _ (game : List ℕ) (player : ℕ) (plan : List ℕ) (well : WellFormed g
   class-can e =
       let w = plan-passed (classTable reduced game) player plan (reduced-well game well) e in
       (record { well = well; formed = w .formed; ordered = ordered }, w .number)
-
--- a refusal goes by the rows alone
-recount : (rows : List Row) (counts given : List ℕ) {k p : ℕ} → judge rows counts ≡ refused k p → judge rows given ≡ refused k p
-recount rows counts given {k} {p} e = ap (λ (rs : List Row). judge rs given) (sym (append-nil rows)) ∙ judge-stays rows [] counts given k p e
 
 -- ---- the plan is on the game itself
 

@@ -6,7 +6,7 @@ use mathlib.Core.Bool.{So}
 use mathlib.Core.List.{List, [], _∷_}
 use Prim.Native.Nat.{ℕ, _+_, _*_, _≤_, _<_}
 use native.Mathlib.Omega.{arith}
-use lib.ListN.{length, getD}
+use lib.ListN.{length, drop, getD, length-append}
 use lib.Seq.{take-at}
 use Rattle.theory.specs.Range.{Before}
 use Rattle.theory.specs.ListLaws.{length-tabulate, getD-tabulate}
@@ -21,7 +21,7 @@ use Rattle.theory.specs.KeptWinners as games
 use Rattle.theory.specs.AgreementLaws.{agree-winner, agree-sym, agree-edgeCount}
 use Rattle.table.specs.Limits.{vertexLimit, edgeLimit}
 use Rattle.table.specs.Table.{vertexCount, tableEdges, sourceAt, targetAt, tableLength, gameOf}
-use Rattle.table.specs.Verdict.{Row, Answer, accepted, Clean, written}
+use Rattle.table.specs.Verdict.{Row, Answer, accepted, Clean, written, after}
 use Rattle.table.specs.VerdictLaws.{judge-accepted, after-clean, getD-written}
 use Rattle.table.specs.Reading.{readAnswer}
 use Rattle.table.specs.ReadingLaws.{read-accepts}
@@ -99,7 +99,18 @@ module _ {game : List ℕ} {rows : List Row} {old new : List ℕ} (left : Leaves
   unfolding gameOf
   odd-down v w hv hw b = games.odd-down (gameOf game) v w hv hw (written-mark v w hv hw .0 b)
 
+-- ---- what is written stands whole in its buffer
+
+written-long : (rows : List Row) (words old : List ℕ) {new : List ℕ} → new ≡ after rows words old → Clean rows → length words ≤ length new
+unfolding written
+written-long rows words old e passed = rw (e, after-clean rows words old passed) (omega (arith, length-append words (drop (length words) old)))
+
 -- ---- the written classes: the class word of a vertex is its class
+
+pub class-long : {game : List ℕ} {rows : List Row} {old new : List ℕ} → LeavesClasses game rows old new → Clean rows → vertexCount game ≤ length new
+unfolding classWords
+class-long {game} {rows} {old} left passed =
+    omega (arith, length-tabulate (vertexCount game) (classOf (gameOf game)), written-long rows (classWords game) old (left .words) passed)
 
 pub class-word : {game : List ℕ} {rows : List Row} {old new : List ℕ} → LeavesClasses game rows old new → Clean rows
     → (v : ℕ) → v < vertexCount game → getD new v 0 ≡ classOf (gameOf game) v
@@ -140,17 +151,23 @@ module _ {K : Game → Game} (faithful : Faithful K)
   edges-are : length es ≡ e
   edges-are = length-edgesOf (K G) ∙ counts .edges
 
-  passed : Clean (tableRows game marks spare classes output)
+  pub passed : Clean (tableRows game marks spare classes output)
   passed = judge-accepted (tableRows game marks spare classes output) _ _ (sym (call .verdict) ∙ accepts) .0
 
   well : WellFormed game
   well = table-accepted call _ accepts .0 .classesFit .orderFits .game
 
+  size-is : length (tableWords (K G) es) ≡ tableLength n e
+  size-is = length-tableWords (K G) es ∙ ap₂ {C = ℕ} tableLength (counts .vertices) edges-are
+
   pub table-is : writtenTable n e output′ ≡ tableWords (K G) es
   unfolding written
   table-is =
       rw (call .output-after, after-clean (tableRows game marks spare classes output) (tableWords (K G) es) output passed)
-      (take-at (tableWords (K G) es) _ (tableLength n e) (length-tableWords (K G) es ∙ ap₂ {C = ℕ} tableLength (counts .vertices) edges-are))
+      (take-at (tableWords (K G) es) _ (tableLength n e) size-is)
+
+  pub table-long : tableLength n e ≤ length output′
+  table-long = omega (arith, size-is, written-long (tableRows game marks spare classes output) (tableWords (K G) es) output (call .output-after) passed)
 
   vertex : (v : ℕ) → v < vertexCount game → v < G .n
   unfolding gameOf

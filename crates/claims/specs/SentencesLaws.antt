@@ -17,8 +17,9 @@ use Rattle.order.specs.OrderCall.{orderRows, passesAnswer, orderingAnswer, Orde
 use Rattle.relation.specs.RelationCall.{relationAnswer}
 use Rattle.classes.specs.ClassesCall.{classRows, totalAnswer, ClassesCall}
 use Rattle.reduction.specs.TableCall.{tableRows, tableCounts, TableCall}
+use Rattle.plan.specs.NumbersLaws.{Numbers, numbers-append, game-numbers, passed-first}
 use Rattle.carry.specs.CarryCall.{judgedRows, carryRows, CarryCall, carryClassRows, CarryClassCall}
-use Rattle.carry.specs.CarryMemoryLaws.{Numbers, numbers-append, game-numbers, passed-first, carry-passed, carry-class-passed}
+use Rattle.carry.specs.CarryMemoryLaws.{carry-passed, carry-class-passed}
 use Rattle.carry.specs.WrittenPlanLaws.{carry-wins, carry-class-wins}
 use Rattle.edges.specs.Buffer.{bufferRows}
 use Rattle.edges.specs.Edges.{edited, changeRows, editRows}
@@ -48,7 +49,7 @@ order-sentences : {game : List ℕ} {rows : List Row} {old new : List ℕ} → L
 order-sentences left clean = record { contains = demands.contains left clean; even-up = demands.even-up left clean; odd-down = demands.odd-down left clean }
 
 -- what follows from what holds
-once-map : {After : ℕ → Type 0} {answer : Answer} {P Q : Type 0} → OnceWritten After answer P → (P → Q) → OnceWritten After answer Q
+pub once-map : {After : ℕ → Type 0} {answer : Answer} {P Q : Type 0} → OnceWritten After answer P → (P → Q) → OnceWritten After answer Q
 once-map o f = record { accepts = λ counts e. f (o .accepts counts e); refuses = λ k p e h. f (o .refuses k p e h) }
 
 pub orders : {game marks spare : List ℕ} {answer : Answer} {marks′ spare′ : List ℕ} → OrderCall game marks spare answer marks′ spare′

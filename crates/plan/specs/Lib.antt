@@ -6,3 +6,4 @@ pub mod AnswerLaws
 pub mod AcceptanceLaws
 pub mod WinningLaws
 pub mod SamePlanLaws
+pub mod NumbersLaws
