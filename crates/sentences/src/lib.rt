@@ -9,6 +9,7 @@ use classes::Classification;
 use order::Ordering;
 use reduction::Tabulation;
 use replay::Replaying;
+use verdict::Verdict;
 ghost use Rattle.theory.specs.Reduction.{quotient, reduced};
 ghost use Rattle.order.specs.OrderCall.{orderingAnswer};
 ghost use Rattle.classes.specs.ClassesCall.{classificationAnswer};
@@ -18,6 +19,8 @@ ghost use Rattle.carry.specs.CarryCall.{classCarryingAnswer};
 ghost use Rattle.edges.specs.declared.Edit.the-variants.{Arrival, Leaving};
 ghost use Rattle.claims.specs.Sentences.{Orders, Classifies, Tabulates, Contains, Carries, CarriesClass, Edits, Previews, Replays};
 ghost use Rattle.claims.specs.GovernedSentences.{Governs, GovernsClasses};
+ghost use Rattle.verdict.specs.VerdictCall.{verdictAnswer};
+ghost use Rattle.verdict.specs.Verdicts.{Verdicts};
 
 // Judges a relation, then writes the order.
 pub fn contains(game: &[u16], relation: &[u8], marks: &mut [u8], spare: &mut [u8]) -> Containment
@@ -206,4 +209,20 @@ pub fn governs_classes(
     ensures { λ r. ⌜ GovernsClasses (now (game .entry)) (now (marks .entry)) (now (spare .entry)) (now (classes .entry)) (classificationAnswer r) (now (marks .exit)) (now (spare .exit)) (now (classes .exit)) ⌝ }
 {
     governed::write_governed_classes(game, marks, spare, classes)
+}
+
+// Gives a verdict.
+pub fn gives_verdict(
+    game: &[u16],
+    vertex: u32,
+    player: u32,
+    plan: &[u16],
+    marks: &mut [u8],
+    spare: &mut [u8],
+    classes: &mut [u16],
+    reduction: &mut [u16],
+) -> Verdict
+    ensures { λ r. ⌜ Verdicts (now (game .entry)) vertex player (now (plan .entry)) (now (marks .entry)) (now (spare .entry)) (now (classes .entry)) (now (reduction .entry)) (verdictAnswer r) (now (marks .exit)) (now (spare .exit)) (now (classes .exit)) (now (reduction .exit)) ⌝ }
+{
+    verdict::give_verdict(game, vertex, player, plan, marks, spare, classes, reduction)
 }

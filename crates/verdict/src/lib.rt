@@ -1,0 +1,75 @@
+// The verdict desk: whether a plan on the reduced game shows that a player wins at a vertex of the game. The crate calls the reduction and the
+// plan acceptor, and concludes from their promises and the transfer of winners alone.
+use plan::accept_plan;
+use reduction::TableCounts;
+use reduction::Tabulation;
+use reduction::write_reduced;
+use table::Acceptance;
+use table::Reading;
+use table::Refusal;
+use table::refusal_of;
+ghost use mathlib.Core.Path.{_≡_};
+ghost use Rattle.verdict.specs.VerdictCall.{verdictAnswer, startAnswer, VerdictCall};
+
+// What is confirmed of a player and a vertex. Wins and NotShown carry the number of classes and the reduced game's vertices and edges.
+pub enum Verdict {
+    Wins(TableCounts),
+    NotShown(TableCounts),
+    Refused(Refusal),
+}
+
+// Judges the game, the vertex and the memory, writes the order, the classes and the reduced game, and judges a plan on the reduced game: the
+// player wins at the vertex if the plan passes and starts at the vertex's class. A plan that passes and starts elsewhere shows nothing.
+pub fn give_verdict(
+    game: &[u16],
+    vertex: u32,
+    player: u32,
+    plan: &[u16],
+    marks: &mut [u8],
+    spare: &mut [u8],
+    classes: &mut [u16],
+    reduction: &mut [u16],
+) -> Verdict
+    ensures { λ r. ⌜ VerdictCall (now (game .entry)) vertex player (now (plan .entry)) (now (marks .entry)) (now (spare .entry)) (now (classes .entry)) (now (reduction .entry)) (verdictAnswer r) (now (marks .exit)) (now (spare .exit)) (now (classes .exit)) (now (reduction .exit)) ⌝ }
+{
+    let reading = reader::read(game);
+    let Reading::Accepted(sizes) = reading else {
+        return Verdict::Refused(refusal_of(reading));
+    };
+    let v = vertex as usize;
+    if sizes.vertices <= v {
+        return Verdict::Refused(Refusal {
+            number: 33,
+            place: v,
+        });
+    }
+    let written = write_reduced(game, marks, spare, classes, reduction);
+    match written {
+        Tabulation::Accepted(counts) => {
+            let size = 2 + 2 * counts.vertices + 2 * counts.edges;
+            judge_reduced(&reduction[..size], player, plan, classes[v], counts)
+        }
+        Tabulation::Refused(refusal) => Verdict::Refused(refusal),
+    }
+}
+
+// The plan acceptor on the table of the reduced game, and whether the plan starts at the class.
+fn judge_reduced(
+    reduced: &[u16],
+    player: u32,
+    plan: &[u16],
+    class: u16,
+    counts: TableCounts,
+) -> Verdict
+    ensures { λ r. ⌜ verdictAnswer r ≡ startAnswer (now (reduced .entry)) player (now (plan .entry)) class counts ⌝ }
+{
+    let judged = accept_plan(reduced, player, plan);
+    if let Acceptance::Refused(refusal) = judged {
+        return Verdict::Refused(refusal);
+    }
+    if plan[2] == class {
+        Verdict::Wins(counts)
+    } else {
+        Verdict::NotShown(counts)
+    }
+}
