@@ -27,6 +27,7 @@ counted passes classes vertices edges different positions links =
       links = links;
       entries = 0;
       place = 0;
+      shown = 0;
     }
 
 -- the answer of a refused call
@@ -43,6 +44,7 @@ turnedDown number place =
       links = 0;
       entries = 0;
       place = place;
+      shown = 0;
     }
 
 -- the reader: n, m and the different edges
@@ -99,6 +101,7 @@ withEntries entries answer =
       links = answer .links;
       entries = entries;
       place = answer .place;
+      shown = answer .shown;
     }
 
 -- a trace that is replayed: the classes, the final table's vertices and edges, and the entries done, with a refusal too

@@ -21,7 +21,7 @@ ghost use Rattle.carry.specs.CarryCall.{classCarryingAnswer};
 ghost use Rattle.answer.specs.Fields.{counted, turnedDown, readFields, orderFields, acceptFields, classesFields, tableFields, fillFields, carryFields, classCarryFields, replayFields, SmallSizes, SmallFilling, SmallCount, SmallCounts, SmallCarrying, SmallClassCarrying, SmallReplaying};
 
 // Number 0 for accepted, with the counts of the call; otherwise the refusal. All other fields are 0, but that a replay tells its entries with a
-// refusal too.
+// refusal too. `shown` is 1 where the desk says "wins".
 #[repr(C)]
 pub struct RaskjomiAnswer {
     pub number: u32,
@@ -34,6 +34,7 @@ pub struct RaskjomiAnswer {
     pub links: u32,
     pub entries: u32,
     pub place: usize,
+    pub shown: u32,
 }
 
 fn accepted(
@@ -58,6 +59,7 @@ fn accepted(
         links,
         entries: 0,
         place: 0,
+        shown: 0,
     }
 }
 
@@ -75,6 +77,7 @@ fn refused(refusal: Refusal) -> RaskjomiAnswer
         links: 0,
         entries: 0,
         place: refusal.place,
+        shown: 0,
     }
 }
 
@@ -207,5 +210,6 @@ pub fn of_replaying(replaying: Replaying) -> RaskjomiAnswer
         links: answer.links,
         entries: replaying.entries as u32,
         place: answer.place,
+        shown: answer.shown,
     }
 }

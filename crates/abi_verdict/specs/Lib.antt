@@ -1,0 +1,2 @@
+pub mod VerdictExport
+pub mod VerdictExportLaws
