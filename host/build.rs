@@ -5,7 +5,7 @@ mod rattle;
 use std::path::PathBuf;
 
 /// The crates of exports, each with an archive of its own.
-const ARCHIVES: [&str; 4] = ["abi", "abi_carry", "abi_governed", "abi_edit"];
+const ARCHIVES: [&str; 5] = ["abi", "abi_carry", "abi_governed", "abi_edit", "abi_verdict"];
 
 fn main() {
     let host = PathBuf::from(std::env::var("CARGO_MANIFEST_DIR").expect("cargo names the folder"));

@@ -7,7 +7,7 @@
 
 /// An export's answer. Number 0 is "accepted", with the counts that belong to the call; any other
 /// number is a refusal with its place. All other fields are 0, but that [`replay`] tells its entries with
-/// a refusal too.
+/// a refusal too. `shown` is 1 where [`verdict`] confirms that the player wins.
 #[repr(C)]
 #[derive(Clone, Copy, Debug, Default, PartialEq, Eq)]
 pub struct RaskjomiAnswer {
@@ -21,6 +21,7 @@ pub struct RaskjomiAnswer {
     pub links: u32,
     pub entries: u32,
     pub place: usize,
+    pub shown: u32,
 }
 
 #[rustfmt::skip]
@@ -79,6 +80,15 @@ extern "C" {
         classes: *mut u16, classes_len: usize,
         reduction: *mut u16, reduction_len: usize,
         output: *mut u16, output_len: usize,
+    ) -> RaskjomiAnswer;
+    fn raskjomi_verdict(
+        game: *const u16, game_len: usize,
+        vertex: u32, player: u32,
+        plan: *const u16, plan_len: usize,
+        marks: *mut u8, marks_len: usize,
+        spare: *mut u8, spare_len: usize,
+        classes: *mut u16, classes_len: usize,
+        reduction: *mut u16, reduction_len: usize,
     ) -> RaskjomiAnswer;
     fn raskjomi_seed(
         seed: u32, vertices: u32, degree: u32, priorities: u32,
@@ -241,6 +251,24 @@ pub fn carry_class(
     call!(
         raskjomi_carry_class; shared game then player, plan then vertex;
         lent marks, spare, classes, reduction, output
+    )
+}
+
+/// The verdict desk.
+#[allow(clippy::too_many_arguments)]
+pub fn verdict(
+    game: &[u16],
+    vertex: u32,
+    player: u32,
+    plan: &[u16],
+    marks: &mut [u8],
+    spare: &mut [u8],
+    classes: &mut [u16],
+    reduction: &mut [u16],
+) -> RaskjomiAnswer {
+    call!(
+        raskjomi_verdict; shared game then vertex and player, plan;
+        lent marks, spare, classes, reduction
     )
 }
 

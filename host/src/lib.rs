@@ -7,12 +7,12 @@
 //! n priorities, n owners (0 [`EVEN`], 1 [`ODD`]), m sources and m targets. An edge may stand there
 //! several times; it counts as one, though m and all lengths count it each time. The library judges
 //! such tables, writes their direct simulation order, classes, quotient and reduced game, judges
-//! foreign relations and winning plans, carries a plan to another vertex, draws games by a seed,
-//! converts games where the highest priority decides, adds and removes edges, previews that, and replays
-//! traces of such edits. It also writes and judges governed bisimulations, a finer relation than the order.
-//! Every call works in memory that the caller lends, of any length and content. docs/CONTRACT.md in
-//! the repository has the definitions, each call's checks in order, every refusal, and what each buffer
-//! holds afterwards.
+//! foreign relations and winning plans, carries a plan to another vertex, gives a verdict on a player and
+//! a vertex by a plan on the reduced game, draws games by a seed, converts games where the highest
+//! priority decides, adds and removes edges, previews that, and replays traces of such edits. It also
+//! writes and judges governed bisimulations, a finer relation than the order. Every call works
+//! in memory that the caller lends, of any length and content. docs/CONTRACT.md in the repository has the
+//! definitions, each call's checks in order, every refusal, and what each buffer holds afterwards.
 //!
 //! ```
 //! // Three vertices with priorities 0, 1, 0 and owners Even, Even, Odd, and an edge from each to 1.
@@ -112,6 +112,18 @@ pub struct Replay {
     pub verdict: Result<Edited, Refusal>,
     /// The number of entries done; 0 where the replay didn't begin.
     pub entries: usize,
+}
+
+/// What the verdict desk answers. The size is the reduced game's, whose vertices are the classes.
+#[derive(Clone, Copy, Debug, PartialEq, Eq)]
+pub enum Verdict {
+    /// The player wins at the vertex: there is a winning plan from it in the game.
+    Wins(Size),
+    /// The plan wins for the player, but from another class than the vertex's. Who wins at the vertex is
+    /// left open.
+    NotShown(Size),
+    /// The game, the vertex, the memory or the plan is turned down.
+    Refused(Refusal),
 }
 
 /// The answer if it accepts, else its refusal.
@@ -359,6 +371,55 @@ pub fn carry_class(
     let answer =
         exports::carry_class(game, player, plan, vertex, marks, spare, classes, reduction, output);
     verdict(answer).map(|answer| (written(answer), carried(answer)))
+}
+
+/// Gives a verdict on a player and a vertex by a plan on the reduced game: the player wins at `vertex` if the
+/// plan passes [`accept_plan`] there and starts at the vertex's class; then the player has a winning plan from
+/// `vertex` in the game itself. A plan that passes and starts at another class shows nothing, even where the
+/// classes compare. Order, classes and the reduced game are written as [`reduce`] does, the latter into
+/// `reduction`, before the plan is judged; they stay where the plan is refused.
+///
+/// ```
+/// use raskjomi::{Refusal, Verdict};
+/// // Vertices 0 and 5 share class 0.
+/// let game = [
+///     6, 8, 2, 0, 0, 1, 4, 2, 0, 0, 0, 0, 0, 0, 0, 0, 1, 2, 2, 3, 4, 5, 1, 2, 3, 3, 4, 3, 4, 2,
+/// ];
+/// let size = raskjomi::read(&game)?;
+/// let (mut marks, mut spare) = (vec![0; size.marks()], vec![0; size.marks()]);
+/// let (mut classes, mut reduction) = (vec![0; size.vertices], vec![0; size.words()]);
+/// // From class 0 to class 2 to class 4, and round there.
+/// let plan = [3, 3, 0, 2, 4, 0, 1, 2, 1, 2, 2];
+/// let mut at = |vertex, player| {
+///     raskjomi::give_verdict(
+///         &game, vertex, player, &plan, &mut marks, &mut spare, &mut classes, &mut reduction,
+///     )
+/// };
+/// let Verdict::Wins(reduced) = at(5, raskjomi::EVEN) else { panic!("Even wins at 5") };
+/// assert_eq!((reduced.vertices, reduced.edges), (5, 6));
+/// // Even wins at 2 as well, but this plan starts at another class.
+/// assert!(matches!(at(2, raskjomi::EVEN), Verdict::NotShown(_)));
+/// assert_eq!(at(5, raskjomi::ODD), Verdict::Refused(Refusal { number: 15, place: 1 }));
+/// assert_eq!(at(6, raskjomi::EVEN), Verdict::Refused(Refusal { number: 33, place: 6 }));
+/// # Ok::<(), Refusal>(())
+/// ```
+#[allow(clippy::too_many_arguments)]
+pub fn give_verdict(
+    game: &[u16],
+    vertex: u32,
+    player: u32,
+    plan: &[u16],
+    marks: &mut [u8],
+    spare: &mut [u8],
+    classes: &mut [u16],
+    reduction: &mut [u16],
+) -> Verdict {
+    let answer = exports::verdict(game, vertex, player, plan, marks, spare, classes, reduction);
+    match verdict(answer) {
+        Ok(answer) if answer.shown == 1 => Verdict::Wins(written(answer)),
+        Ok(answer) => Verdict::NotShown(written(answer)),
+        Err(refusal) => Verdict::Refused(refusal),
+    }
 }
 
 /// Draws a game by the seed, the same on every machine, and writes its table into the output: so many

@@ -4,7 +4,8 @@ use crate::exports;
 use std::fmt;
 
 /// A call turned its input, or the memory lent to it, down. All lent memory has its old content, but for
-/// what [`carry`](crate::carry()) and [`carry_class`](crate::carry_class()) say of theirs.
+/// what [`carry`](crate::carry()), [`carry_class`](crate::carry_class()) and
+/// [`give_verdict`](crate::give_verdict()) say of theirs.
 #[derive(Clone, Copy, Debug, PartialEq, Eq)]
 pub struct Refusal {
     /// Which condition failed.
@@ -261,9 +262,10 @@ const SEED: [Explanation; 2] = [
 
 const CARRY: [Explanation; 3] = [
     row(
-        "the vertex isn't there, or isn't in the order that the plan's start needs",
+        "the vertex isn't there, or, to carry a plan, isn't in the order that its start needs",
         "the vertex",
-        "for Even name a vertex that the plan's start is below, for Odd one that is below the start",
+        "name a vertex of the game; to carry a plan, for Even one that the plan's start is below, for Odd \
+         one that is below the start",
     ),
     row(
         "the carried plan has more than 4,096 positions or 16,384 links",

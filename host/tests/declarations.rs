@@ -74,7 +74,8 @@ fn declared(parameter: &str) -> Vec<String> {
 
 fn exports_in_rattle() -> BTreeMap<String, Signature> {
     let source = |name: &str| plain(&rattle(&root().join(format!("crates/{name}/src"))));
-    let source = ["abi", "abi_carry", "abi_governed", "abi_edit"].map(source).join(" ");
+    let crates = ["abi", "abi_carry", "abi_governed", "abi_edit", "abi_verdict"];
+    let source = crates.map(source).join(" ");
     let exports = functions(&source, "pub extern \"C\" fn ");
     let in_rust = |(name, (parameters, result)): (String, Signature)| {
         let parameters = parameters.iter().flat_map(|parameter| declared(parameter)).collect();
@@ -93,7 +94,7 @@ fn functions_are_those_of_the_exports() {
     let block = between(&declarations, "extern \"C\" {", "}");
     let declared = functions(block, "fn ");
     assert_eq!(declared, exports_in_rattle());
-    assert_eq!(declared.len(), 20);
+    assert_eq!(declared.len(), 21);
 }
 
 #[test]
@@ -104,5 +105,5 @@ fn answer_has_the_fields_of_the_exports() {
     let declarations = declarations_in_rust();
     let fields = parts(between(&declarations, head, "}"));
     assert_eq!(fields, parts(between(&source, head, "}")));
-    assert_eq!(fields.len(), 10);
+    assert_eq!(fields.len(), 11);
 }

@@ -3,6 +3,7 @@
 use crate::game::Game;
 use crate::reduction::Classes;
 use crate::{mark_bytes, Oracle, Relation, Trap};
+use std::mem::swap;
 
 /// A call's answer: number 0 for accepted with its counts, else the refusal's number and place.
 #[derive(Clone, Copy, Debug, Default, PartialEq, Eq)]
@@ -17,6 +18,8 @@ pub struct Answer {
     pub links: u32,
     pub entries: u32,
     pub place: usize,
+    /// 1 where the verdict desk confirms that the player wins.
+    pub shown: u32,
 }
 
 /// Why a call turns its input or the lent memory down.
@@ -34,7 +37,7 @@ pub struct Memory {
     pub marks: Vec<u8>,
     pub spare: Vec<u8>,
     pub classes: Vec<u16>,
-    /// The reduced game, for the call that carries a plan from it.
+    /// The reduced game, for the calls that take a plan on it.
     pub reduction: Vec<u16>,
     pub output: Vec<u16>,
 }
@@ -264,6 +267,21 @@ impl Oracle {
         let different = if self.falls_for(Trap::DifferentEverywhere) { edges } else { 0 };
         let counts = Answer { vertices, edges, different, ..counts };
         Ok(Tabulated { order, classes, table, counts })
+    }
+
+    /// Refusals 21 to 24, then order, classes and the reduced game, which goes to the reduction as it goes to
+    /// the output elsewhere.
+    pub(crate) fn write_reduction(
+        &self,
+        game: &Game,
+        memory: &mut Memory,
+    ) -> Result<Tabulated, Refusal> {
+        swap(&mut memory.reduction, &mut memory.output);
+        let written = self
+            .lengths(game, memory, 4)
+            .and_then(|()| self.write_table(game, memory, Output::Reduced));
+        swap(&mut memory.reduction, &mut memory.output);
+        written
     }
 
     pub(crate) fn table_counts(&self, game: &Game) -> Answer {

@@ -1,11 +1,10 @@
 //! Plans carried to another vertex. A position of the plan that is written is a pair of a position of the
 //! plan that is carried and a vertex.
 
-use crate::calls::{refuse_if, Answer, Memory, Output};
+use crate::calls::{refuse_if, Answer, Memory};
 use crate::plan::{Plan, MOST_LINKS, MOST_POSITIONS};
 use crate::{Game, Oracle, Refusal, Relation, Trap};
 use std::collections::HashMap;
-use std::mem::swap;
 
 /// The pairs in the sequence in which they are found, and the links in that in which they are followed.
 struct Found {
@@ -92,15 +91,8 @@ impl Oracle {
         vertex: u32,
         memory: &mut Memory,
     ) -> Result<Answer, Refusal> {
-        // The reduced game goes to the reduction, as it goes to the output elsewhere.
-        swap(&mut memory.reduction, &mut memory.output);
-        let game = self.checked(game, memory, 4);
-        let reduced = game.and_then(|game| {
-            let reduced = self.write_table(&game, memory, Output::Reduced)?;
-            Ok((game, reduced))
-        });
-        swap(&mut memory.reduction, &mut memory.output);
-        let (game, reduced) = reduced?;
+        let game = self.game(game)?;
+        let reduced = self.write_reduction(&game, memory)?;
         let quotient = self.quotient_of(&game, &reduced.classes);
         let from = if self.falls_for(Trap::PlanOnQuotient) { &quotient } else { &reduced.table };
         let plan = self.judge_plan(from, player, plan)?;

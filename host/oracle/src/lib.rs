@@ -1,6 +1,6 @@
 //! A second implementation of every call, for tests: written from document 01 and its change requests
-//! CR 1 to CR 4, CR 6 to CR 10, CR 12 and CR 13, which docs/CONTRACT.md renders, by their definitions, slow and plain, and sharing no
-//! code with the library that it is compared with.
+//! CR 1 to CR 4, CR 6 to CR 10 and CR 12 to CR 14, which docs/CONTRACT.md renders, by their definitions, slow and plain, and sharing
+//! no code with the library that it is compared with.
 //!
 //! Each [`Trap`] is a misreading of the contract. An [`Oracle`] that falls for one gives the answers
 //! of that misreading, so a test can show that it would be noticed.
@@ -19,6 +19,7 @@ mod replay;
 mod report;
 mod seed;
 mod trap;
+mod verdict;
 
 pub use calls::{Answer, Memory, Refusal};
 pub use edit::Edit;

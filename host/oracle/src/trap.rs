@@ -224,6 +224,23 @@ pub enum Trap {
     /// It names a pair whose reverse fails the test.
     ReverseTestedToo,
 
+    /// The verdict desk says "wins" for every plan that passes.
+    WinsByAnyPlan,
+    /// It says "wins" where the start class is below the vertex's.
+    WinsFromBelow,
+    /// It holds the start against the vertex itself.
+    StartAtTheVertex,
+    /// It checks the vertex after the lengths of the memory.
+    VertexAfterLengths,
+    /// It writes order, classes and reduction before it checks the vertex.
+    WrittenBeforeVertex,
+    /// It judges the plan on the game itself.
+    JudgedOnTheGame,
+    /// It takes order, classes and reduction back where the plan is refused.
+    OldAfterPlan,
+    /// It tells no counts with "not shown".
+    NotShownUncounted,
+
     /// Numbers between two ranges have the kind of the range below.
     KindsWithoutGaps,
     /// The report drops a last half word.
@@ -244,7 +261,7 @@ pub enum Trap {
 
 impl Trap {
     /// The traps of the calls, those of document 01 first.
-    pub const OF_CALLS: [Trap; 105] = [
+    pub const OF_CALLS: [Trap; 113] = [
         Trap::SomeMemberHasEdge,
         Trap::LittleBrothersByProse,
         Trap::MixedRowsExchanged,
@@ -349,6 +366,14 @@ impl Trap {
         Trap::ReverseUnasked,
         Trap::ReversesAfterTests,
         Trap::ReverseTestedToo,
+        Trap::WinsByAnyPlan,
+        Trap::WinsFromBelow,
+        Trap::StartAtTheVertex,
+        Trap::VertexAfterLengths,
+        Trap::WrittenBeforeVertex,
+        Trap::JudgedOnTheGame,
+        Trap::OldAfterPlan,
+        Trap::NotShownUncounted,
         Trap::KindsWithoutGaps,
     ];
 

@@ -422,6 +422,48 @@ fn carried_plans_from_standard_input() {
 }
 
 #[test]
+fn verdicts() {
+    let say = |vertex: &str, player: &str| {
+        let line = ["verdict", "games/d.txt", "games/c.plan.txt", "--vertex", vertex];
+        run(&[&line[..], &["--player", player]].concat()).text()
+    };
+    for vertex in ["0", "5"] {
+        let sentence = format!(
+            "wins: Even wins at vertex {vertex} of games/d.txt, as the plan in games/c.plan.txt wins for Even \
+             from class 0 of the reduced game, which is the class of vertex {vertex}.\n"
+        );
+        assert_eq!(say(vertex, "even"), sentence);
+    }
+    let sentence = "not shown: the plan in games/c.plan.txt wins for Even from class 0 of the reduced game, but \
+                    vertex 2 of games/d.txt is in class 2. This doesn't mean that Even loses at vertex 2, or that \
+                    the other player wins there: a plan that starts at class 2 may still show either.\n";
+    assert_eq!(say("2", "even"), sentence);
+    // Odd's plan from class 1, which is below class 2; either input may be standard input.
+    let odd = b"2 2 / 1 3 / 0 1 / 1 1";
+    let line = ["verdict", "games/c.txt", "-", "--player=odd", "--vertex"];
+    let by_odd = |vertex| run_on(&[&line[..], &[vertex]].concat(), odd).text();
+    assert!(by_odd("1").starts_with("wins: Odd wins at vertex 1 of games/c.txt, as the plan in "));
+    assert!(by_odd("2").starts_with("not shown: "));
+    let game = bytes(&shipped("d.txt"));
+    let line = ["verdict", "-", "games/c.plan.txt", "--player=even", "--vertex=5"];
+    assert!(run_on(&line, &game)
+        .text()
+        .starts_with("wins: Even wins at vertex 5 of standard input"));
+}
+
+/// The shipped plan shows that the controller wins at every closed door, and at no other vertex.
+#[test]
+fn shipped_plan_on_the_reduced_game() {
+    for vertex in 0..14 {
+        let (game, plan) = (path("lift-doors.txt"), path("lift-doors.reduced-plan.txt"));
+        let vertex_word = vertex.to_string();
+        let line = ["verdict", &game, &plan, "--player=even", "--vertex", &vertex_word];
+        let start = if vertex % 7 == 0 { "wins: " } else { "not shown: " };
+        assert!(run(&line).text().starts_with(start), "{vertex}");
+    }
+}
+
+#[test]
 fn explain_each_number() {
     for number in (1..=16).chain(21..=24).chain(31..=41) {
         let text = run(&["explain", &number.to_string()]).text();
@@ -451,7 +493,7 @@ fn help_of_each_command_has_an_example_that_runs() {
     assert_eq!(run(&["help"]).text(), overview);
     let listed: Vec<&str> =
         overview.lines().filter_map(|line| line.strip_prefix("  ")?.split(' ').next()).collect();
-    assert_eq!(listed.len(), 15, "{listed:?}");
+    assert_eq!(listed.len(), 16, "{listed:?}");
     for command in listed {
         let help = run(&[command, "--help"]).text();
         assert_eq!(run(&["help", command]).text(), help);

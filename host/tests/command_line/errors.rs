@@ -83,6 +83,22 @@ fn plans_to_carry() {
 }
 
 #[test]
+fn verdicts() {
+    let line = ["verdict", "games/d.txt", "games/c.plan.txt"];
+    let with = |options: &[&str], parts: &[&str]| bad(&[&line, options].concat(), parts);
+    with(
+        &["--player=even"],
+        &["no vertex; write --vertex with the vertex that the verdict is about"],
+    );
+    with(&["--vertex=5"], &["no player; write --player even"]);
+    with(&["--vertex=5", "--player=2"], &["no player `2`"]);
+    with(&["--player=even", "--vertex=4294967296"], &["no vertex `4294967296`", "count from 0"]);
+    with(&["--player=even", "--vertex=5", "--as=words"], &["verdict: no option --as"]);
+    with(&["more"], &["arguments: 3 instead of 2", "usage: raskjomi verdict GAME PLAN --vertex V"]);
+    bad(&["verdict", "-", "-", "--player=odd", "--vertex=0"], &["both inputs", "name a file"]);
+}
+
+#[test]
 fn edges_to_edit() {
     let usage = "usage: raskjomi edit GAME --add V:W --remove V:W ..";
     bad(&["edit", "--add", "0:1"], &["arguments: 0 instead of 1", usage]);

@@ -142,7 +142,9 @@ fn vertices_that_a_plan_is_not_carried_to() {
         let to = |vertex, parts: &[&str]| {
             let options = [&["--vertex", vertex], class].concat();
             let verdict = format!("33 at {vertex}");
-            let remedy = ["; for Even name a vertex that the plan's start is below"];
+            let remedy = [
+                "; name a vertex of the game; to carry a plan, for Even one that the plan's start",
+            ];
             let parts = [parts, &remedy].concat();
             not_carried("games/d.txt", "games/c.plan.txt", &options, &verdict, &parts);
         };
@@ -170,6 +172,30 @@ fn plans_that_are_not_carried() {
     let round = file("round.txt", b"5 5 / 0 0 0 0 0 / 0 1 2 3 4 / 1 2 3 4 0");
     let parts = ["round.txt, carried to vertex 63: ", "; carry a plan with fewer positions"];
     not_carried(&many, &round, &["--vertex=63", "--class"], "34 at 0", &parts);
+}
+
+#[test]
+fn verdicts() {
+    let refused = |game: &str, plan: &str, vertex: &str, verdict: &str, parts: &[&str]| {
+        let line = ["verdict", game, plan, "--player", "even", "--vertex", vertex];
+        let told = format!(": refused {verdict}: ");
+        let out = run(&line).fails(1, &[&[&*told], parts].concat());
+        assert_eq!(out, format!("refused {verdict}\n"));
+    };
+    for vertex in ["6", "65541", "4294967295"] {
+        let place = format!("games/d.txt: vertex {vertex} (its vertices are 0 to 5)");
+        let parts = [&*place, "; name a vertex of the game"];
+        refused("games/d.txt", "games/c.plan.txt", vertex, &format!("33 at {vertex}"), &parts);
+    }
+    let bad = file("no-verdict.txt", b"2 2 / 0 2\n0 1\n1 0");
+    let place =
+        "no-verdict.txt: line 2, word 2 (link 1, from vertex 2 to 0), on the reduced game: ";
+    refused("games/d.txt", &bad, "5", "14 at 1", &[place]);
+    // A vertex that isn't there is refused before the plan.
+    refused("games/d.txt", &bad, "6", "33 at 6", &["games/d.txt: vertex 6 "]);
+    let game = file("no-verdict-game.txt", b"1 1 / 0 2 / 0 0");
+    let parts = ["no-verdict-game.txt: line 1, word 4 (owner 2): "];
+    refused(&game, "games/c.plan.txt", "9", "5 at 3", &parts);
 }
 
 #[test]

@@ -2,7 +2,7 @@
 
 use oracle::{Answer, Edit, Memory, Oracle};
 use raskjomi::exports::{self, RaskjomiAnswer};
-use raskjomi::{Edited, PlanSize, Refusal, Size};
+use raskjomi::{Edited, PlanSize, Refusal, Size, Verdict};
 use std::ops::RangeInclusive;
 
 /// A call of the library.
@@ -18,6 +18,7 @@ pub enum Call {
     AcceptPlan,
     Carry,
     CarryClass,
+    Verdict,
     AddEdge,
     RemoveEdge,
     PreviewAdd,
@@ -55,7 +56,7 @@ impl Call {
 
     /// Every call with an answer.
     pub fn all() -> impl Iterator<Item = Call> {
-        let others = [Call::AcceptPlan, Call::Replay, Call::Seed];
+        let others = [Call::AcceptPlan, Call::Verdict, Call::Replay, Call::Seed];
         let edits = Call::EDITING.into_iter().chain(Call::PREVIEWING);
         Call::ON_MEMORY.into_iter().chain(Call::CARRYING).chain(edits).chain(others)
     }
@@ -73,6 +74,7 @@ impl Call {
             Call::AcceptPlan => &[11..=16],
             Call::Carry => &[11..=16, 21..=22, 33..=35],
             Call::CarryClass => &[11..=16, 21..=24, 33..=35],
+            Call::Verdict => &[11..=16, 21..=24, 33..=33],
             Call::AddEdge => &[21..=23, 37..=37, 39..=39],
             Call::RemoveEdge => &[21..=23, 37..=38],
             Call::PreviewAdd => &[21..=24, 37..=37, 39..=39],
@@ -91,7 +93,7 @@ pub struct Case {
     pub memory: Memory,
     pub player: u32,
     pub plan: Vec<u16>,
-    /// Where the plan is carried to.
+    /// Where the plan is carried to, or what the verdict is about.
     pub vertex: u32,
     /// The edge that comes or goes; the table that is edited is in the memory.
     pub edge: (u32, u32),
@@ -135,6 +137,17 @@ impl Case {
         Case { player, plan: plan.to_vec(), vertex, ..case }
     }
 
+    /// The verdict on a player and a vertex.
+    pub fn of_verdict(
+        game: &[u16],
+        vertex: u32,
+        player: u32,
+        plan: &[u16],
+        memory: Memory,
+    ) -> Case {
+        Case::of_carrying(Call::Verdict, game, player, plan, vertex, memory)
+    }
+
     /// An edit of the table that begins the memory's.
     pub fn of_edit(call: Call, edge: (u32, u32), memory: Memory) -> Case {
         Case { edge, ..Case::on_memory(call, &[], memory) }
@@ -171,6 +184,9 @@ impl Case {
             Call::Carry => oracle.carry(game, self.player, &self.plan, self.vertex, &mut memory),
             Call::CarryClass => {
                 oracle.carry_class(game, self.player, &self.plan, self.vertex, &mut memory)
+            }
+            Call::Verdict => {
+                oracle.verdict(game, self.vertex, self.player, &self.plan, &mut memory)
             }
             Call::AddEdge => oracle.edit(Edit::Add, self.edge, &mut memory),
             Call::RemoveEdge => oracle.edit(Edit::Remove, self.edge, &mut memory),
@@ -209,6 +225,7 @@ impl Case {
             Call::AcceptPlan => exports::accept_plan(game, player, plan),
             Call::Carry => exports::carry(game, player, plan, vertex, m, s, o),
             Call::CarryClass => exports::carry_class(game, player, plan, vertex, m, s, c, r, o),
+            Call::Verdict => exports::verdict(game, vertex, player, plan, m, s, c, r),
             Call::AddEdge => exports::add_edge(t, from, to, m, s, c),
             Call::RemoveEdge => exports::remove_edge(t, from, to, m, s, c),
             Call::PreviewAdd => exports::preview_add(game, from, to, t, m, s, c),
@@ -282,6 +299,15 @@ impl Case {
                 game, player, plan, vertex, marks, spare, classes, reduction, output,
             )
             .map(of_both),
+            Call::Verdict => {
+                match raskjomi::give_verdict(
+                    game, vertex, player, plan, marks, spare, classes, reduction,
+                ) {
+                    Verdict::Wins(size) => Ok(Answer { shown: 1, ..of_table(size) }),
+                    Verdict::NotShown(size) => Ok(of_table(size)),
+                    Verdict::Refused(refusal) => Err(refusal),
+                }
+            }
             Call::AddEdge => {
                 raskjomi::add_edge(table, from, to, marks, spare, classes).map(of_edit)
             }
@@ -331,8 +357,21 @@ fn plain(answer: RaskjomiAnswer) -> Answer {
         links,
         entries,
         place,
+        shown,
     } = answer;
-    Answer { number, passes, classes, vertices, edges, different, positions, links, entries, place }
+    Answer {
+        number,
+        passes,
+        classes,
+        vertices,
+        edges,
+        different,
+        positions,
+        links,
+        entries,
+        place,
+        shown,
+    }
 }
 
 /// A buffer inside a larger one whose ends must stay as they are.

@@ -28,7 +28,7 @@ impl Origin {
         let order = oracle.order_of(&game).0;
         let mut lowest: Vec<usize> = (0..game.n()).collect();
         let mut origin = table.clone();
-        if call == Call::CarryClass {
+        if call != Call::Carry {
             let classes = oracle.classes_of(&game, &order);
             let reduced = oracle.reduced_of(&oracle.quotient_of(&game, &classes), &classes, &order);
             origin = Table::from_words(&oracle.listed(&reduced).table());
@@ -81,7 +81,7 @@ pub fn round(call: Call, game: &Table, positions: usize, round: Range<usize>) ->
 }
 
 /// The old memory with order, classes and reduction, as far as the call works them out.
-fn worked_out(call: Call, game: &[u16], old: &Memory) -> Memory {
+pub fn worked_out(call: Call, game: &[u16], old: &Memory) -> Memory {
     if call == Call::Carry {
         return Case::on_memory(Call::Order, game, old.clone()).actual().memory;
     }
@@ -159,7 +159,7 @@ fn worked_plans_word_by_word() {
 }
 
 /// Memory longer than need be by a few, with any content; the output has `output` words.
-fn dirty(lcg: &mut Lcg, table: &Table, output: usize) -> Memory {
+pub fn dirty(lcg: &mut Lcg, table: &Table, output: usize) -> Memory {
     let mut old =
         |length: usize| -> Vec<u16> { (0..length).map(|_| lcg.below(65_536) as u16).collect() };
     let bytes = |words: Vec<u16>| words.into_iter().map(|word| word as u8).collect();
@@ -175,7 +175,7 @@ fn dirty(lcg: &mut Lcg, table: &Table, output: usize) -> Memory {
 }
 
 /// Library and oracle agree on number, place and memory, and they are these.
-fn leaves(case: &Case, number: u32, place: usize, memory: &Memory) {
+pub fn leaves(case: &Case, number: u32, place: usize, memory: &Memory) {
     agree(case);
     let outcome = case.actual();
     let refused = Answer { number, place, ..Answer::default() };

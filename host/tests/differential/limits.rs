@@ -2,7 +2,7 @@
 
 use crate::calls::{Call, Case, Outcome};
 use crate::carries::{room, round};
-use crate::{edits, previews, replays};
+use crate::{edits, previews, replays, verdicts};
 use generator::{
     chain, complete, largest_plan, opponents, random, round_of_loops, round_ring, Lcg, Table,
 };
@@ -76,6 +76,7 @@ fn largest_cases() -> Vec<Case> {
     cases.extend(edits::at_the_limit());
     cases.extend(previews::at_the_limit());
     cases.push(replays::at_the_limit());
+    cases.push(verdicts::at_the_limit());
     cases
 }
 

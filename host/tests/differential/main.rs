@@ -21,4 +21,5 @@ mod seeds;
 mod tables;
 mod threads;
 mod traps;
+mod verdicts;
 mod winners;

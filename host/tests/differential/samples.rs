@@ -140,6 +140,13 @@ fn case_of_carrying(lcg: &mut Lcg, table: &Table, call: Call) -> Case {
     Case { game, memory: Memory { output, reduction, ..memory(lcg, table) }, ..case }
 }
 
+/// A verdict on any vertex, or on one of the start's class, by a plan on the reduced game.
+fn case_of_verdict(lcg: &mut Lcg, table: &Table) -> Case {
+    let case = case_of_carrying(lcg, table, Call::CarryClass);
+    let memory = Memory { output: vec![], ..case.memory.clone() };
+    Case { call: Call::Verdict, memory, ..case }
+}
+
 /// A plan that, carried, comes near the limits, or above one of them.
 fn case_of_crowd(lcg: &mut Lcg) -> Case {
     let (call, player) = (lcg.pick(&Call::CARRYING), lcg.below(2) as u16);
@@ -212,6 +219,7 @@ pub fn cases(lcg: &mut Lcg, most: usize) -> Vec<Case> {
     cases.extend(cases_of_plans(lcg, &table));
     let carried = of_both(lcg, most.min(MOST_CARRIED));
     cases.extend(cases_of_carrying(lcg, &carried));
+    cases.push(case_of_verdict(lcg, &carried));
     if lcg.once_in(CROWDS) {
         cases.push(case_of_crowd(lcg));
     }

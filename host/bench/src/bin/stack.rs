@@ -8,7 +8,7 @@ use std::os::unix::process::ExitStatusExt;
 use std::process::{Command, ExitStatus, Stdio};
 use std::thread;
 
-const CALLS: [&str; 21] = [
+const CALLS: [&str; 22] = [
     "no call",
     "kind",
     "read",
@@ -20,6 +20,7 @@ const CALLS: [&str; 21] = [
     "reduce",
     "carry",
     "carry_class",
+    "verdict",
     "seed",
     "convert",
     "add_edge",
@@ -73,6 +74,7 @@ fn call(name: &str) -> impl FnOnce() -> u32 + Send + 'static {
                 o,
                 &mut written,
             ),
+            "verdict" => exports::verdict(&carry_game, 0, raskjomi::EVEN, &of_classes, m, s, c, o),
             "seed" => exports::seed(1, 512, 8, 8, o),
             "convert" => exports::convert(&game, o),
             "add_edge" => exports::add_edge(&mut table, 0, absent, m, s, c),

@@ -4,7 +4,7 @@ use crate::failure::Failure;
 use crate::input::{Input, Unit};
 use crate::locate::game_refused;
 use crate::table::Table;
-use raskjomi::{PlanSize, Refusal, Replay, Size, MOST_PLAN_WORDS};
+use raskjomi::{PlanSize, Refusal, Replay, Size, Verdict, MOST_PLAN_WORDS};
 
 /// A game that the reader accepts.
 pub struct Game {
@@ -144,6 +144,23 @@ impl Game {
             &mut words,
         )?;
         Ok(shortened(words, size))
+    }
+
+    /// The verdict on a player and a vertex by a plan on the reduced game, and the class of each vertex.
+    pub fn verdict(&self, vertex: u32, player: u32, plan: &[u16]) -> (Verdict, Vec<u16>) {
+        let (mut marks, mut spare) = self.marks();
+        let (mut classes, mut table) = (vec![0; self.size.vertices], vec![0; self.size.words()]);
+        let verdict = raskjomi::give_verdict(
+            &self.input.numbers,
+            vertex,
+            player,
+            plan,
+            &mut marks,
+            &mut spare,
+            &mut classes,
+            &mut table,
+        );
+        (verdict, classes)
     }
 
     /// The words of the table after the edits, in sequence, and its classes; or the refusal of one, with

@@ -10,7 +10,7 @@ use crate::locate::{
 };
 use crate::table::Table;
 use crate::{dot as picture, tell, text};
-use raskjomi::{Kind, Refusal};
+use raskjomi::{Kind, Refusal, Verdict};
 
 /// What a command writes to standard output, or how it fails.
 type Written = Result<Vec<u8>, Failure>;
@@ -233,7 +233,7 @@ pub fn check_plan(arguments: &Arguments) -> Written {
 
 /// `carry`.
 pub fn carry(arguments: &Arguments) -> Written {
-    let (player, vertex) = (arguments.player()?, vertex_to(arguments)?);
+    let (player, vertex) = (arguments.player()?, vertex_of(arguments, "the plan is to start at")?);
     let as_words = as_words(arguments, "carry", "")?;
     let (game, plan) = two_inputs(arguments)?;
     let game = Game::of(game)?;
@@ -253,10 +253,36 @@ pub fn carry(arguments: &Arguments) -> Written {
     Ok(text::plan(&sentence, &words).into())
 }
 
+/// `verdict`: in a sentence, what is confirmed of a player and a vertex, or what is left open.
+pub fn verdict(arguments: &Arguments) -> Written {
+    let (player, vertex) = (arguments.player()?, vertex_of(arguments, "the verdict is about")?);
+    let (game, plan) = two_inputs(arguments)?;
+    let game = Game::of(game).map_err(Failure::with_verdict)?;
+    let (verdict, classes) = game.verdict(vertex, player, &plan.numbers);
+    if let Verdict::Refused(refusal) = verdict {
+        return Err(carry_refused(refusal, &game, &plan, vertex, true).with_verdict());
+    }
+    let (name, of, with) = (name_of(player), &game.input.name, &plan.name);
+    let (start, class) = (plan.numbers[2], classes[vertex as usize]);
+    let passes =
+        format!("the plan in {with} wins for {name} from class {start} of the reduced game");
+    let sentence = match verdict {
+        Verdict::Wins(_) => format!(
+            "wins: {name} wins at vertex {vertex} of {of}, as {passes}, which is the class of vertex {vertex}."
+        ),
+        _ => format!(
+            "not shown: {passes}, but vertex {vertex} of {of} is in class {class}. This doesn't mean that {name} \
+             loses at vertex {vertex}, or that the other player wins there: a plan that starts at class \
+             {class} may still show either."
+        ),
+    };
+    Ok((sentence + "\n").into())
+}
+
 /// The vertex that `--vertex` names; whether the game has it, the library judges.
-fn vertex_to(arguments: &Arguments) -> Result<u32, Failure> {
+fn vertex_of(arguments: &Arguments, use_of_it: &str) -> Result<u32, Failure> {
     let word = arguments.value("--vertex").ok_or_else(|| {
-        Failure::usage("no vertex; write --vertex with the vertex that the plan is to start at")
+        Failure::usage(format!("no vertex; write --vertex with the vertex that {use_of_it}"))
     })?;
     number(word, u32::MAX).ok_or_else(|| {
         Failure::usage(format!(

@@ -59,7 +59,7 @@ const TABLES: &str = "Text and words are game tables, which every command reads.
                       the game, with the members of each class.";
 
 /// The commands, in the sequence of the help.
-pub const COMMANDS: [Command; 15] = [
+pub const COMMANDS: [Command; 16] = [
     Command {
         name: "report",
         usage: "report [GAME] [--vertex V]",
@@ -169,6 +169,24 @@ pub const COMMANDS: [Command; 15] = [
             Opt { name: "--as", value: Some("text or words") },
         ],
         run: commands::carry,
+    },
+    Command {
+        name: "verdict",
+        usage: "verdict GAME PLAN --vertex V --player even|odd",
+        summary: "whether a plan on the reduced game shows that a player wins at a vertex",
+        details:
+            "PLAN is given as for `check-plan`, and is on the reduced game, as `reduce` writes it. Where it wins \
+                  for the player and starts at the class of V, the player wins at V in GAME itself, \
+                  and the output begins with `wins`. Where it starts at another class, the output \
+                  begins with `not shown`, even if one of the classes is below the other: who wins at V \
+                  is then left open. A plan that doesn't win is refused, as `check-plan` does.",
+        example: "./raskjomi verdict games/lift-doors.txt games/lift-doors.reduced-plan.txt --vertex 7 --player even",
+        files: 2..=2,
+        options: &[
+            Opt { name: "--vertex", value: Some("a vertex") },
+            Opt { name: "--player", value: Some("even or odd") },
+        ],
+        run: commands::verdict,
     },
     Command {
         name: "edit",

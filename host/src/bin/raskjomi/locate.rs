@@ -72,7 +72,8 @@ fn place_in_plan(refusal: Refusal, plan: &Input) -> String {
     plan.at(index, &detail)
 }
 
-/// A refusal to carry a plan, on the game or on the reduced game, to a vertex.
+/// A refusal to carry a plan, on the game or on the reduced game, to a vertex, or to give a verdict by one on
+/// the reduced game.
 pub fn carry_refused(
     refusal: Refusal,
     game: &Game,
