@@ -2,7 +2,7 @@
 use mathlib.Core.Bool.{Bool, true, false, not, So}
 use Prim.Native.Nat.{ℕ, _*_, _/_, _%_, _<_}
 use lib.Dec.{eqb}
-use Rattle.theory.specs.Range.{count}
+use Rattle.theory.specs.Range.{allBelow, anyBelow, count}
 
 pub data Player : Type 0 where
   even odd : Player
@@ -45,6 +45,10 @@ Succ G = Next (G .n) (G .edge)
 -- every vertex has a successor
 abbrev pub Total : Game → Type 0
 Total G = (v : ℕ) → v < G .n → (w : ℕ) × Succ G v w
+
+-- the same, computed (`total-in`, `total-out`)
+unfoldable pub isTotal : Game → Bool
+isTotal G = allBelow (G .n) (λ v. anyBelow (G .n) (G .edge v))
 
 -- how many different edges there are
 unfoldable pub edgeCount : Game → ℕ

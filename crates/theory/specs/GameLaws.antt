@@ -1,9 +1,10 @@
--- Laws of the two players.
+-- Laws of the two players, and of games whose vertices all have successors.
 use mathlib.Core.Path.{_≡_, refl, sym}
 use mathlib.Core.Bool.{false, not, So, true≢false, false≢true, Bool·not-not}
 use Prim.Native.Nat.{ℕ, _%_}
 use lib.Dec.{eqb}
-use Rattle.theory.specs.Game.{Player, even, odd, other, same, parity}
+use Rattle.theory.specs.RangeLaws.{all-in, all-out, any-in, any-out}
+use Rattle.theory.specs.Game.{Player, even, odd, other, same, parity, Game, Total, isTotal}
 
 pub same-refl : (a : Player) → So (same a a)
 unfolding same
@@ -37,3 +38,12 @@ pub parity-other : (a : Player) (q : ℕ) → parity (other a) q ≡ not (parity
 unfolding parity other
 parity-other even q = refl
 parity-other odd q = sym (Bool·not-not (eqb (q % 2) 0))
+
+-- the computed test is the definition
+pub total-in : (G : Game) → Total G → So (isTotal G)
+unfolding isTotal
+total-in G total = all-in (G .n) _ (λ v h. let s = total v h in any-in (G .n) (G .edge v) (s .0) (s .1 .inside) (s .1 .along))
+
+pub total-out : (G : Game) → So (isTotal G) → Total G
+unfolding isTotal
+total-out G t v h = let s = any-out (all-out t .at v h) in (s .0, record { inside = s .1; along = s .2 })

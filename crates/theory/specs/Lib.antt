@@ -27,6 +27,11 @@ pub mod Plays
 pub mod PlaysLaws
 pub mod StrategyLaws
 pub mod WinnerLaws
+pub mod Region
+pub mod RegionLaws
+pub mod AttractorLaws
+pub mod RegionPlanLaws
+pub mod DeterminacyLaws
 pub mod TransferLaws
 pub mod Reduction
 pub mod ClassEdges

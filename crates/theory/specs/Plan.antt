@@ -2,11 +2,11 @@
 use mathlib.Core.Path.{_≡_}
 use mathlib.Core.Bool.{Bool, false, So}
 use mathlib.Core.List.{List, [], _∷_}
-use Prim.Native.Nat.{ℕ, _<_, min}
+use Prim.Native.Nat.{ℕ, _≤_, _<_, min}
 use lib.Dec.{eqb}
 use lib.ListN.{length, getD}
 use Rattle.theory.specs.Bools.{_&_, _or_}
-use Rattle.theory.specs.Game.{Player, parity, Game, own, Succ}
+use Rattle.theory.specs.Game.{Player, parity, Game, own, Succ, edgeCount}
 
 -- p positions, each with its vertex, and l links between positions; no limit on either
 pub record Plan : Type 0 where
@@ -53,3 +53,10 @@ Wins = WinsBy min
 -- the player has a winning plan from v
 abbrev pub Won : Player → Game → ℕ → Type 0
 Won a G v = (P : Plan) × Wins a G P v
+
+-- by a plan that has no more positions than the game has vertices, and no more links than it has different edges
+pub record WonSmall (a : Player) (G : Game) (v : ℕ) : Type 0 where
+  pub plan : Plan
+  pub wins : Wins a G plan v
+  pub positions : length (plan .vertices) ≤ G .n
+  pub links : length (plan .links) ≤ edgeCount G
