@@ -49,6 +49,7 @@ pub mod Carry
 pub mod CarryLaws
 pub mod CarryClassLaws
 pub mod KeptWinners
+pub mod SameWinner
 pub mod GovernedLaws
 pub mod ParityMap
 pub mod ParityMapLaws
@@ -56,6 +57,7 @@ pub mod Agreement
 pub mod AgreementLaws
 pub mod Minimal
 pub mod MinimalLaws
+pub mod FixedPointLaws
 pub mod PlanTest
 pub mod PlanTestLaws
 pub mod Compute

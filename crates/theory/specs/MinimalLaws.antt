@@ -9,6 +9,7 @@ use lib.Arith.{digits-lt, digits-div, digits-mod}
 use Rattle.theory.specs.BoolsLaws.{clash, and-in, and-out, not-out}
 use Rattle.theory.specs.RangeLaws.{all-in, all-out, any-in, any-out}
 use Rattle.theory.specs.CountLaws.{count-all, count-inject, row-lt, col-lt, pair-ext}
+use Rattle.theory.specs.Passes.{Rel}
 use Rattle.theory.specs.Game.{Player, even, odd, other, Game, own, Succ, edgeCount}
 use Rattle.theory.specs.GameLaws.{same-refl}
 use Rattle.theory.specs.Simulation.{Moves, Below}
@@ -16,7 +17,7 @@ use Rattle.theory.specs.SimulationLaws.{below-dual, below-trans, below-m
 use Rattle.theory.specs.Order.{order}
 use Rattle.theory.specs.OrderLaws.{below-in, below-out, order-in, order-refl}
 use Rattle.theory.specs.Reduction.{sameClass, representative, reducedEdge, classGame, reduced, classOf}
-use Rattle.theory.specs.ClassEdges.{Better}
+use Rattle.theory.specs.ClassEdges.{Better, Enough}
 use Rattle.theory.specs.ClassLaws.{representative-at, representative-one, representatives-apart}
 use Rattle.theory.specs.QuotientLaws.{order-preorder, rep-lt, noBetter-in, dropped-in, reducedEdge-quotient}
 use Rattle.theory.specs.ReductionLaws.{class-into, class-from, class-above, class-below, reduced-enough, classOf-reduced}
@@ -80,9 +81,9 @@ represents-agree {G} {K} {H} e f =
 -- ---- a game with nothing to leave out
 
 -- no two vertices are equivalent, and no edge stands beside one that is at least as good for the owner
-record Lean (K : Game) : Type 1 where
-  apart : (c d : ℕ) → c < K .n → d < K .n → Equivalent K K c d → c ≡ d
-  kept : (c d e : ℕ) → c < K .n → Succ K c d → Succ K c e → Below (K .owner c) K K d e → d ≡ e
+pub record Lean (K : Game) : Type 1 where
+  pub apart : (c d : ℕ) → c < K .n → d < K .n → Equivalent K K c d → c ≡ d
+  pub kept : (c d e : ℕ) → c < K .n → Succ K c d → Succ K c e → Below (K .owner c) K K d e → d ≡ e
 
 module _ (K H : Game) (lean : Lean K) where
   -- The edge from c to d, at a vertex x equivalent to c: a is c's owner. Some y after x is at least as good as d for a, and some e after c
@@ -143,28 +144,38 @@ module _ (K H : Game) (lean : Lean K) where
     lean-least : AtLeast (K .n) (edgeCount K) H
     lean-least = record { vertices = fewest-vertices; edges = fewest-edges }
 
--- ---- the reduced game
+-- ---- the games of classes
 
 module _ (g : Game) where
   abbrev rep : ℕ → ℕ
   rep = representative (g .n) (order g)
 
-  -- a class and its representative are equivalent
-  class-equivalent : (c : ℕ) → c < reduced g .n → Equivalent (reduced g) g c (rep c)
-  unfolding reduced classGame
-  class-equivalent c h =
-      let r = order-refl g (rep c) (rep-lt g c h) in record {
-        up = record { relation = λ c w. So (order g (rep c) w); simulation = class-from g (reducedEdge g (order g)) (reduced-enough g); holds = r };
-        down = record { relation = λ v c. So (order g v (rep c)); simulation = class-into g (reducedEdge g (order g)) (reduced-enough g); holds = r };
-      }
+  -- a class and its representative are equivalent, and so no two classes are
+  module _ (E : Rel) (enough : Enough g E) where
+    abbrev K : Game
+    K = classGame g (order g) E
 
-  reduced-apart : (c d : ℕ) → c < reduced g .n → d < reduced g .n → Equivalent (reduced g) (reduced g) c d → c ≡ d
-  unfolding reduced classGame sameClass
-  reduced-apart c d hc hd t =
-      let rc = rep-lt g c hc in
-      let rd = rep-lt g d hd in
-      let s = equivalent-trans hc (equivalent-sym (class-equivalent c hc)) (equivalent-trans hd t (class-equivalent d hd)) in
-      representatives-apart (g .n) (order g) (order-preorder g) c d hc hd (and-in (order-in g rc rd (s .up)) (order-in g rd rc (s .down)))
+    pub class-equivalent : (c : ℕ) → c < K .n → Equivalent K g c (rep c)
+    unfolding classGame
+    class-equivalent c h =
+        let r = order-refl g (rep c) (rep-lt g c h) in record {
+          up = record { relation = λ c w. So (order g (rep c) w); simulation = class-from g E enough; holds = r };
+          down = record { relation = λ v c. So (order g v (rep c)); simulation = class-into g E enough; holds = r };
+        }
+
+    pub class-apart : (c d : ℕ) → c < K .n → d < K .n → Equivalent K K c d → c ≡ d
+    unfolding classGame sameClass
+    class-apart c d hc hd t =
+        let rc = rep-lt g c hc in
+        let rd = rep-lt g d hd in
+        let s = equivalent-trans hc (equivalent-sym (class-equivalent c hc)) (equivalent-trans hd t (class-equivalent d hd)) in
+        representatives-apart (g .n) (order g) (order-preorder g) c d hc hd (and-in (order-in g rc rd (s .up)) (order-in g rd rc (s .down)))
+
+  -- ---- the reduced game
+
+  equivalent : (c : ℕ) → c < reduced g .n → Equivalent (reduced g) g c (rep c)
+  unfolding reduced
+  equivalent = class-equivalent (reducedEdge g (order g)) (reduced-enough g)
 
   -- an edge beside a better one would have been dropped
   reduced-kept : (c d e : ℕ) → c < reduced g .n → Succ (reduced g) c d → Succ (reduced g) c e
@@ -177,8 +188,8 @@ module _ (g : Game) where
 
       higher : Below a g g (rep d) (rep e)
       higher =
-          below-trans a (s .inside) (equivalent-down a (class-equivalent d (s .inside)))
-          (below-trans a (t .inside) b (equivalent-up a (class-equivalent e (t .inside))))
+          below-trans a (s .inside) (equivalent-down a (equivalent d (s .inside)))
+          (below-trans a (t .inside) b (equivalent-up a (equivalent e (t .inside))))
 
       better : (d ≡ e → ⊥) → Better g (rep c) (rep d)
       better f =
@@ -190,6 +201,10 @@ module _ (g : Game) where
             edge = reducedEdge-quotient g (rep c) (rep e) (t .along);
             above = noBetter-in g a (rep-lt g d (s .inside)) (r .inside) higher;
           }
+
+  pub reduced-lean : Lean (reduced g)
+  unfolding reduced
+  reduced-lean = record { apart = class-apart (reducedEdge g (order g)) (reduced-enough g); kept = reduced-kept }
 
   pub reduced-represents : Represents (reduced g) g
   unfolding reduced
@@ -204,13 +219,13 @@ module _ (g : Game) where
 
   reduced-represented : Represents g (reduced g)
   unfolding reduced classGame
-  reduced-represented c h = (rep c, rep-lt g c h, class-equivalent c h)
+  reduced-represented c h = (rep c, rep-lt g c h, equivalent c h)
 
   -- as small as can be
   pub reduced-smallest : Smallest g (reduced g)
   reduced-smallest = record {
     itself = reduced-represents;
     least = λ H f.
-        lean-least (reduced g) H (record { apart = reduced-apart; kept = reduced-kept })
+        lean-least (reduced g) H reduced-lean
         (represents-trans {G₁ = reduced g} {G₂ = g} {G₃ = H} reduced-represented f);
   }
