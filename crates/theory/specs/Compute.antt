@@ -2,7 +2,7 @@
 use Rattle.theory.specs.Bools.{_&_, _or_, imp, bit}
 use Rattle.theory.specs.Range.{allBelow, anyBelow, anyFrom, firstOf, first, count, nth, tabulate, pairsBelow, pairsOf}
 use Rattle.theory.specs.Passes.{nextPass, pass, settled, rounds, passCount, finalMarks, relOf, pairStart, pairTest, largest}
-use Rattle.theory.specs.Game.{other, same, parity, edgeCount}
+use Rattle.theory.specs.Game.{other, same, parity, isTotal, edgeCount}
 use Rattle.theory.specs.Order.{allNext, anyNext, moves, equalPriority, test, marksBetween, below, orderMarks, order, orderPasses}
 use Rattle.theory.specs.Governed.{governedTest, governedMarks, governed, governedPasses}
 use Rattle.theory.specs.Plan.{linked}
@@ -13,5 +13,5 @@ use Rattle.theory.specs.Minimal.{represents}
 use Rattle.theory.specs.PlanTest.{eachLink, goodLink, answered, moved, surelyWins}
 
 unfoldable pub compute : Unit {0}
-unfolding _&_ _or_ imp bit allBelow anyBelow anyFrom firstOf first count nth tabulate pairsBelow pairsOf nextPass pass settled rounds passCount finalMarks relOf pairStart pairTest largest other same parity edgeCount allNext anyNext moves equalPriority test marksBetween below orderMarks order orderPasses governedTest governedMarks governed governedPasses linked sameClass lowest isLowest classCount classNumber representative quotientEdge noBetter dropped reducedEdge classGame quotient reduced classOf isAt numberOf visit visits search firstLink usable answer answerTo movesBelow movesOf foundFrom carried carriedPlan classNoBetter carriedClassPlan represents eachLink goodLink answered moved surelyWins
+unfolding _&_ _or_ imp bit allBelow anyBelow anyFrom firstOf first count nth tabulate pairsBelow pairsOf nextPass pass settled rounds passCount finalMarks relOf pairStart pairTest largest other same parity isTotal edgeCount allNext anyNext moves equalPriority test marksBetween below orderMarks order orderPasses governedTest governedMarks governed governedPasses linked sameClass lowest isLowest classCount classNumber representative quotientEdge noBetter dropped reducedEdge classGame quotient reduced classOf isAt numberOf visit visits search firstLink usable answer answerTo movesBelow movesOf foundFrom carried carriedPlan classNoBetter carriedClassPlan represents eachLink goodLink answered moved surelyWins
 compute = tt

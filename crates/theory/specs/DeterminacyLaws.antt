@@ -185,16 +185,17 @@ solve G S sub = solve-within G (count (G .n) S) S sub (le-refl (count (G .n) S))
 
 -- ---- the winner
 
--- Even's where Even's region holds v. It asks for no proof: of a game that isn't total it says nothing.
+-- by a solution of the game
+winnerBy : {G : Game} → Solution G even (whole G) → ℕ → Player
+winnerBy s v = cond (s .mine v) even odd
+
+-- who wins at v. It asks for no proof: of a game that isn't total it says nothing.
 pub winner : Game → ℕ → Player
-winner G v = elim (decide (isTotal G)) [
-  | inl t ↦ cond (solve G (whole G) (whole-subgame G (total-out G t)) .mine v) even odd
-  | inr f ↦ even
-]
+winner G v = elim (decide (isTotal G)) [ inl t ↦ winnerBy (solve G (whole G) (whole-subgame G (total-out G t))) v | inr f ↦ even ]
 
 -- the winner wins, by a small plan
 pub winner-wins : (G : Game) → Total G → (v : ℕ) → v < G .n → WonSmall (winner G v) G v
-unfolding winner
+unfolding winner winnerBy
 winner-wins G total v h = go (decide (isTotal G))
   where
     by : (s : Solution G even (whole G)) (b : Bool) → s .mine v ≡ b → WonSmall (cond b even odd) G v
@@ -205,7 +206,7 @@ winner-wins G total v h = go (decide (isTotal G))
     ]
 
     go : (d : So (isTotal G) ⊎ (isTotal G ≡ false))
-        → WonSmall (elim d [ inl t ↦ cond (solve G (whole G) (whole-subgame G (total-out G t)) .mine v) even odd | inr f ↦ even ]) G v
+        → WonSmall (elim d [ inl t ↦ winnerBy (solve G (whole G) (whole-subgame G (total-out G t))) v | inr f ↦ even ]) G v
     go (inl t) = let s = solve G (whole G) (whole-subgame G (total-out G t)) in by s (s .mine v) refl
     go (inr f) = clash (total-in G total) f
 

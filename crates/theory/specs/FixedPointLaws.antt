@@ -1,7 +1,7 @@
 -- A reducer that is done when it is done. In a game of classes the order compares two classes as the order of the game compares their lowest
 -- members. So it is antisymmetric, each class is a class by itself, and has as quotient edges its edges. In the reduced game no edge
 -- stands beside one that is at least as good for the owner, so nothing is dropped either: reduced again, it is itself.
-use mathlib.Core.Path.{_≡_, refl, sym, ap, ap₂, _∙_, subst}
+use mathlib.Core.Path.{_≡_, sym, ap, ap₂, _∙_, subst}
 use mathlib.Core.Bool.{true, So}
 use Prim.Native.Nat.{ℕ, _<_}
 use native.Mathlib.Omega.{arith}
@@ -13,10 +13,10 @@ use Rattle.theory.specs.Game.{even, Game}
 use Rattle.theory.specs.SimulationLaws.{below-trans}
 use Rattle.theory.specs.Order.{order, Preorder}
 use Rattle.theory.specs.OrderLaws.{order-in, order-out}
-use Rattle.theory.specs.Reduction.{sameClass, lowest, isLowest, classCount, classNumber, representative, quotientEdge, reducedEdge, dropped, classGame, quotient, reduced, classOf}
+use Rattle.theory.specs.Reduction.{sameClass, lowest, isLowest, classCount, classNumber, representative, quotientEdge, reducedEdge, classGame, quotient, reduced, classOf}
 use Rattle.theory.specs.ClassEdges.{Better, Enough}
 use Rattle.theory.specs.ClassLaws.{sameClass-refl, lowest-lt, lowest-same, classCount-le, representative-class}
-use Rattle.theory.specs.QuotientLaws.{order-preorder, rep-lt, noBetter-out, quotientEdge-in, quotientEdge-out, dropped-out, reducedEdge-quotient}
+use Rattle.theory.specs.QuotientLaws.{order-preorder, rep-lt, noBetter-out, quotientEdge-in, quotientEdge-out, dropped-out}
 use Rattle.theory.specs.ReductionLaws.{quotient-enough, reduced-enough}
 use Rattle.theory.specs.Agreement.{Agree}
 use Rattle.theory.specs.Minimal.{Equivalent}

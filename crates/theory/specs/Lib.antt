@@ -64,3 +64,4 @@ pub mod Compute
 pub mod Examples
 pub mod CarryExamples
 pub mod MinimalExamples
+pub mod WinnerExamples
