@@ -13,6 +13,7 @@ use Rattle.theory.specs.Reduction.{reduced}
 use Rattle.theory.specs.AgreementLaws.{agree-wins}
 use Rattle.theory.specs.Carry.{classNoBetter}
 use Rattle.theory.specs.CarryLaws.{carriedPlan-wins, carriedClassPlan-wins}
+use Rattle.table.specs.Limits.{positionLimit, linkLimit}
 use Rattle.table.specs.Table.{playerOf, gameOf}
 use Rattle.table.specs.TableWords.{edgesOf}
 use Rattle.table.specs.TableWordsLaws.{tableWords-agree, edgesOf-lists}
@@ -25,8 +26,7 @@ use Rattle.links.specs.PlanFormed.{PlanSized}
 use Rattle.plan.specs.Acceptance.{planAnswer}
 use Rattle.plan.specs.WinningLaws.{plan-accepts}
 use Rattle.arrival.specs.PlanWords.{planWords, planCounts}
-use Rattle.carry.specs.CarryCall.{carryRows, CarryCall, carryClassRows, CarryClassCall}
-use Rattle.carry.specs.CarryRules.{Arriving}
+use Rattle.carry.specs.CarryCall.{carriedTo, carryRows, CarryCall, carriedFromClass, carryClassRows, CarryClassCall}
 use Rattle.carry.specs.CarryRulesLaws.{carry-accepted, carry-class-accepted}
 
 -- ---- the plan of its words
@@ -88,9 +88,10 @@ pub record PlanFrom (game : List ℕ) (player y : ℕ) (words : List ℕ) : Type
   pub accepted : planAnswer game player words ≡ accepted []
   pub start : vertexAt words 0 ≡ y
 
-module _ {game : List ℕ} {player x y : ℕ} {C : Plan} {output : List ℕ} (well : WellFormed game) (number : player ≤ 1)
-    (arriving : Arriving game player x y C output) (wins : Wins (playerOf player) (gameOf game) C y) where
-  plan-from : PlanFrom game player y (planWords C)
+-- the words of a plan C that wins from y and is within the limits
+module _ {game : List ℕ} {player y : ℕ} (C : Plan) (well : WellFormed game) (number : player ≤ 1)
+    (positions : length (C .vertices) ≤ positionLimit) (links : length (C .links) ≤ linkLimit) (wins : Wins (playerOf player) (gameOf game) C y) where
+  pub plan-from : PlanFrom game player y (planWords C)
   unfolding planWords
   plan-from =
       let s : vertexAt (planWords C) 0 ≡ y = vertex-word C 0 (wins .some) ∙ wins .start in record {
@@ -104,13 +105,13 @@ module _ {game : List ℕ} {player x y : ℕ} {C : Plan} {output : List ℕ} (we
       }
     where
       words-sized : PlanSized (planWords C)
-      words-sized = record { some = wins .some; positions = arriving .positions; links = arriving .links; size = length-words C }
+      words-sized = record { some = wins .some; positions = positions; links = links; size = length-words C }
 
   -- behind it stands old content
-  written-from : (p l : ℕ) (output′ : List ℕ) → p ∷ l ∷ [] ≡ planCounts C → output′ ≡ written (planWords C) output
+  written-from : (p l : ℕ) (output output′ : List ℕ) → p ∷ l ∷ [] ≡ planCounts C → output′ ≡ written (planWords C) output
       → PlanFrom game player y (writtenPlan p l output′)
   unfolding written
-  written-from p l output′ e f =
+  written-from p l output output′ e f =
       let hp : p ≡ length (C .vertices) = cc e in
       let hl : l ≡ length (C .links) = cc e in
       subst (PlanFrom game player y) (sym (rw (f, hp, hl) (take-at (planWords C) _ _ (length-words C)))) plan-from
@@ -122,9 +123,9 @@ module _ {game : List ℕ} {player : ℕ} {plan : List ℕ} {vertex : ℕ} {mark
   unfolding gameOf
   carry-wins =
       let (f, e) = carry-accepted call _ refl in
-      written-from (f .orderFits .game) (f .accepts .number) (f .arriving)
+      written-from (carriedTo game player plan vertex) (f .orderFits .game) (f .accepts .number) (f .arriving .positions) (f .arriving .links)
       (carriedPlan-wins (playerOf player) (gameOf game) (planOf plan) (vertexAt plan 0) vertex (f .accepts .wins) (f .arriving .vertex) (f .arriving .inOrder))
-      p l output′ e (call .output-after ∙ after-accepted (carryRows game player plan vertex marks spare output) _ _ output (sym (call .verdict)))
+      p l output output′ e (call .output-after ∙ after-accepted (carryRows game player plan vertex marks spare output) _ _ output (sym (call .verdict)))
 
 module _ {game : List ℕ} {player : ℕ} {plan : List ℕ} {vertex : ℕ} {marks spare classes reduction output : List ℕ}
     {marks′ spare′ classes′ reduction′ output′ : List ℕ} {k n e p l : ℕ}
@@ -136,7 +137,7 @@ module _ {game : List ℕ} {player : ℕ} {plan : List ℕ} {vertex : ℕ} {mark
       let R = reduced (gameOf game) in
       let wins =
       agree-wins (playerOf player) (gameOf (classTable reduced game)) R (tableWords-agree R (edgesOf R) (edgesOf-lists R)) (planOf plan) (vertexAt plan 0) (f .accepts .wins) in
-      written-from (f .tableFits .classesFit .orderFits .game) (f .accepts .number) (f .arriving)
+      written-from (carriedFromClass game player plan vertex) (f .tableFits .classesFit .orderFits .game) (f .accepts .number) (f .arriving .positions) (f .arriving .links)
       (carriedClassPlan-wins (playerOf player) (gameOf game) (planOf plan) (vertexAt plan 0) vertex wins (f .arriving .vertex) (f .arriving .inOrder))
-      p l output′ (cc q)
+      p l output output′ (cc q)
       (call .output-after ∙ after-accepted (carryClassRows game player plan vertex marks spare classes reduction output) _ _ output (sym (call .verdict)))

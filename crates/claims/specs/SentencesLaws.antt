@@ -45,7 +45,7 @@ passed : (rows : List Row) (counts : List ℕ) {answer : Answer} → answer ≡ 
 passed rows counts verdict given e = judge-accepted rows counts given (sym verdict ∙ e) .0
 
 -- wherever a call leaves the order
-order-sentences : {game : List ℕ} {rows : List Row} {old new : List ℕ} → LeavesOrder game rows old new → Clean rows → OrderSentences game new
+pub order-sentences : {game : List ℕ} {rows : List Row} {old new : List ℕ} → LeavesOrder game rows old new → Clean rows → OrderSentences game new
 order-sentences left clean = record { contains = demands.contains left clean; even-up = demands.even-up left clean; odd-down = demands.odd-down left clean }
 
 -- what follows from what holds
@@ -114,7 +114,7 @@ module _ {game : List ℕ} {player : ℕ} {plan : List ℕ} {vertex : ℕ} {mark
   abbrev tabled : List Row
   tabled = tableRows game marks spare classes reduction
 
-  table-passed : OnceWritten AfterReduction answer (Clean tabled)
+  pub table-passed : OnceWritten AfterReduction answer (Clean tabled)
   unfolding carryClassRows
   table-passed = record {
     accepts = λ counts e.
@@ -123,7 +123,7 @@ module _ {game : List ℕ} {player : ℕ} {plan : List ℕ} {vertex : ℕ} {mark
   }
 
   -- what it leaves once its rows 1 to 8 and 21 to 24 are passed is what the reduced-game call leaves
-  reduced-call : Clean tabled → TableCall reduced game marks spare classes reduction (accepted (tableCounts reduced game)) marks′ spare′ classes′ reduction′
+  pub reduced-call : Clean tabled → TableCall reduced game marks spare classes reduction (accepted (tableCounts reduced game)) marks′ spare′ classes′ reduction′
   reduced-call c = record {
     verdict = sym (judge-clean tabled (tableCounts reduced game) c);
     marks-after = call .marks-after;

@@ -27,12 +27,12 @@ use Rattle.table.specs.TableWords.{ownerWord, edgesOf, tableWords, Lists
 
 -- ---- owners as words
 
-owner-le : (a : Player) → ownerWord a ≤ 1
+pub owner-le : (a : Player) → ownerWord a ≤ 1
 unfolding ownerWord
 owner-le even = omega arith
 owner-le odd = omega arith
 
-player-owner : (a : Player) → playerOf (ownerWord a) ≡ a
+pub player-owner : (a : Player) → playerOf (ownerWord a) ≡ a
 unfolding ownerWord playerOf
 player-owner even = refl
 player-owner odd = refl

@@ -12,12 +12,12 @@ use Rattle.theory.specs.Passes.{Rel}
 use Rattle.theory.specs.Game.{even, Game}
 use Rattle.theory.specs.SimulationLaws.{below-trans}
 use Rattle.theory.specs.Order.{order, Preorder}
-use Rattle.theory.specs.OrderLaws.{order-in, order-out}
+use Rattle.theory.specs.OrderLaws.{order-in, order-out, order-trans}
 use Rattle.theory.specs.Reduction.{sameClass, lowest, isLowest, classCount, classNumber, representative, quotientEdge, reducedEdge, classGame, quotient, reduced, classOf}
 use Rattle.theory.specs.ClassEdges.{Better, Enough}
-use Rattle.theory.specs.ClassLaws.{sameClass-refl, lowest-lt, lowest-same, classCount-le, representative-class}
+use Rattle.theory.specs.ClassLaws.{sameClass-le, sameClass-ge, sameClass-refl, lowest-lt, lowest-same, classCount-le, representative-class, representative-same}
 use Rattle.theory.specs.QuotientLaws.{order-preorder, rep-lt, noBetter-out, quotientEdge-in, quotientEdge-out, dropped-out}
-use Rattle.theory.specs.ReductionLaws.{quotient-enough, reduced-enough}
+use Rattle.theory.specs.ReductionLaws.{quotient-enough, reduced-enough, classOf-reduced}
 use Rattle.theory.specs.Agreement.{Agree}
 use Rattle.theory.specs.Minimal.{Equivalent}
 use Rattle.theory.specs.MinimalLaws.{Lean, class-equivalent, class-apart, reduced-lean}
@@ -138,6 +138,28 @@ module _ (g : Game) where
   pub reduced-order : (c d : ℕ) → c < reduced g .n → d < reduced g .n → order (reduced g) c d ≡ order g (rep c) (rep d)
   unfolding reduced classGame
   reduced-order = class-order (reducedEdge g (order g)) (reduced-enough g)
+
+  -- so it compares the classes of two vertices as the order of the game compares these
+  pub reduced-compares : (v w : ℕ) → v < g .n → w < g .n → order (reduced g) (classOf g v) (classOf g w) ≡ order g v w
+  reduced-compares v w hv hw =
+      reduced-order (classOf g v) (classOf g w) (classOf-reduced g v hv) (classOf-reduced g w hw) ∙ So-ext
+      (λ t. order-trans g v (low v) w hv (low-lt v hv) hw (up v hv) (order-trans g (low v) (low w) w (low-lt v hv) (low-lt w hw) hw t (down w hw)))
+      (λ t. order-trans g (low v) v (low w) (low-lt v hv) hv (low-lt w hw) (down v hv) (order-trans g v w (low w) hv hw (low-lt w hw) t (up w hw)))
+    where
+      low : ℕ → ℕ
+      low v = rep (classOf g v)
+
+      low-same : (v : ℕ) → v < g .n → So (sameClass (order g) (low v) v)
+      low-same v h = unfold classOf in representative-same (g .n) (order g) (order-preorder g) v h
+
+      low-lt : (v : ℕ) → v < g .n → low v < g .n
+      low-lt v h = rep-lt g (classOf g v) (unfold reduced classGame in classOf-reduced g v h)
+
+      up : (v : ℕ) → v < g .n → So (order g v (low v))
+      up v h = sameClass-ge (order g) (low v) v (low-same v h)
+
+      down : (v : ℕ) → v < g .n → So (order g (low v) v)
+      down v h = sameClass-le (order g) (low v) v (low-same v h)
 
   -- no two classes are below each other
   pub reduced-antisymmetric : (c d : ℕ) → c < reduced g .n → d < reduced g .n → So (order (reduced g) c d) → So (order (reduced g) d c) → c ≡ d

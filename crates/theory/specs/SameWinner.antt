@@ -17,13 +17,17 @@ same-winner {G} {K} totalG totalK {v} {c} hv hc alike =
     let a = winner K c in
     winner-is G totalG v hv a .0 (alike a .1 (winner-is K totalK c hc a .1 refl))
 
+-- who wins at v wins at w, where a plan from v gives one from w
+pub winner-moves : {G : Game} → Total G → (a : Player) {v w : ℕ} → v < G .n → w < G .n → (Won a G v → Won a G w) → winner G v ≡ a → winner G w ≡ a
+winner-moves {G} total a {v} {w} hv hw gives e = winner-is G total w hw a .0 (gives (winner-is G total v hv a .1 e))
+
 module _ (g : Game) (total : Total g) where
   -- where v is below w: if Even wins at v then at w, if Odd wins at w then at v
   pub winner-up : (v w : ℕ) → v < g .n → w < g .n → So (order g v w) → winner g v ≡ even → winner g w ≡ even
-  winner-up v w hv hw t e = winner-is g total w hw even .0 (even-up g v w hv hw t (winner-is g total v hv even .1 e))
+  winner-up v w hv hw t = winner-moves total even hv hw (even-up g v w hv hw t)
 
   pub winner-down : (v w : ℕ) → v < g .n → w < g .n → So (order g v w) → winner g w ≡ odd → winner g v ≡ odd
-  winner-down v w hv hw t e = winner-is g total v hv odd .0 (odd-down g v w hv hw t (winner-is g total w hw odd .1 e))
+  winner-down v w hv hw t = winner-moves total odd hw hv (odd-down g v w hv hw t)
 
   -- the winner at a vertex is the winner at its class
   pub winner-quotient : (v : ℕ) → v < g .n → winner g v ≡ winner (quotient g) (classOf g v)

@@ -13,7 +13,7 @@ use Rattle.theory.specs.DeterminacyLaws.{winner, winner-is, determined, 
 use Rattle.theory.specs.Reduction.{reduced, classOf}
 use Rattle.theory.specs.SameWinner.{winner-up, winner-down, winner-reduced}
 use Rattle.theory.specs.AgreementLaws.{agree-edges}
-use Rattle.theory.specs.FixedPointLaws.{reduced-order, reduced-antisymmetric, reduced-class, reduced-twice}
+use Rattle.theory.specs.FixedPointLaws.{reduced-order, reduced-compares, reduced-antisymmetric, reduced-class, reduced-twice}
 use Rattle.theory.specs.PlanTestLaws.{surely-wins}
 use Rattle.theory.specs.Compute.{compute}
 use Rattle.theory.specs.Examples.{listGame, edgesOf, gameD, won-5}
@@ -98,6 +98,11 @@ beside-order = reduced-order beside 1 2 (omega arith) (omega arith)
 pub beside-holds : order beside 2 3 ≡ true
 unfolding compute beside
 beside-holds = refl
+
+-- the classes of 2 and 3 compare as they do
+pub beside-compares : order (reduced beside) (classOf beside 2) (classOf beside 3) ≡ true
+unfolding compute beside
+beside-compares = reduced-compares beside 2 3 (omega arith) (omega arith)
 
 -- and so class 2 isn't below class 1
 pub beside-apart : ¬ So (order (reduced beside) 2 1)
