@@ -10,6 +10,7 @@ mod carries;
 mod conversions;
 mod edits;
 mod families;
+mod fixed_point;
 mod governed;
 mod limits;
 mod minimal;

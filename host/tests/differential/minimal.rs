@@ -16,7 +16,7 @@ fn smaller(a: Sizes, b: Sizes) -> bool {
 }
 
 /// A table's game, which need not be total.
-fn game(table: &Table) -> Game {
+pub fn game(table: &Table) -> Game {
     let edges = table.edges.iter().map(|edge| (edge.0 as usize, edge.1 as usize));
     Game::new(table.priorities.clone(), table.owners.clone(), edges.collect())
 }
@@ -27,7 +27,7 @@ fn others() -> Vec<Game> {
 }
 
 /// Every total game of 1 to 3 vertices.
-fn total_games() -> Vec<Table> {
+pub fn total_games() -> Vec<Table> {
     let total = |table: &Table| table.successors().iter().all(|targets| !targets.is_empty());
     (1..=3).flat_map(small_games).filter(total).collect()
 }
