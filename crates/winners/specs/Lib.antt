@@ -1,0 +1,5 @@
+pub mod Winners
+pub mod WinnersLaws
+pub mod Twice
+pub mod TwiceLaws
+pub mod Applied
