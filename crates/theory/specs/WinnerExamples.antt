@@ -9,14 +9,14 @@ use Rattle.theory.specs.Game.{even, odd, Game, Total}
 use Rattle.theory.specs.GameLaws.{total-out}
 use Rattle.theory.specs.Order.{order}
 use Rattle.theory.specs.Plan.{Plan, Wins, Won, WonSmall}
-use Rattle.theory.specs.DeterminacyLaws.{winner, winner-is, determined, won-small, won-lost}
-use Rattle.theory.specs.Reduction.{reduced, classOf}
-use Rattle.theory.specs.SameWinner.{winner-up, winner-down, winner-reduced}
+use Rattle.theory.specs.DeterminacyLaws.{winner, winner-is, determined, won-small, won-lost, won-decided}
+use Rattle.theory.specs.Reduction.{quotient, reduced, classOf}
+use Rattle.theory.specs.SameWinner.{winner-up, winner-down, winner-quotient, winner-reduced}
 use Rattle.theory.specs.AgreementLaws.{agree-edges}
-use Rattle.theory.specs.FixedPointLaws.{reduced-order, reduced-compares, reduced-antisymmetric, reduced-class, reduced-twice}
+use Rattle.theory.specs.FixedPointLaws.{reduced-order, reduced-compares, reduced-antisymmetric, reduced-class, reduced-twice, quotient-class, quotient-twice}
 use Rattle.theory.specs.PlanTestLaws.{surely-wins}
 use Rattle.theory.specs.Compute.{compute}
-use Rattle.theory.specs.Examples.{listGame, edgesOf, gameD, won-5}
+use Rattle.theory.specs.Examples.{listGame, edgesOf, gameC, gameD, won-5}
 
 D-total : Total gameD
 unfolding compute gameD
@@ -32,6 +32,11 @@ pub D-winner-class : winner (reduced gameD) 0 ≡ even
 unfolding compute gameD
 D-winner-class = sym (winner-reduced gameD D-total 5 (omega arith)) ∙ D-winner-5
 
+-- and at the class in the quotient
+pub D-winner-quotient : winner (quotient gameD) 0 ≡ even
+unfolding compute gameD
+D-winner-quotient = sym (winner-quotient gameD D-total 5 (omega arith)) ∙ D-winner-5
+
 pub D-winner-0 : winner gameD 0 ≡ even
 unfolding compute gameD
 D-winner-0 = winner-up gameD D-total 5 0 (omega arith) (omega arith) refl D-winner-5
@@ -45,6 +50,11 @@ D-small-5 = won-small gameD D-total 5 (omega arith) even won-5
 pub D-either-2 : Won even gameD 2 ⊎ Won odd gameD 2
 unfolding gameD
 D-either-2 = determined gameD D-total 2 (omega arith)
+
+-- and it is decided whether it is Even
+pub D-decided-2 : Dec (Won even gameD 2)
+unfolding gameD
+D-decided-2 = won-decided gameD D-total 2 (omega arith) even
 
 -- ---- Odd wins at 3, round its loop; so Even has no plan there, however long
 
@@ -117,3 +127,13 @@ beside-class = reduced-class beside 4 (omega arith)
 pub beside-twice : edgesOf (reduced (reduced beside)) ≡ (0, 2) ∷ (1, 3) ∷ (2, 3) ∷ (2, 4) ∷ (3, 3) ∷ (4, 4) ∷ []
 unfolding compute beside edgesOf
 beside-twice = agree-edges (reduced-twice beside)
+
+-- ---- the quotient of C's quotient has all edges of C, and each vertex is its own class
+
+pub C-quotient-class : classOf (quotient (gameC even)) 2 ≡ 2
+unfolding compute gameC
+C-quotient-class = quotient-class (gameC even) 2 (omega arith)
+
+pub C-quotient-twice : edgesOf (quotient (quotient (gameC even))) ≡ (0, 1) ∷ (0, 2) ∷ (1, 3) ∷ (2, 3) ∷ (2, 4) ∷ (3, 3) ∷ (4, 4) ∷ []
+unfolding compute gameC edgesOf
+C-quotient-twice = agree-edges (quotient-twice (gameC even))
