@@ -2,4 +2,6 @@ pub mod Winners
 pub mod WinnersLaws
 pub mod Twice
 pub mod TwiceLaws
+pub mod Desk
+pub mod DeskLaws
 pub mod Applied
