@@ -1,8 +1,7 @@
 //! What it costs to pack the marks, beside all else that the order's call does.
 //!
 //! Packing goes by the number of vertices alone. The baseline's is timed by itself. The library's can't be called
-//! alone: it is what the order of a ring takes, whose one pass loses nothing, less reading and less the baseline's
-//! rows of the ring. Where the library's rows take longer than the baseline's, that is too much, and never too little.
+//! alone; what a ring's order takes after reading, whose one pass loses nothing, bounds it, and holds the rows too.
 
 use crate::rows::{Row, Work};
 use crate::{baseline, measure};
@@ -40,14 +39,13 @@ fn baseline_times(game: &[u16]) -> [Duration; 3] {
     best
 }
 
-/// What the library takes at most to pack the marks of n vertices.
-fn library_packing(n: u16) -> Duration {
-    let ring = ring(n as usize).words();
-    let [order, read] = library_times(&ring);
-    order.saturating_sub(read + baseline_times(&ring)[1])
+/// A bound of what the library takes to pack the marks of n vertices.
+fn packing_bound(n: u16) -> Duration {
+    let [order, read] = library_times(&ring(n as usize).words());
+    order.saturating_sub(read)
 }
 
-/// A line for each game whose reduction is measured and that has 256 vertices or more, and the largest ratios.
+/// A line for each game whose reduction is measured and that has 256 vertices or more, and the largest ratio.
 pub fn show(rows: &[Row]) {
     println!(
         "\n{:23} {:>4} {:>5} {:>11} {:>11} {:>6} {:>11} {:>11} {:>6}",
@@ -55,31 +53,26 @@ pub fn show(rows: &[Row]) {
         "n",
         "m",
         "library µs",
-        "packing µs",
-        "ratio",
+        "at most µs",
+        "share",
         "bit rows µs",
         "packing µs",
         "ratio"
     );
-    let (mut packing, mut largest) = (BTreeMap::new(), [0f64; 2]);
+    let (mut bounds, mut largest) = (BTreeMap::new(), 0f64);
     let reduced = rows.iter().filter(|row| matches!(row.work, Work::Reduce) && row.game[0] >= 256);
     for Row { name, game, .. } in reduced {
         let n = game[0];
-        let packed = *packing.entry(n).or_insert_with(|| library_packing(n));
-        let [read, rows, packed_rows] = baseline_times(game);
-        let both =
-            [[library_times(game)[0].saturating_sub(packed), packed], [read + rows, packed_rows]];
-        let [library, baseline] = both.map(|times| times.map(|time| time.as_secs_f64() * 1e6));
-        let ratios = [library, baseline].map(|[order, packing]| packing / order);
+        let bound = *bounds.entry(n).or_insert_with(|| packing_bound(n));
+        let [read, rows, packing] = baseline_times(game);
+        let times = [library_times(game)[0], bound, read + rows, packing];
+        let [order, bound, rest, packing] = times.map(|time| time.as_secs_f64() * 1e6);
+        let (share, ratio) = (bound / order, packing / rest);
         println!(
-            "{name:23} {n:>4} {:>5} {:>11.1} {:>11.1} {:>6.2} {:>11.1} {:>11.1} {:>6.2}",
-            game[1], library[0], library[1], ratios[0], baseline[0], baseline[1], ratios[1]
+            "{name:23} {n:>4} {:>5} {order:>11.1} {bound:>11.1} {share:>6.2} {rest:>11.1} {packing:>11.1} {ratio:>6.2}",
+            game[1]
         );
-        largest = [0, 1].map(|side| largest[side].max(ratios[side]));
+        largest = largest.max(ratio);
     }
-    let [library, baseline] = largest;
-    println!(
-        "packing beside the rest of the order, less than 1 asked: at most {library:.2} in the library, \
-         {baseline:.2} in the bit rows"
-    );
+    println!("packing to the rest of the order in the bit rows, less than 1 asked: {largest:.2}");
 }
