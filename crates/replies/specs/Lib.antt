@@ -2,3 +2,4 @@ pub mod Replies
 pub mod SeatedLaws
 pub mod ChainLaws
 pub mod RepliesLaws
+pub mod SuccessorLaws

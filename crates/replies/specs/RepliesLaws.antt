@@ -132,10 +132,21 @@ module _ (game : List ℕ) (player : ℕ) (plan seats : List ℕ) (i u : ℕ) wh
         (r .0 ++ more, sym (append-assoc (moves w) (r .0) more) ∙ ap (λ (x : List (ℕ × ℕ)). x ++ more) (r .1) ∙ sym (moves-suc c)))
   ]
 
+  -- vertices that aren't replied add no move
+  pub movesBelow-skip : (a c : ℕ) → a ≤ c → ((w : ℕ) → a ≤ w → w < c → replied game player plan seats i u w ≡ false) → moves c ≡ moves a
+  unfolding moveTo
+  movesBelow-skip a zero h f = let e : a ≡ 0 = omega arith in rw e refl
+  movesBelow-skip a (suc c) h f = elim (decLt c a) [
+    | yes l ↦ (let e : a ≡ suc c = omega arith in rw e refl)
+    | no l ↦ (
+        let none : moveTo game player plan seats i u c ≡ [] = rw (f c (omega arith) (omega arith)) refl in
+        moves-suc c ∙ ap (λ (x : List (ℕ × ℕ)). moves c ++ x) none ∙ append-nil (moves c)
+        ∙ movesBelow-skip a c (omega arith) (λ w x y. f w x (omega arith)))
+  ]
+
   none-below : (c : ℕ) → ((w : ℕ) → w < c → replied game player plan seats i u w ≡ false) → moves c ≡ []
-  unfolding movesBelow moveTo
-  none-below zero f = refl
-  none-below (suc c) f = moves-suc c ∙ rw (none-below c (λ w h. f w (omega arith)), f c (omega arith)) refl
+  unfolding movesBelow
+  none-below c f = movesBelow-skip 0 c zero-le (λ w l. f w)
 
   -- where no vertex is replied there is no move
   pub lone-none : (w n : ℕ) → w ≡ first (replied game player plan seats i u) 0 n → n ≤ w → take 1 (moves n) ≡ []

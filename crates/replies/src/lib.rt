@@ -1,17 +1,20 @@
 // What answers a move where a plan is carried: the links of the old plan, each position's in a chain. Parts of the calls that carry a plan;
 // no host calls these.
+use members::next_member;
 use pairs::marks::is_marked;
 use table::flags::is_edge;
 use table::words;
 ghost use mathlib.Core.Path.{_≡_};
+ghost use mathlib.Core.Bool.{So};
 ghost use Prim.Native.Nat.{ℕ, _≤_, _<_};
 ghost use lib.ListN.{length, getD};
 ghost use Rattle.theory.specs.Range.{first};
 ghost use Rattle.theory.specs.Game.{own};
 ghost use Rattle.theory.specs.Reduction.{noBetter};
-ghost use Rattle.table.specs.Limits.{vertexLimit};
+ghost use Rattle.table.specs.Limits.{vertexLimit, pairWords};
 ghost use Rattle.table.specs.Table.{vertexCount, playerOf, gameOf};
 ghost use Rattle.table.specs.WellFormed.{WellFormed};
+ghost use Rattle.table.specs.Flags.{flagged};
 ghost use Rattle.pairs.specs.Marks.{marksLength, relation};
 ghost use Rattle.links.specs.PlanTable.{positionCount, linkCount, linkSource, linkTarget};
 ghost use Rattle.links.specs.PlanFormed.{PlanSized};
@@ -108,6 +111,31 @@ fn answer(
     l
 }
 
+// The position that answers a move to w along an edge at position i; the number of positions where none does.
+fn reply_along(
+    game: &[u16],
+    player: u32,
+    plan: &[u16],
+    seats: &[u16],
+    marks: &[u8],
+    firsts: &[u16],
+    follow: &[u16],
+    i: usize,
+    w: usize,
+) -> usize
+    requires { ⌜ Linked (now game) player (now plan) (now seats) (now marks) (now firsts) (now follow) ⌝ }
+    requires { ⌜ (i < positionCount (now plan)) × (w < vertexCount (now game)) ⌝ }
+    ensures { λ r. ⌜ ((u : ℕ) → So (gameOf (now (game .entry)) .edge u w) → r ≡ replyTo (now (game .entry)) player (now (plan .entry)) (now (seats .entry)) i u w) ⌝ }
+{
+    let p = plan[0] as usize;
+    let l = plan[1] as usize;
+    let k = answer(game, player, plan, seats, marks, firsts, follow, i, w);
+    if k < l {
+        return plan[2 + p + l + k] as usize;
+    }
+    p
+}
+
 // The position that answers the move from u to w at position i; the number of positions where none does.
 pub fn reply(
     game: &[u16],
@@ -128,14 +156,19 @@ pub fn reply(
 {
     let n = game[0] as usize;
     let p = plan[0] as usize;
-    let l = plan[1] as usize;
     if is_edge(edges, n, u, w) {
-        let k = answer(game, player, plan, seats, marks, firsts, follow, i, w);
-        if k < l {
-            return plan[2 + p + l + k] as usize;
-        }
+        return reply_along(game, player, plan, seats, marks, firsts, follow, i, w);
     }
     p
+}
+
+// The first successor of u from `from` on, by the flags of the edges; n where there is none.
+pub fn next_successor(edges: &[u64], n: usize, u: usize, from: usize) -> usize
+    requires { ⌜ (u < n) × (from ≤ n) × (n ≤ vertexLimit) × (pairWords ≤ length (now edges)) ⌝ }
+    ensures { λ r. ⌜ r ≡ first (flagged n (now (edges .entry)) u) from n ⌝ }
+{
+    let base = u * n;
+    next_member(edges, base + from, base + n) - base
 }
 
 // The lowest successor of u that is answered at position i; the number of vertices where there is none.
@@ -157,25 +190,13 @@ pub fn lowest_reply(
 {
     let n = game[0] as usize;
     let p = plan[0] as usize;
-    let mut w = 0;
+    let mut w = next_successor(edges, n, u, 0);
     while w < n {
-        let j = reply(
-            game,
-            player,
-            plan,
-            seats,
-            marks,
-            edges,
-            firsts,
-            follow,
-            i,
-            u,
-            w,
-        );
+        let j = reply_along(game, player, plan, seats, marks, firsts, follow, i, w);
         if j < p {
             return w;
         }
-        w += 1;
+        w = next_successor(edges, n, u, w + 1);
     }
     w
 }
