@@ -3,13 +3,16 @@ use mathlib.Core.Path.{_≡_, refl}
 use mathlib.Core.Logic.{_⊎_, inl, inr}
 use mathlib.Core.Bool.{true, false}
 use mathlib.Core.List.{List, [], append-nil}
-use Prim.Native.Nat.{ℕ, _≤_}
+use Prim.Native.Nat.{ℕ, _≤_, _<_}
 use native.Mathlib.Omega.{arith}
 use lib.ListN.{take}
+use Rattle.theory.specs.Range.{first}
 use Rattle.theory.specs.Game.{own}
 use Rattle.theory.specs.Carry.{movesOf}
 use Rattle.table.specs.Table.{vertexCount, playerOf, gameOf}
+use Rattle.table.specs.Flags.{flagged, EdgeFlags}
 use Rattle.replies.specs.RepliesLaws.{movesBelow-prefix}
+use Rattle.replies.specs.SuccessorLaws.{successor-moves}
 use Rattle.pair_search.specs.Memory.{Memory, Moved}
 use Rattle.pair_search.specs.Search.{tableMovesBelow, tableMoves, Over, Expanded}
 
@@ -26,6 +29,12 @@ module _ (game : List ℕ) (player : ℕ) (plan seats : List ℕ) (i u : ℕ) wh
   expanded-below k p m m′ w n h v (inr q) =
       let r = movesBelow-prefix game player plan seats i u w n h in
       record { did = tableMovesBelow game player plan seats i u w; left = r .0; whole = r .1; moved = v; why = inr q }
+
+  -- the moves below a were made, and so those below the first successor from a on
+  pub moved-on : (k p : ℕ) (m m′ : Memory) (edges : List ℕ) → EdgeFlags game edges → (a w : ℕ) → u < vertexCount game → a ≤ vertexCount game
+      → w ≡ first (flagged (vertexCount game) edges u) a (vertexCount game)
+      → Moved k (tableMovesBelow game player plan seats i u a) p m m′ → Moved k (tableMovesBelow game player plan seats i u w) p m m′
+  moved-on k p m m′ edges flags a w hu ha e v = rw (successor-moves game edges flags u a w hu ha e player plan seats i) v
 
 module _ (game : List ℕ) (player : ℕ) (plan seats : List ℕ) (x : ℕ × ℕ) (k p : ℕ) (m m′ : Memory) where
   -- the player's moves, and the opponent's

@@ -4,6 +4,7 @@ mod found;
 use crate::found::add_pair;
 use crate::found::visit;
 use replies::lowest_reply;
+use replies::next_successor;
 use replies::owns;
 use replies::reply;
 use table::limits::LINKS;
@@ -284,7 +285,7 @@ fn expand_all(
     let u = vertices[k] as usize;
     let mut pairs = counts.pairs;
     let mut links = counts.links;
-    let mut w = 0;
+    let mut w = next_successor(edges, n, u, 0);
     while w < n {
         if POSITIONS < pairs {
             return Counts { pairs, links };
@@ -315,7 +316,7 @@ fn expand_all(
         );
         pairs = more.pairs;
         links = more.links;
-        w += 1;
+        w = next_successor(edges, n, u, w + 1);
     }
     Counts { pairs, links }
 }

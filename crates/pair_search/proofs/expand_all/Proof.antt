@@ -1,17 +1,19 @@
--- The moves to the vertices below w are made.
+-- The moves to the vertices below w are made, and w is the next successor.
 use mathlib.Core.Logic.{inl, inr}
 use mathlib.Core.Path.{_≡_, refl, _∙_}
-use Prim.Native.Nat.{_≤_, _-_}
+use Prim.Native.Nat.{_+_, _-_, _≤_}
 use native.Mathlib.Omega.{arith}
 use borrow.Author.Needs.{needs}
 use lib.ListN.{length}
 use Rattle.theory.specs.Carry.{movesBelow}
+use Rattle.table.specs.Table.{vertexCount}
 use Rattle.links.specs.PlanTable.{positionCount}
 use Rattle.replies.specs.RepliesLaws.{movesBelow-more}
+use Rattle.replies.specs.SuccessorLaws.{successor-le, successor-ge}
 use Rattle.pair_search.specs.Memory.{memory, Moved}
 use Rattle.pair_search.specs.MemoryLaws.{moved-none, moved-append}
 use Rattle.pair_search.specs.Search.{tableMovesBelow}
-use Rattle.pair_search.specs.ExpandLaws.{expanded-below}
+use Rattle.pair_search.specs.ExpandLaws.{expanded-below, moved-on}
 use Rattle.pair_search.proofs.expand_all.Statement.{statement}
 use Rattle.pair_search.proofs.expand_all.Tie as tie
 
@@ -50,13 +52,33 @@ slice-read-u c = search needs
 cast-u : tie.Need-cast-u Inv-loop μ-loop
 cast-u c = search needs
 
+abbrev before-search : tie.After-next-successor Inv-loop μ-loop → tie.Start Inv-loop μ-loop
+before-search c = c .before .before .before .before .before .before .before .before .before .before .before .before .before .before .before .before .before
+
 abbrev start : tie.At-loop Inv-loop μ-loop → tie.Start Inv-loop μ-loop
-start c = c .before .before .before .before .before .before .before .before .before .before .before .before .before .before .before .before .before
+start c = before-search (c .before)
+
+next-successor-requires : tie.Need-next-successor-requires Inv-loop μ-loop
+next-successor-requires c κs =
+    let e = c .before .before .before .before .before .before .before .before .before .before .before .before .before .before .before .before in
+    (e .pre .1 .1 .3, omega arith, e .pre .0 .links .board .well .vertices, e .pre .0 .flags .long)
 
 loop-holds : tie.Need-loop-holds Inv-loop μ-loop
 unfolding movesBelow
 loop-holds c =
-    (omega arith, refl, refl, refl, refl, refl, refl, moved-none _ _ _ (c .before .before .before .before .before .before .before .before .before .before .before .before .before .before .before .before .pre .1 .0))
+    let e = before-search c in
+    let flags = e .pre .0 .flags in
+    let hu = e .pre .1 .1 .3 in
+    let f = c .next-successor .ensures in (
+      successor-le _ _ flags _ 0 _ hu (omega arith) f,
+      refl,
+      refl,
+      refl,
+      refl,
+      refl,
+      refl,
+      moved-on _ _ _ _ _ _ _ _ _ _ _ flags 0 _ hu (omega arith) f (moved-none _ _ _ (e .pre .1 .0)),
+    )
 
 same-length : tie.Need-same-length Inv-loop μ-loop
 same-length c = search needs
@@ -119,28 +141,44 @@ in-loop c = c .before .before .before .before .before .before .before .before .b
 abbrev stepped : tie.After-slice-known14 Inv-loop μ-loop → tie.After-step Inv-loop μ-loop
 stepped c = c .before .before .before .before .before .before .before .before .before .before .before .before
 
-add-w : tie.Need-add-w Inv-loop μ-loop
-add-w c =
+add-next-successor : tie.Need-add-next-successor Inv-loop μ-loop
+add-next-successor c =
     let i = in-loop (stepped c) in
     omega (arith, i .loop-test .taken, start (i .before) .pre .0 .links .board .well .vertices)
 
+next-successor-requires-2 : tie.Need-next-successor-requires-2 Inv-loop μ-loop
+next-successor-requires-2 c κs =
+    let i = in-loop (stepped c) in
+    let e = start (i .before) in
+    (e .pre .1 .1 .3, omega (arith, i .loop-test .taken), e .pre .0 .links .board .well .vertices, e .pre .0 .flags .long)
+
 loop-less : tie.Need-loop-less Inv-loop μ-loop
-loop-less c = omega (arith, in-loop (stepped c) .loop-test .taken)
+loop-less c =
+    let i = in-loop (stepped (c .before)) in
+    let e = start (i .before) in
+    let h = i .loop-test .taken in
+    omega (arith, h, successor-ge _ _ (e .pre .0 .flags) _ (i .before .loop .w + 1) _ (e .pre .1 .1 .3) (omega (arith, h)) (c .next-successor2 .ensures))
 
 loop-again : tie.Need-loop-again Inv-loop μ-loop
 loop-again c =
-    let x = stepped c in
+    let x = stepped (c .before) in
     let i = in-loop x in
+    let e = start (i .before) in
     let l = i .before .loop in
+    let flags = e .pre .0 .flags in
+    let hu = e .pre .1 .1 .3 in
+    let h : l .w + 1 ≤ vertexCount (e .args .game .now) = omega (arith, i .loop-test .taken) in
+    let f = c .next-successor2 .ensures in
     let s = x .step in (
-      omega (arith, i .loop-test .taken),
+      successor-le _ _ flags _ (l .w + 1) _ hu h f,
       s .kept .1 .1 .1 .1 .1 .1 .1 .1 .0 ∙ l .inv .1,
       s .kept .1 .1 .1 .1 .1 .1 .1 .1 .1 .0 ∙ l .inv .2,
       s .kept .1 .1 .1 .1 .1 .1 .1 .1 .1 .1 .0 ∙ l .inv .3,
       s .kept .1 .1 .1 .1 .1 .1 .1 .1 .1 .1 .1 .0 ∙ l .inv .4,
       s .kept .1 .1 .1 .1 .1 .1 .1 .1 .1 .1 .1 .1 .0 ∙ l .inv .5,
       s .kept .1 .1 .1 .1 .1 .1 .1 .1 .1 .1 .1 .1 .1 .0 ∙ l .inv .6,
-      rw (movesBelow-more _ _ _ _ _ _ (l .w)) (moved-append _ _ _ _ _ _ _ (l .inv .7) (s .ensures)),
+      moved-on _ _ _ _ _ _ _ _ _ _ _ flags (l .w + 1) _ hu h f
+          (rw (movesBelow-more _ _ _ _ _ _ (l .w)) (moved-append _ _ _ _ _ _ _ (l .inv .7) (s .ensures))),
     )
 
 same-length-13 : tie.Need-same-length-13 Inv-loop μ-loop
@@ -180,6 +218,7 @@ expand-all-spec =
     mul-u
     slice-read-u
     cast-u
+    next-successor-requires
     loop-holds
     same-length
     same-length-2
@@ -196,7 +235,8 @@ expand-all-spec =
     same-length-12
     returns-2
     step-requires
-    add-w
+    add-next-successor
+    next-successor-requires-2
     loop-less
     loop-again
     same-length-13
