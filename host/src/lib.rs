@@ -43,6 +43,11 @@ pub const EVEN: u32 = 0;
 /// The player for whom an odd lowest priority wins.
 pub const ODD: u32 = 1;
 
+/// The most vertices of a game.
+pub const MOST_VERTICES: usize = 512;
+/// The most edges of a game's table, repeats included.
+pub const MOST_EDGES: usize = 4_096;
+
 /// The sizes of a table.
 #[derive(Clone, Copy, Debug, PartialEq, Eq)]
 pub struct Size {

@@ -176,7 +176,7 @@ fn edges_by_source_then_target() {
 #[test]
 fn pictures() {
     let game = run(&["dot", "games/b.txt"]).text();
-    let frame = "subgraph cluster_0 { label=\"class 0\"; \
+    let frame = "subgraph cluster_0 { label=\"class 0\"; style=filled; color=\"#cfe8fc\"; \
                  0 [shape=diamond, label=\"0\\npriority 0\"]; 2 [shape=box, label=\"2\\npriority 0\"]; }";
     assert!(game.starts_with("digraph game {\n") && game.ends_with("}\n"), "{game}");
     assert!(game.contains(frame), "{game}");
@@ -184,7 +184,9 @@ fn pictures() {
     assert!(game.contains("  0 -> 1;\n  1 -> 1;\n  2 -> 1;\n"), "{game}");
     let reduced = run(&["dot", "--reduced", "games/b.txt"]).text();
     assert!(
-        reduced.contains("0 [shape=diamond, label=\"class 0: 0 and 2\\npriority 0\"];"),
+        reduced.contains(
+            "0 [shape=diamond, label=\"class 0: 0 and 2\\npriority 0\", fillcolor=\"#cfe8fc\"];"
+        ),
         "{reduced}"
     );
     let quotient = run(&["quotient", "games/d.txt", "--as", "dot"]).text();
@@ -279,8 +281,7 @@ fn converted_games() {
     let c = shipped("c.txt");
     let lowest = [&[5, 7, 2, 4, 4, 3, 0], &c[7..]].concat();
     let text = run(&["convert", "games/c.txt"]).text();
-    let title =
-        "# games/c.txt, converted: the lowest priority decides; a priority p was 4 - p before\n";
+    let title = "# converted: the lowest priority decides; a priority p was 4 - p before\n";
     assert!(text.starts_with(title), "{text}");
     assert_eq!(numbers(&text), lowest);
     let binary = run_on(&["convert", "--as", "words"], &bytes(&c)).bytes();
@@ -299,7 +300,7 @@ fn edits() {
     // An edge comes, and the first edge goes: both in sequence.
     let game = [3, 3, 0, 1, 0, 0, 0, 1, 1, 2, 0, 1, 1, 2];
     let text = edit(&["--add", "0:2", "--remove", "0:1"]).text();
-    assert!(text.starts_with("# games/b.txt after edits: 1 added, 1 removed\n"), "{text}");
+    assert!(text.starts_with("# after edits: 1 added, 1 removed\n"), "{text}");
     assert_eq!(numbers(&text), game);
     assert_eq!(words(&edit(&["--add=0:2", "--remove=0:1", "--as", "words"]).bytes()), game);
     let doubled = run_on(&["edit", "-", "--remove", "0:0"], b"1 3 / 0 / 0 / 0 0 0 / 0 0 0");
@@ -354,7 +355,7 @@ fn replays() {
         run(&[&["replay", "games/d.txt", "games/d.trace.txt"], options].concat())
     };
     let text = replay(&[]).text();
-    let title = "# games/d.txt after 2 entries of games/d.trace.txt\n";
+    let title = "# after 2 entries of a trace\n";
     assert!(text.starts_with(title), "{text}");
     assert_eq!(numbers(&text), numbers(&run(&edits).text()));
     assert_eq!(words(&replay(&["--as", "words"]).bytes()), numbers(&text));
@@ -391,7 +392,7 @@ fn carried_plans() {
         assert_eq!(numbers(&text), row.words);
         let origin = if row.class { " of the reduced game" } else { "" };
         let sentence = format!(
-            "# This plan wins for {name} from vertex {vertex} of {game}, \
+            "# This plan wins for {name} from vertex {vertex}, \
              carried from vertex {start}{origin}.\n# positions, links\n"
         );
         assert!(text.starts_with(&sentence), "{text}");
@@ -429,26 +430,24 @@ fn verdicts() {
     };
     for vertex in ["0", "5"] {
         let sentence = format!(
-            "wins: Even wins at vertex {vertex} of games/d.txt, as the plan in games/c.plan.txt wins for Even \
-             from class 0 of the reduced game, which is the class of vertex {vertex}.\n"
+            "wins: Even wins at vertex {vertex}, as the plan wins for Even from class 0 of the reduced game, \
+             which is the class of vertex {vertex}.\n"
         );
         assert_eq!(say(vertex, "even"), sentence);
     }
-    let sentence = "not shown: the plan in games/c.plan.txt wins for Even from class 0 of the reduced game, but \
-                    vertex 2 of games/d.txt is in class 2. This doesn't mean that Even loses at vertex 2, or that \
-                    the other player wins there: a plan that starts at class 2 may still show either.\n";
+    let sentence = "not shown: the plan wins for Even from class 0 of the reduced game, but vertex 2 is in class 2. \
+                    This doesn't mean that Even loses at vertex 2, or that the other player wins there: a plan \
+                    that starts at class 2 may still show either.\n";
     assert_eq!(say("2", "even"), sentence);
     // Odd's plan from class 1, which is below class 2; either input may be standard input.
     let odd = b"2 2 / 1 3 / 0 1 / 1 1";
     let line = ["verdict", "games/c.txt", "-", "--player=odd", "--vertex"];
     let by_odd = |vertex| run_on(&[&line[..], &[vertex]].concat(), odd).text();
-    assert!(by_odd("1").starts_with("wins: Odd wins at vertex 1 of games/c.txt, as the plan in "));
+    assert!(by_odd("1").starts_with("wins: Odd wins at vertex 1, as the plan wins "));
     assert!(by_odd("2").starts_with("not shown: "));
     let game = bytes(&shipped("d.txt"));
     let line = ["verdict", "-", "games/c.plan.txt", "--player=even", "--vertex=5"];
-    assert!(run_on(&line, &game)
-        .text()
-        .starts_with("wins: Even wins at vertex 5 of standard input"));
+    assert_eq!(run_on(&line, &game).text(), say("5", "even"));
 }
 
 /// The shipped plan shows that the controller wins at every closed door, and at no other vertex.
@@ -493,12 +492,12 @@ fn help_of_each_command_has_an_example_that_runs() {
     assert_eq!(run(&["help"]).text(), overview);
     let listed: Vec<&str> =
         overview.lines().filter_map(|line| line.strip_prefix("  ")?.split(' ').next()).collect();
-    assert_eq!(listed.len(), 16, "{listed:?}");
+    assert_eq!(listed.len(), 23, "{listed:?}");
     for command in listed {
         let help = run(&[command, "--help"]).text();
         assert_eq!(run(&["help", command]).text(), help);
         assert_eq!(run(&[command, "-h", "games/none"]).text(), help);
-        assert!(help.starts_with(&format!("usage: raskjomi {command} ")), "{help}");
+        assert!(help.starts_with(&format!("usage: raskjomi {command}")), "{help}");
         let example =
             help.lines().find_map(|line| line.strip_prefix("example: ")).expect("an example");
         // Graphviz needn't be installed.

@@ -12,7 +12,7 @@ fn commands_and_options() {
     bad(&[], &["no command", "--help"]);
     bad(&["shrink"], &["no command `shrink`", "--help"]);
     bad(&["help", "shrink"], &["no command `shrink`", "--help"]);
-    let usage = ["usage: raskjomi report [GAME] [--vertex V]", "raskjomi report --help"];
+    let usage = ["usage: raskjomi report [GAME] [--vertex V | --json]", "raskjomi report --help"];
     bad(&["report", "--all"], &[&["no option --all"], &usage[..]].concat());
     bad(&["report", "-x"], &[&["no option -x"], &usage[..]].concat());
     bad(&["report", "a", "b"], &[&["arguments: 2 instead of 0 to 1"], &usage[..]].concat());
@@ -125,7 +125,7 @@ fn traces_to_replay() {
 
 #[test]
 fn numbers_of_a_seed() {
-    let usage = "usage: raskjomi seed SEED VERTICES DEGREE PRIORITIES [--as text|words]";
+    let usage = "usage: raskjomi seed SEED VERTICES DEGREE PRIORITIES [--as text|words|pgsolver]";
     bad(&["seed", "1", "3", "2"], &["arguments: 3 instead of 4", usage]);
     bad(&["seed", "1", "3", "2", "4", "--as", "dot"], &["no form `dot`", "raskjomi dot"]);
     for (which, name) in ["SEED", "VERTICES", "DEGREE", "PRIORITIES"].into_iter().enumerate() {
@@ -143,7 +143,10 @@ fn files() {
     bad(&["report", "games"], &["games: ", "name a file"]);
     bad(&["check-relation", "games/b.txt", "none"], &["none: ", "name a file"]);
     bad(&["check-plan", "none", "games/b.txt", "--player", "odd"], &["none: ", "name a file"]);
-    bad(&["report", "/dev/zero"], &["/dev/zero: more than 16 MiB; ", "name a file"]);
+    bad(
+        &["report", "/dev/zero"],
+        &["/dev/zero: more than 16 MiB, the most that is read; ", "name a file"],
+    );
     bad(&["report", "two\nlines"], &["two?lines: ", "name a file"]);
 }
 

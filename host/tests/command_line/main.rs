@@ -6,8 +6,14 @@ mod common;
 mod games;
 
 mod commands;
+mod drawings;
 mod errors;
+mod habits;
 mod inputs;
 mod outputs;
+mod pgsolver;
+mod questions;
 mod refusals;
 mod run;
+mod solutions;
+mod workflow;

@@ -44,9 +44,8 @@ fn games_in_binary() {
     let half =
         ["after word 4 from 0, the last of 5 (n is 1 and m is 1, so 6 words), read as binary"];
     assert_eq!(refused(&bytes(&[1, 1, 1, 1, 0])[..9], &half), "refused 4 at 5\n");
-    let control =
-        ["word 0 from 0 (n is 8241), read as binary since byte 12 is a control character"];
-    assert_eq!(refused(b"1 1 1 1 0 0 \x1a", &control), "refused 2 at 0\n");
+    let control = ["word 0 from 0 (n is 513), read as binary since byte 0 is a control character"];
+    assert_eq!(refused(b"\x01\x02 1 1\x1a", &control), "refused 2 at 0\n");
 }
 
 #[test]

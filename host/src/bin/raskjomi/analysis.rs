@@ -1,9 +1,11 @@
 //! The library's answers on a game, with memory of the lengths needed.
 
 use crate::failure::Failure;
-use crate::input::{Input, Unit};
+use crate::input::{Input, Source};
 use crate::locate::game_refused;
+use crate::progress::watch;
 use crate::table::Table;
+use crate::vertices::Vertices;
 use raskjomi::{PlanSize, Refusal, Replay, Size, Verdict, MOST_PLAN_WORDS};
 
 /// A game that the reader accepts.
@@ -40,8 +42,8 @@ type WriteTable = fn(&[u16], &mut [u8], &mut [u8], &mut [u16], &mut [u16]) -> Re
 
 impl Game {
     /// Reads a game table.
-    pub fn load(path: &str) -> Result<Game, Failure> {
-        Game::of(Input::read(path, Unit::Word)?)
+    pub fn load(source: Source) -> Result<Game, Failure> {
+        Game::of(Input::game(source)?)
     }
 
     /// The game of an input.
@@ -62,6 +64,34 @@ impl Game {
         self.size.vertices.pow(2)
     }
 
+    /// The vertex that a word means, after an option or as an argument.
+    pub fn vertex(&self, word: &str, option: &str) -> Result<usize, Failure> {
+        let (vertices, count) = (&self.input.vertices, self.size.vertices);
+        vertices.find(word).filter(|&vertex| vertex < count).ok_or_else(|| {
+            let what = match vertices.of_pgsolver() {
+                true => format!("an id or a name; {}", vertices.range(count)),
+                false => format!("a number from 0 to {}", count - 1),
+            };
+            Failure::usage(format!("no vertex `{word}`; write {option} with {what}"))
+        })
+    }
+
+    /// What the classes of its vertices are called: by their numbers, and where a PGSolver file gave the
+    /// game, by the name of the lowest member.
+    pub fn class_vertices(&self, classes: &[u16]) -> Vertices {
+        let vertices = &self.input.vertices;
+        if !vertices.of_pgsolver() {
+            return Vertices::default();
+        }
+        let name = |members: &Vec<usize>| vertices.name(members[0]).map(String::from);
+        let names: Vec<Option<String>> = members(classes).iter().map(name).collect();
+        let named = Vertices::named((0..names.len() as u64).collect(), names);
+        match vertices.even() {
+            Some(even) => named.converted(even),
+            None => named,
+        }
+    }
+
     /// The order.
     pub fn order(&self) -> Result<Order, Failure> {
         self.relation(raskjomi::order)
@@ -73,6 +103,7 @@ impl Game {
     }
 
     fn relation(&self, write: WriteMarks) -> Result<Order, Failure> {
+        let _watch = watch("the order");
         let (mut marks, mut spare) = self.marks();
         let passes = write(&self.input.numbers, &mut marks, &mut spare);
         Ok(Order { marks, passes: self.told(passes)? })
@@ -89,6 +120,7 @@ impl Game {
     }
 
     fn numbered(&self, write: WriteClasses) -> Result<Vec<u16>, Failure> {
+        let _watch = watch("the classes");
         let (mut marks, mut spare) = self.marks();
         let mut classes = vec![0; self.size.vertices];
         self.told(write(&self.input.numbers, &mut marks, &mut spare, &mut classes))?;
@@ -106,6 +138,7 @@ impl Game {
     }
 
     fn merged(&self, write: WriteTable) -> Result<Merged, Failure> {
+        let _watch = watch("the game of classes");
         let (mut marks, mut spare) = self.marks();
         let (mut classes, mut words) = (vec![0; self.size.vertices], vec![0; self.size.words()]);
         self.told(write(&self.input.numbers, &mut marks, &mut spare, &mut classes, &mut words))?;
@@ -121,6 +154,7 @@ impl Game {
 
     /// The words of the player's plan carried to a vertex.
     pub fn carry(&self, player: u32, plan: &[u16], vertex: u32) -> Result<Vec<u16>, Refusal> {
+        let _watch = watch("the carried plan");
         let (mut marks, mut spare) = self.marks();
         let (game, mut words) = (&self.input.numbers, vec![0; MOST_PLAN_WORDS]);
         let size = raskjomi::carry(game, player, plan, vertex, &mut marks, &mut spare, &mut words)?;
@@ -129,6 +163,7 @@ impl Game {
 
     /// The same for a plan on the reduced game.
     pub fn carry_class(&self, player: u32, plan: &[u16], vertex: u32) -> Result<Vec<u16>, Refusal> {
+        let _watch = watch("the carried plan");
         let (mut marks, mut spare) = self.marks();
         let (mut classes, mut table) = (vec![0; self.size.vertices], vec![0; self.size.words()]);
         let (game, mut words) = (&self.input.numbers, vec![0; MOST_PLAN_WORDS]);
@@ -148,6 +183,7 @@ impl Game {
 
     /// The verdict on a player and a vertex by a plan on the reduced game, and the class of each vertex.
     pub fn verdict(&self, vertex: u32, player: u32, plan: &[u16]) -> (Verdict, Vec<u16>) {
+        let _watch = watch("the verdict");
         let (mut marks, mut spare) = self.marks();
         let (mut classes, mut table) = (vec![0; self.size.vertices], vec![0; self.size.words()]);
         let verdict = raskjomi::give_verdict(
@@ -166,6 +202,7 @@ impl Game {
     /// The words of the table after the edits, in sequence, and its classes; or the refusal of one, with
     /// its number from 0.
     pub fn edited(&self, edits: &[Edit]) -> Result<Merged, (usize, Refusal)> {
+        let _watch = watch("the edits");
         let (mut marks, mut spare) = self.marks();
         let (mut classes, mut words) = (vec![0; self.size.vertices], self.input.numbers.clone());
         words.resize(words.len() + 2 * edits.len(), 0);
@@ -180,6 +217,7 @@ impl Game {
     /// The same by previews: none writes the table that it reads, and each makes the one that the next
     /// one reads.
     pub fn previewed(&self, edits: &[Edit]) -> Result<Merged, (usize, Refusal)> {
+        let _watch = watch("the previews");
         let (mut marks, mut spare) = self.marks();
         let (mut classes, mut words) = (vec![0; self.size.vertices], self.input.numbers.clone());
         for (i, &Edit { add, source, target }) in edits.iter().enumerate() {
@@ -195,6 +233,7 @@ impl Game {
     /// The words of the table after the entries of a trace, and its classes; or the first refusal, with
     /// the entries done.
     pub fn replayed(&self, trace: &[u16]) -> Result<Merged, (usize, Refusal)> {
+        let _watch = watch("the replay");
         let (mut marks, mut spare) = self.marks();
         let (mut classes, mut words) = (vec![0; self.size.vertices], self.input.numbers.clone());
         words.resize(words.len() + trace.len(), 0);
@@ -214,6 +253,11 @@ impl Game {
 }
 
 impl Merged {
+    /// The number of edges out of a class.
+    pub fn edges_from(&self, class: usize) -> usize {
+        self.table().ends().0.iter().filter(|&&source| usize::from(source) == class).count()
+    }
+
     /// The table.
     pub fn table(&self) -> Table<'_> {
         Table::new(&self.words)

@@ -2,15 +2,20 @@
 
 use crate::failure::Failure;
 use crate::help::{Command, REPEATED};
+use crate::input::{Encoding, Source};
+use crate::{options, suggest};
 use std::collections::BTreeMap;
+use std::ffi::{OsStr, OsString};
+use std::os::unix::ffi::OsStrExt;
 use std::slice::Iter;
 
 /// The files and options of one command line.
 #[derive(Debug, Default)]
 pub struct Arguments {
-    files: Vec<String>,
+    files: Vec<OsString>,
     options: BTreeMap<String, String>,
     repeated: Vec<(String, String)>,
+    output: Option<OsString>,
 }
 
 /// The form of an output.
@@ -19,21 +24,28 @@ pub enum Form {
     Text,
     Words,
     Dot,
+    Pgsolver,
 }
 
 impl Arguments {
     /// Sorts the words by what the command takes; after `--` all are files.
-    pub fn parse(command: &Command, words: &[String]) -> Result<Arguments, Failure> {
+    pub fn parse(command: &Command, words: &[OsString]) -> Result<Arguments, Failure> {
         let mut arguments = Arguments::default();
         let mut words = words.iter();
         while let Some(word) = words.next() {
-            match word.as_str() {
+            if self::output(command, word, &mut words, &mut arguments.output)? {
+                continue;
+            }
+            match &*word.to_string_lossy() {
                 "--" => arguments.files.extend(words.by_ref().cloned()),
                 option if option.starts_with('-') && option != "-" => {
                     arguments.add_option(command, option, &mut words)?
                 }
                 _ => arguments.files.push(word.clone()),
             }
+        }
+        if arguments.has("--text") && arguments.has("--binary") {
+            return Err(bad(command, "--text and --binary exclude each other".into()));
         }
         let count = arguments.files.len();
         if !command.files.contains(&count) {
@@ -51,32 +63,58 @@ impl Arguments {
         &mut self,
         command: &Command,
         word: &str,
-        words: &mut Iter<String>,
+        words: &mut Iter<OsString>,
     ) -> Result<(), Failure> {
         let (name, given) =
             word.split_once('=').map_or((word, None), |(name, value)| (name, Some(value)));
-        let option = command.options.iter().find(|option| option.name == name);
-        let option = option.ok_or_else(|| bad(command, format!("no option {name}")))?;
+        let option = options::of(command).find(|option| option.name == name);
+        let option = option.ok_or_else(|| {
+            let known = options::of(command).map(|option| option.name).chain(["--help"]);
+            let near = suggest::near(name, known);
+            bad(command, format!("no option {name}{near}"))
+        })?;
         let value = match option.value {
             Some(what) => given
-                .or_else(|| words.next().map(String::as_str))
+                .map(String::from)
+                .or_else(|| words.next().map(|word| word.to_string_lossy().into()))
                 .ok_or_else(|| bad(command, format!("{name} needs {what}")))?,
             None if given.is_some() => return Err(bad(command, format!("{name} takes no value"))),
-            None => "",
+            None => String::new(),
         };
         if REPEATED.contains(&name) {
-            self.repeated.push((name.into(), value.into()));
+            self.repeated.push((name.into(), value));
             return Ok(());
         }
-        match self.options.insert(name.into(), value.into()) {
+        match self.options.insert(name.into(), value) {
             Some(_) => Err(bad(command, format!("{name} is given twice; write it once"))),
             None => Ok(()),
         }
     }
 
-    /// The argument at an index, or standard input.
-    pub fn file(&self, index: usize) -> &str {
-        self.files.get(index).map_or("-", String::as_str)
+    /// The file at an index, or standard input, and how to read it.
+    pub fn file(&self, index: usize) -> Source<'_> {
+        let path = self.files.get(index).map_or(OsStr::new("-"), |file| file);
+        let form = match (self.has("--text"), self.has("--binary")) {
+            (true, _) => Some(Encoding::Text),
+            (_, true) => Some(Encoding::Binary),
+            _ => None,
+        };
+        Source { path, lowest: self.has("--lowest"), form }
+    }
+
+    /// The argument at an index that is no file.
+    pub fn word(&self, index: usize) -> String {
+        self.file(index).path.to_string_lossy().into()
+    }
+
+    /// The number of arguments.
+    pub fn count(&self) -> usize {
+        self.files.len()
+    }
+
+    /// The file that the output is to go to, if one is named.
+    pub fn output(&self) -> Option<&OsStr> {
+        self.output.as_deref()
     }
 
     /// Whether there is an argument at the index.
@@ -101,12 +139,19 @@ impl Arguments {
 
     /// The form that `--as` names, or text.
     pub fn form(&self) -> Result<Form, Failure> {
+        self.form_or(Form::Text)
+    }
+
+    /// The form that `--as` names, or another.
+    pub fn form_or(&self, form: Form) -> Result<Form, Failure> {
         match self.value("--as") {
-            None | Some("text") => Ok(Form::Text),
+            None => Ok(form),
+            Some("text") => Ok(Form::Text),
             Some("words") => Ok(Form::Words),
             Some("dot") => Ok(Form::Dot),
+            Some("pgsolver") => Ok(Form::Pgsolver),
             Some(other) => Err(Failure::usage(format!(
-                "no form `{other}`; write --as text, --as words or --as dot"
+                "no form `{other}`; write --as text, --as words, --as dot or --as pgsolver"
             ))),
         }
     }
@@ -121,6 +166,27 @@ impl Arguments {
             ))),
             None => Err(Failure::usage("no player; write --player even or --player odd")),
         }
+    }
+}
+
+/// Whether the word is `-o FILE`, `--output FILE` or `--output=FILE`: FILE may be the next of the words, and
+/// need not be text.
+fn output(
+    command: &Command,
+    word: &OsStr,
+    words: &mut Iter<OsString>,
+    output: &mut Option<OsString>,
+) -> Result<bool, Failure> {
+    let given = word.as_bytes().strip_prefix(b"--output=");
+    if given.is_none() && word != "-o" && word != "--output" {
+        return Ok(false);
+    }
+    let file =
+        given.map(|bytes| OsStr::from_bytes(bytes).to_owned()).or_else(|| words.next().cloned());
+    let file = file.ok_or_else(|| bad(command, "-o needs a file".into()))?;
+    match output.replace(file) {
+        Some(_) => Err(bad(command, "-o is given twice; write it once".into())),
+        None => Ok(true),
     }
 }
 

@@ -2,38 +2,60 @@
 
 use crate::analysis::{members, Edit, Game, Merged, Order};
 use crate::arguments::{name_of, Arguments, Form};
+use crate::dot::{self as picture, Kept};
 use crate::failure::Failure;
-use crate::help::{self, Command, COMMANDS};
-use crate::input::{self, number, Input, Unit};
+use crate::help::{self, Command};
+use crate::input::{self, number, plain_error, Input, Source, Unit};
+use crate::json::{self, Value};
 use crate::locate::{
     carry_refused, edit_refused, plan_refused, relation_refused, replay_refused, seed_refused,
 };
+use crate::output::{form_given, Output};
+use crate::progress::watch;
 use crate::table::Table;
-use crate::{dot as picture, tell, text};
+use crate::vertices::Vertices;
+use crate::{suggest, tell, text};
 use raskjomi::{Kind, Refusal, Verdict};
+use std::ffi::OsString;
+use std::fs;
 
 /// What a command writes to standard output, or how it fails.
-type Written = Result<Vec<u8>, Failure>;
+pub type Written = Result<Vec<u8>, Failure>;
 
 /// Runs the command that the words name.
-pub fn run(words: &[String]) -> Written {
+pub fn run(words: &[OsString]) -> Written {
     let Some((name, rest)) = words.split_first() else {
         return Err(Failure::usage("no command; `raskjomi --help` lists the commands"));
     };
-    if matches!(name.as_str(), "--help" | "-h" | "help") {
-        let help = rest.first().map_or(Ok(help::overview()), |name| named(name).map(help::of))?;
-        return Ok(help.into());
+    let name = name.to_string_lossy();
+    if matches!(&*name, "--version" | "-V") {
+        return Ok(help::version().into());
     }
-    let command = named(name)?;
-    if rest.iter().any(|word| matches!(word.as_str(), "--help" | "-h")) {
+    if matches!(&*name, "--help" | "-h" | "help") {
+        let of = |name: &OsString| named(&name.to_string_lossy()).map(help::of);
+        return Ok(rest.first().map_or(Ok(help::overview()), of)?.into());
+    }
+    let command = named(&name)?;
+    if rest.iter().take_while(|word| *word != "--").any(|word| word == "--help" || word == "-h") {
         return Ok(help::of(command).into());
     }
-    (command.run)(&Arguments::parse(command, rest)?)
+    let arguments = Arguments::parse(command, rest)?;
+    let output = (command.run)(&arguments).map_err(|failure| match arguments.has("--json") {
+        true => failure.as_json(),
+        false => failure,
+    })?;
+    let Some(path) = arguments.output() else { return Ok(output) };
+    fs::write(path, output).map_err(|error| {
+        let (path, error) = (path.to_string_lossy(), plain_error(&error));
+        Failure::usage(format!("{path}: {error}; name a file that can be written after -o"))
+    })?;
+    Ok(Vec::new())
 }
 
 fn named(name: &str) -> Result<&'static Command, Failure> {
-    COMMANDS.iter().find(|command| command.name == name).ok_or_else(|| {
-        Failure::usage(format!("no command `{name}`; `raskjomi --help` lists the commands"))
+    help::commands().find(|command| command.name == name).ok_or_else(|| {
+        let near = suggest::near(name, help::commands().map(|command| command.name));
+        Failure::usage(format!("no command `{name}`{near}; `raskjomi --help` lists the commands"))
     })
 }
 
@@ -44,16 +66,18 @@ pub fn report(arguments: &Arguments) -> Written {
     if let Some(vertex) = arguments.value("--vertex") {
         return vertex_sentence(&game, &reduced, vertex).map(Vec::from);
     }
+    if arguments.has("--json") {
+        return report_value(&game, &reduced).map(|value| format!("{value}\n").into());
+    }
     let (size, classes) = (game.size, &reduced.classes);
     let mut report = format!("game {} {}\n", size.vertices, size.different);
     report += &format!("passes {}\nclasses {}\n", game.order()?.passes, reduced.table().n());
     for (vertex, class) in classes.iter().enumerate() {
-        report += &format!("vertex {vertex} class {class}\n");
+        report += &format!("vertex {} class {class}\n", game.input.vertices.label(vertex));
     }
     let (mut all_members, mut all_edges) = (0, 0);
     for (class, members) in members(classes).iter().map(Vec::len).enumerate() {
-        let sources = reduced.table().ends().0.iter();
-        let edges = sources.filter(|&&source| source as usize == class).count();
+        let edges = reduced.edges_from(class);
         report += &format!("class {class} members {members} edges {edges}\n");
         (all_members, all_edges) = (all_members + members, all_edges + edges);
     }
@@ -62,18 +86,48 @@ pub fn report(arguments: &Arguments) -> Written {
     Ok(report.into())
 }
 
+/// The report as a value.
+fn report_value(game: &Game, reduced: &Merged) -> Result<Value, Failure> {
+    let sizes = |vertices: usize, edges: usize| {
+        json::object([("vertices", Value::from(vertices)), ("edges", Value::from(edges))])
+    };
+    let class = |(class, members): (usize, &Vec<usize>)| {
+        json::object([
+            ("class", Value::from(class)),
+            ("members", json::list(members.iter().copied())),
+            ("edges", Value::from(reduced.edges_from(class))),
+        ])
+    };
+    Ok(json::object([
+        ("game", sizes(game.size.vertices, game.size.different)),
+        ("passes", Value::Number(game.order()?.passes.into())),
+        ("vertices", vertex_values(game, &reduced.classes)),
+        ("classes", Value::List(members(&reduced.classes).iter().enumerate().map(class).collect())),
+        ("reduced", sizes(reduced.table().n(), reduced.table().m())),
+    ]))
+}
+
+/// The vertices with their ids, names and classes, as a value.
+fn vertex_values(game: &Game, classes: &[u16]) -> Value {
+    let vertex = |(vertex, &class): (usize, &u16)| {
+        let vertices = &game.input.vertices;
+        json::object([
+            ("vertex", Value::from(vertex)),
+            ("id", Value::Number(vertices.id(vertex))),
+            ("name", vertices.name(vertex).map_or(Value::Null, Value::from)),
+            ("class", Value::Number(class.into())),
+        ])
+    };
+    Value::List(classes.iter().enumerate().map(vertex).collect())
+}
+
 /// The vertex's class, its other members, and what that means for a win.
 fn vertex_sentence(game: &Game, reduced: &Merged, vertex: &str) -> Result<String, Failure> {
-    let last = game.table().n() - 1;
-    let v = number(vertex, last as u16).ok_or_else(|| {
-        Failure::usage(format!(
-            "no vertex `{vertex}`; write --vertex with a number from 0 to {last}"
-        ))
-    })? as usize;
+    let v = game.vertex(vertex, "--vertex")?;
     let class = reduced.classes[v];
     let mut others = members(&reduced.classes).swap_remove(class as usize);
     others.retain(|&other| other != v);
-    let listed = text::listed(&others);
+    let (v, listed) = (game.input.vertices.label(v), game.input.vertices.listed(&others));
     let (company, equals) = match others.len() {
         0 => ("is alone in".to_string(), String::new()),
         1 => (format!("and vertex {listed} share"), format!("from vertex {listed}, and ")),
@@ -97,13 +151,13 @@ fn marks(
     write: fn(&Game) -> Result<Order, Failure>,
     title: &str,
 ) -> Written {
-    let form = arguments.form()?;
+    let form = no_table(arguments)?;
     let game = Game::load(arguments.file(file))?;
     let (order, table) = (write(&game)?, game.table());
     Ok(match form {
-        Form::Text => text::marks(title, &order, table.n()).into(),
         Form::Words => order.marks,
-        Form::Dot => picture::order(&table, &order.marks).into(),
+        Form::Dot => picture::order(&table, &game.input.vertices, &order.marks).into(),
+        _ => text::marks(title, &order, table.n()).into(),
     })
 }
 
@@ -117,14 +171,37 @@ fn class_list(
     file: usize,
     write: fn(&Game) -> Result<Vec<u16>, Failure>,
 ) -> Written {
-    let form = arguments.form()?;
+    let form = no_table(arguments)?;
     let game = Game::load(arguments.file(file))?;
     let classes = write(&game)?;
+    if arguments.has("--json") {
+        let members = members(&classes);
+        let members = members.iter().map(|members| json::list(members.iter().copied())).collect();
+        let value = json::object([
+            ("vertices", vertex_values(&game, &classes)),
+            ("classes", Value::List(members)),
+        ]);
+        return Ok(format!("{value}\n").into());
+    }
     Ok(match form {
-        Form::Text => text::classes(&classes).into(),
         Form::Words => text::bytes(&classes),
-        Form::Dot => picture::game(&game.table(), &classes).into(),
+        Form::Dot => {
+            let reduced = game.reduced()?;
+            let kept = (classes == reduced.classes).then(|| Kept::new(&reduced));
+            picture::game(&game.table(), &game.input.vertices, &classes, kept.as_ref()).into()
+        }
+        _ => text::classes(&classes, &game.input.vertices).into(),
     })
+}
+
+/// The form, for what is no game.
+fn no_table(arguments: &Arguments) -> Result<Form, Failure> {
+    match arguments.form()? {
+        Form::Pgsolver => Err(Failure::usage(
+            "no form `pgsolver` of what is no game; write --as text, --as words or --as dot",
+        )),
+        form => Ok(form),
+    }
 }
 
 /// `quotient`.
@@ -145,28 +222,46 @@ fn table(
     let form = arguments.form()?;
     let game = Game::load(arguments.file(0))?;
     let merged = write(&game)?;
-    let (table, title) = (merged.table(), format!("{name} game of {}", game.input.name));
-    Ok(match form {
-        Form::Text => text::table(&title, &table).into(),
-        Form::Words => text::bytes(table.words()),
-        Form::Dot => picture::merged(name, &table, &merged.classes).into(),
-    })
+    let (table, title) = (merged.table(), format!("{name} game"));
+    let (vertices, with_classes) = (&game.input.vertices, arguments.has("--with-classes"));
+    let is_text = arguments.value("--as").map_or(!vertices.of_pgsolver(), |form| form == "text");
+    if with_classes && !is_text {
+        return Err(Failure::usage(
+            "the classes are comments, for text alone; write --with-classes --as text, or see raskjomi merged",
+        ));
+    }
+    if form == Form::Dot {
+        return Ok(picture::merged(name, &merged, vertices, &game.reduced()?).into());
+    }
+    let comments = text::class_comments(&merged.classes, vertices);
+    let vertices = &game.class_vertices(&merged.classes);
+    let output = Output { title, table, vertices, origin: Some(&game.input) };
+    let mut written = output.written(arguments.has("--as").then_some(form), arguments)?;
+    if with_classes {
+        written.extend(comments.bytes());
+    }
+    Ok(written)
 }
 
-/// The names of both inputs of a check, of which one at most is standard input; the game is argument number
-/// `file`.
-fn two_files(arguments: &Arguments, file: usize) -> Result<(&str, &str), Failure> {
+/// Both inputs of a check, of which one at most is standard input; the game is argument number `file`.
+fn two_files(arguments: &Arguments, file: usize) -> Result<(Source<'_>, Source<'_>), Failure> {
     let (game, other) = (arguments.file(file), arguments.file(file + 1));
-    if game == "-" && other == "-" {
-        return Err(Failure::usage("both inputs are standard input; name a file for one of them"));
-    }
+    one_standard(game, other)?;
     Ok((game, other))
 }
 
 /// A game and a plan.
 fn two_inputs(arguments: &Arguments) -> Result<(Input, Input), Failure> {
     let (game, plan) = two_files(arguments, 0)?;
-    Ok((Input::read(game, Unit::Word)?, Input::read(plan, Unit::Word)?))
+    Ok((Input::game(game)?, Input::read(plan, Unit::Word)?))
+}
+
+/// Standard input can't be both.
+pub fn one_standard(game: Source, other: Source) -> Result<(), Failure> {
+    if game.is_standard() && other.is_standard() {
+        return Err(Failure::usage("both inputs are standard input; name a file for one of them"));
+    }
+    Ok(())
 }
 
 /// `check-relation`.
@@ -184,7 +279,11 @@ fn judged(
     let game = Game::load(game).map_err(Failure::with_verdict)?;
     let relation = Input::read(relation, Unit::Mark(game.size.marks()))?;
     tell_surplus(&relation, &game);
-    match accept(&game.input.numbers, &relation.packed(game.pairs())) {
+    let watching = watch("the relation");
+    let verdict = accept(&game.input.numbers, &relation.packed(game.pairs()));
+    drop(watching);
+    match verdict {
+        Ok(()) if arguments.has("--json") => Ok("{\"accepted\":true}\n".into()),
         Ok(()) => Ok("accepted\n".into()),
         Err(refusal) => Err(relation_refused(refusal, &game, &relation).with_verdict()),
     }
@@ -192,7 +291,7 @@ fn judged(
 
 /// `governed`: as `order`, `classes` and `check-relation`, of governed bisimulations.
 pub fn governed(arguments: &Arguments) -> Written {
-    match arguments.file(0) {
+    match arguments.word(0).as_str() {
         "order" | "classes" if arguments.has_file(2) => Err(Failure::usage(
             "governed: a game alone; a relation is for governed check GAME RELATION",
         )),
@@ -225,7 +324,9 @@ fn tell_surplus(relation: &Input, game: &Game) {
 pub fn check_plan(arguments: &Arguments) -> Written {
     let player = arguments.player()?;
     let (game, plan) = two_inputs(arguments)?;
+    let _watch = watch("the plan");
     match raskjomi::accept_plan(&game.numbers, player, &plan.numbers) {
+        Ok(()) if arguments.has("--json") => Ok("{\"accepted\":true}\n".into()),
         Ok(()) => Ok("accepted\n".into()),
         Err(refusal) => Err(plan_refused(refusal, &game, &plan).with_verdict()),
     }
@@ -233,10 +334,12 @@ pub fn check_plan(arguments: &Arguments) -> Written {
 
 /// `carry`.
 pub fn carry(arguments: &Arguments) -> Written {
-    let (player, vertex) = (arguments.player()?, vertex_of(arguments, "the plan is to start at")?);
-    let as_words = as_words(arguments, "carry", "")?;
+    let (player, vertex) =
+        (arguments.player()?, vertex_given(arguments, "the plan is to start at")?);
+    let as_words = as_words(arguments, "carry")?;
     let (game, plan) = two_inputs(arguments)?;
     let game = Game::of(game)?;
+    let vertex = vertex_to(vertex, &game.input.vertices)?;
     let class = arguments.has("--class");
     let write = if class { Game::carry_class } else { Game::carry };
     let words = write(&game, player, &plan.numbers, vertex)
@@ -244,68 +347,81 @@ pub fn carry(arguments: &Arguments) -> Written {
     if as_words {
         return Ok(text::bytes(&words));
     }
-    let (winner, start) = (name_of(player), plan.numbers[2]);
-    let origin = if class { " of the reduced game" } else { "" };
-    let sentence = format!(
-        "This plan wins for {winner} from vertex {vertex} of {}, carried from vertex {start}{origin}.",
-        game.input.name
-    );
+    let (winner, vertices) = (name_of(player), &game.input.vertices);
+    let (vertex, start) = (vertices.label(vertex as usize), plan.numbers[2]);
+    let origin =
+        if class { format!("{start} of the reduced game") } else { vertices.label(start.into()) };
+    let sentence =
+        format!("This plan wins for {winner} from vertex {vertex}, carried from vertex {origin}.");
     Ok(text::plan(&sentence, &words).into())
 }
 
 /// `verdict`: in a sentence, what is confirmed of a player and a vertex, or what is left open.
 pub fn verdict(arguments: &Arguments) -> Written {
-    let (player, vertex) = (arguments.player()?, vertex_of(arguments, "the verdict is about")?);
+    let (player, vertex) = (arguments.player()?, vertex_given(arguments, "the verdict is about")?);
     let (game, plan) = two_inputs(arguments)?;
     let game = Game::of(game).map_err(Failure::with_verdict)?;
+    let vertex = vertex_to(vertex, &game.input.vertices)?;
     let (verdict, classes) = game.verdict(vertex, player, &plan.numbers);
     if let Verdict::Refused(refusal) = verdict {
         return Err(carry_refused(refusal, &game, &plan, vertex, true).with_verdict());
     }
-    let (name, of, with) = (name_of(player), &game.input.name, &plan.name);
+    let (name, v) = (name_of(player), game.input.vertices.label(vertex as usize));
     let (start, class) = (plan.numbers[2], classes[vertex as usize]);
-    let passes =
-        format!("the plan in {with} wins for {name} from class {start} of the reduced game");
+    let passes = format!("the plan wins for {name} from class {start} of the reduced game");
     let sentence = match verdict {
-        Verdict::Wins(_) => format!(
-            "wins: {name} wins at vertex {vertex} of {of}, as {passes}, which is the class of vertex {vertex}."
-        ),
+        Verdict::Wins(_) => {
+            format!("wins: {name} wins at vertex {v}, as {passes}, which is the class of vertex {v}.")
+        }
         _ => format!(
-            "not shown: {passes}, but vertex {vertex} of {of} is in class {class}. This doesn't mean that {name} \
-             loses at vertex {vertex}, or that the other player wins there: a plan that starts at class \
-             {class} may still show either."
+            "not shown: {passes}, but vertex {v} is in class {class}. This doesn't mean that {name} loses at \
+             vertex {v}, or that the other player wins there: a plan that starts at class {class} may \
+             still show either."
         ),
     };
     Ok((sentence + "\n").into())
 }
 
-/// The vertex that `--vertex` names; whether the game has it, the library judges.
-fn vertex_of(arguments: &Arguments, use_of_it: &str) -> Result<u32, Failure> {
-    let word = arguments.value("--vertex").ok_or_else(|| {
+/// The word of `--vertex`, for what it is used.
+pub fn vertex_given<'a>(arguments: &'a Arguments, use_of_it: &str) -> Result<&'a str, Failure> {
+    arguments.value("--vertex").ok_or_else(|| {
         Failure::usage(format!("no vertex; write --vertex with the vertex that {use_of_it}"))
-    })?;
-    number(word, u32::MAX).ok_or_else(|| {
-        Failure::usage(format!(
-            "no vertex `{word}`; write --vertex with a number, as vertices count from 0"
-        ))
     })
 }
 
-/// Whether `--as` names words, for commands that draw no picture.
-fn as_words(arguments: &Arguments, command: &str, hint: &str) -> Result<bool, Failure> {
+/// The vertex that a word means; whether the game has that number, the library judges.
+fn vertex_to(word: &str, vertices: &Vertices) -> Result<u32, Failure> {
+    let found = vertices.find(word).and_then(|vertex| u32::try_from(vertex).ok());
+    found.ok_or_else(|| {
+        let what = if vertices.of_pgsolver() {
+            "an id or a name of the game"
+        } else {
+            "a number, as vertices count from 0"
+        };
+        Failure::usage(format!("no vertex `{word}`; write --vertex with {what}"))
+    })
+}
+
+/// Whether `--as` names words, for commands that write no game and draw no picture.
+pub fn as_words(arguments: &Arguments, command: &str) -> Result<bool, Failure> {
     match arguments.form()? {
-        Form::Dot => Err(Failure::usage(format!(
-            "{command}: no form `dot`; write --as text or --as words{hint}"
-        ))),
-        form => Ok(form == Form::Words),
+        Form::Text => Ok(false),
+        Form::Words => Ok(true),
+        _ => {
+            let form = arguments.value("--as").unwrap_or_default();
+            Err(Failure::usage(format!(
+                "{command}: no form `{form}`; write --as text or --as words"
+            )))
+        }
     }
 }
 
 /// `edit`.
 pub fn edit(arguments: &Arguments) -> Written {
-    let as_words = as_words(arguments, "edit", ", or hand the game on to raskjomi dot")?;
-    let edits = edits(arguments)?;
+    let form = form_given(arguments, "edit")?;
+    ends_given(arguments)?;
     let game = Game::load(arguments.file(0))?;
+    let (edits, vertices) = (edits(arguments, &game.input.vertices)?, &game.input.vertices);
     let preview = arguments.has("--preview");
     let after = if preview { game.previewed(&edits) } else { game.edited(&edits) };
     let after = after.map_err(|(i, refusal)| {
@@ -313,50 +429,59 @@ pub fn edit(arguments: &Arguments) -> Written {
         edit_refused(refusal, &game, &format!("{option} {edge}"))
     })?;
     if preview {
-        return Ok(text::preview(&game.classes()?, &after.classes).into());
+        return Ok(text::preview(&game.classes()?, &after.classes, vertices).into());
     }
     if arguments.has("--classes") {
-        return Ok(text::changes(&game.classes()?, &after.classes).into());
+        return Ok(text::changes(&game.classes()?, &after.classes, vertices).into());
     }
-    let (table, title) = (after.table(), format!("{} after {}", game.input.name, told(&edits)));
-    Ok(if as_words { text::bytes(table.words()) } else { text::table(&title, &table).into() })
+    let (table, title) = (after.table(), format!("after {}", told(&edits)));
+    Output { title, table, vertices, origin: Some(&game.input) }.written(form, arguments)
 }
 
-/// The edits that `--add` and `--remove` name; whether the game can have them, the library judges.
-fn edits(arguments: &Arguments) -> Result<Vec<Edit>, Failure> {
+/// The ends that `--add` and `--remove` name, as they are written.
+fn ends_given(arguments: &Arguments) -> Result<Vec<(&str, &str)>, Failure> {
     let given = arguments.repeated();
     if given.is_empty() {
         return Err(Failure::usage("edit: no edit; write --add V:W or --remove V:W"));
     }
-    let edit = |(option, edge): &(String, String)| {
-        let ends = edge.split_once(':').and_then(|(source, target)| {
-            Some((number(source, u32::MAX)?, number(target, u32::MAX)?))
-        });
-        let (source, target) = ends.ok_or_else(|| {
-            Failure::usage(format!(
-                "edit: {option}: no edge `{edge}`; write two vertices, as {option} 0:2"
-            ))
-        })?;
+    let ends = given
+        .iter()
+        .map(|(option, edge)| edge.split_once(':').ok_or_else(|| no_edge(option, edge)));
+    ends.collect()
+}
+
+/// The edits; whether the game can have them, the library judges.
+fn edits(arguments: &Arguments, vertices: &Vertices) -> Result<Vec<Edit>, Failure> {
+    let find = |word| vertices.find(word).and_then(|vertex| u32::try_from(vertex).ok());
+    let edits = ends_given(arguments)?.into_iter().zip(arguments.repeated());
+    let edits = edits.map(|((source, target), (option, edge))| {
+        let ends = find(source).zip(find(target));
+        let (source, target) = ends.ok_or_else(|| no_edge(option, edge))?;
         Ok(Edit { add: option == "--add", source, target })
-    };
-    given.iter().map(edit).collect()
+    });
+    edits.collect()
+}
+
+fn no_edge(option: &str, edge: &str) -> Failure {
+    Failure::usage(format!("edit: {option}: no edge `{edge}`; write two vertices, as {option} 0:2"))
 }
 
 /// `replay`.
 pub fn replay(arguments: &Arguments) -> Written {
-    let as_words = as_words(arguments, "replay", ", or hand the game on to raskjomi dot")?;
+    let form = form_given(arguments, "replay")?;
     let game = Game::load(arguments.file(0))?;
     let trace = Input::read(arguments.file(1), Unit::Word)?;
     let after = game
         .replayed(&trace.numbers)
         .map_err(|(done, refusal)| replay_refused(refusal, &game, &trace, done))?;
+    let vertices = &game.input.vertices;
     if arguments.has("--classes") {
-        return Ok(text::changes(&game.classes()?, &after.classes).into());
+        return Ok(text::changes(&game.classes()?, &after.classes, vertices).into());
     }
     let entries = trace.numbers[0];
-    let title = format!("{} after {entries} entries of {}", game.input.name, trace.name);
-    let table = after.table();
-    Ok(if as_words { text::bytes(table.words()) } else { text::table(&title, &table).into() })
+    let title = format!("after {entries} entries of a trace");
+    Output { title, table: after.table(), vertices, origin: Some(&game.input) }
+        .written(form, arguments)
 }
 
 /// How many edges come and go.
@@ -370,24 +495,24 @@ const MOST_WORDS: usize = 9_218;
 
 /// `seed`.
 pub fn seed(arguments: &Arguments) -> Written {
-    let as_words = as_words(arguments, "seed", ", or hand the game on to raskjomi dot")?;
+    let form = form_given(arguments, "seed")?;
     let numbers = seed_numbers(arguments)?;
     let [seed, n, degree, priorities] = numbers;
     let mut words = vec![0; MOST_WORDS];
     raskjomi::seed(seed, n, degree, priorities, &mut words)
         .map_err(|refusal| seed_refused(refusal, numbers))?;
-    let table = Table::new(&words);
     let title =
         format!("game of seed {seed}: vertices {n}, degree {degree}, priorities {priorities}");
-    Ok(if as_words { text::bytes(table.words()) } else { text::table(&title, &table).into() })
+    Output { title, table: Table::new(&words), vertices: &Vertices::default(), origin: None }
+        .written(form, arguments)
 }
 
 /// The seed, and the numbers of vertices, of edges out of each, and of priorities.
 fn seed_numbers(arguments: &Arguments) -> Result<[u32; 4], Failure> {
     let mut numbers = [0; 4];
     for (i, (number, name)) in numbers.iter_mut().zip(help::SEED_NUMBERS).enumerate() {
-        let word = arguments.file(i);
-        *number = input::number(word, u32::MAX).ok_or_else(|| {
+        let word = arguments.word(i);
+        *number = input::number(&word, u32::MAX).ok_or_else(|| {
             let most = u32::MAX;
             Failure::usage(format!(
                 "seed: {name} `{word}` is no number from 0 to {most}; see raskjomi seed --help"
@@ -399,25 +524,32 @@ fn seed_numbers(arguments: &Arguments) -> Result<[u32; 4], Failure> {
 
 /// `convert`.
 pub fn convert(arguments: &Arguments) -> Written {
-    let as_words = as_words(arguments, "convert", ", or hand the game on to raskjomi dot")?;
+    let form = Some(form_given(arguments, "convert")?.unwrap_or(Form::Text));
     let game = Game::load(arguments.file(0))?;
+    let (title, vertices) = ("converted".to_string(), &game.input.vertices);
+    let origin = Some(&game.input);
+    if vertices.even().is_some() {
+        return Output { title, table: game.table(), vertices, origin }.written(form, arguments);
+    }
     let words = game.converted()?;
     let table = Table::new(&words);
-    if as_words {
-        return Ok(text::bytes(table.words()));
-    }
     let even = u32::from(game.table().priorities()[0]) + u32::from(table.priorities()[0]);
-    let title = format!(
-        "{}, converted: the lowest priority decides; a priority p was {even} - p before",
-        game.input.name
-    );
-    Ok(text::table(&title, &table).into())
+    let title = format!("{title}: the lowest priority decides; a priority p was {even} - p before");
+    Output { title, table, vertices, origin }.written(form, arguments)
+}
+
+/// `pgsolver`.
+pub fn pgsolver(arguments: &Arguments) -> Written {
+    let game = Game::load(arguments.file(0))?;
+    let (title, vertices) = (game.input.name.clone(), &game.input.vertices);
+    Output { title, table: game.table(), vertices, origin: Some(&game.input) }
+        .written(Some(Form::Pgsolver), arguments)
 }
 
 /// `explain`.
 pub fn explain(arguments: &Arguments) -> Written {
-    let word = arguments.file(0);
-    let number = number(word, u16::MAX).map(u32::from);
+    let word = arguments.word(0);
+    let number = number(&word, u16::MAX).map(u32::from);
     let (number, told) =
         number.and_then(|n| Some((n, raskjomi::explain(n)?))).ok_or_else(|| {
             Failure::usage(format!("`{word}` is no refusal number; they are {}", help::NUMBERS))
@@ -434,9 +566,14 @@ pub fn explain(arguments: &Arguments) -> Written {
 /// `dot`.
 pub fn dot(arguments: &Arguments) -> Written {
     let game = Game::load(arguments.file(0))?;
-    if arguments.has("--reduced") {
-        let reduced = game.reduced()?;
-        return Ok(picture::merged("reduced", &reduced.table(), &reduced.classes).into());
+    let (reduced, vertices) = (game.reduced()?, &game.input.vertices);
+    let text = if arguments.has("--reduced") {
+        picture::merged("reduced", &reduced, vertices, &reduced)
+    } else {
+        picture::game(&game.table(), vertices, &reduced.classes, Some(&Kept::new(&reduced)))
+    };
+    if arguments.has("--svg") {
+        return picture::svg(text);
     }
-    Ok(picture::game(&game.table(), &game.classes()?).into())
+    Ok(text.into())
 }

@@ -1,5 +1,6 @@
 //! How a command ends without success.
 
+use crate::json::{self, Value};
 use raskjomi::Refusal;
 
 /// What goes to standard output and standard error, and the exit status.
@@ -22,12 +23,53 @@ impl Failure {
         Failure { output: String::new(), message, status: 1, refusal: Some(refusal) }
     }
 
+    /// Something is told, and something is wrong.
+    pub fn told(output: String, message: String, status: u8) -> Failure {
+        Failure { output, message, status, refusal: None }
+    }
+
+    /// The refusal's number and place in words, if it is a refusal.
+    pub fn verdict(&self) -> Option<String> {
+        self.refusal.map(|Refusal { number, place }| format!("refused {number} at {place}"))
+    }
+
     /// The failure with the refusal's number and place on standard output, for commands whose output
     /// is a verdict.
     pub fn with_verdict(mut self) -> Failure {
-        if let Some(Refusal { number, place }) = self.refusal {
-            self.output = format!("refused {number} at {place}\n");
+        if let Some(verdict) = self.verdict() {
+            self.output = verdict + "\n";
         }
         self
+    }
+
+    /// The failure with itself as a value on standard output, unless its output is told already.
+    pub fn as_json(mut self) -> Failure {
+        if self.refusal.is_some() || self.output.is_empty() {
+            self.output = format!("{}\n", json::object(self.fields()));
+        }
+        self
+    }
+
+    /// The failure of a file as a value.
+    pub fn value(&self, file: &str) -> Value {
+        json::object([("file", Value::from(file))].into_iter().chain(self.fields()))
+    }
+
+    fn fields(&self) -> Vec<(&'static str, Value)> {
+        let refusal = self.refusal.map_or(Value::Null, |refusal| {
+            let told = refusal.explanation();
+            json::object([
+                ("number", Value::Number(refusal.number.into())),
+                ("place", Value::from(refusal.place)),
+                ("meaning", Value::from(told.meaning)),
+                ("place_is", Value::from(told.place)),
+                ("remedy", Value::from(told.remedy)),
+            ])
+        });
+        vec![
+            ("accepted", Value::Bool(false)),
+            ("refusal", refusal),
+            ("message", Value::from(&*self.message)),
+        ]
     }
 }

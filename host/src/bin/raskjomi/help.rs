@@ -1,8 +1,8 @@
 //! What each command takes, and its help.
 
 use crate::arguments::Arguments;
-use crate::commands;
 use crate::failure::Failure;
+use crate::{commands, files, manual, options, questions};
 use std::ops::RangeInclusive;
 
 /// An option, and what its value is called if it has one.
@@ -23,6 +23,28 @@ pub struct Command {
     pub run: fn(&Arguments) -> Result<Vec<u8>, Failure>,
 }
 
+impl Opt {
+    /// The option with a word for its value.
+    pub fn written(&self) -> String {
+        let word = match (self.name, self.value) {
+            (_, None) => return self.name.to_string(),
+            ("--as", _) => "FORM",
+            ("--player", _) => "even|odd",
+            ("--add" | "--remove", _) => "V:W",
+            ("--vertex", _) => "V",
+            _ => "FILE",
+        };
+        format!("{} {word}", self.name)
+    }
+}
+
+impl Command {
+    /// Whether it reads a game.
+    pub fn takes_game(&self) -> bool {
+        self.usage.contains("GAME")
+    }
+}
+
 /// The refusal numbers that `explain` knows.
 pub const NUMBERS: &str = "1 to 16, 21 to 24 and 31 to 41";
 
@@ -33,6 +55,13 @@ pub const SEED_NUMBERS: [&str; 4] = ["SEED", "VERTICES", "DEGREE", "PRIORITIES"]
 pub const REPEATED: [&str; 2] = ["--add", "--remove"];
 
 const AS: &[Opt] = &[Opt { name: "--as", value: Some("text, words or dot") }];
+const AS_OR_JSON: &[Opt] =
+    &[Opt { name: "--as", value: Some("text, words or dot") }, Opt { name: "--json", value: None }];
+const OF_REDUCE: &[Opt] = &[
+    Opt { name: "--as", value: Some("text, words, dot or pgsolver") },
+    Opt { name: "--with-classes", value: None },
+];
+const AS_GAME: &[Opt] = &[Opt { name: "--as", value: Some("text, words, dot or pgsolver") }];
 
 /// What a newcomer has to know of every game.
 const LIMITS: &str =
@@ -43,10 +72,20 @@ const LIMITS: &str =
 const GAMES: &str = "A game comes from a file, or from standard input, whose name is -; where the \
                      usage has [GAME], naming none means standard input, too. It is decimal text, \
                      with numbers between blanks or slashes and comments after #, or binary, 16-bit \
-                     words, low byte first: an input with a control character other than a blank is \
+                     words, low byte first: an input in which many bytes are control characters is \
                      binary. The words are: number of vertices, number of edges, priorities, owners \
                      (0 Even, 1 Odd), sources of the edges, targets of the edges. An edge may stand \
-                     several times: it counts as one edge of the game, but each time among the words.";
+                     several times: it counts as one edge of the game, but each time among the words. A \
+                     game whose first word is `parity` is in PGSolver's format, in which the highest \
+                     priority decides: it is read through `convert`, and written back through it.";
+
+/// What the exit status says.
+pub const STATUS: &str = "0 accepted, 1 refused, 2 bad usage, an unreadable file or a bad word.";
+
+/// How options are written.
+const OPTIONS: &str =
+    "Options and files may stand in any sequence, a value after a blank or after =; after \
+                       -- all words are files. `raskjomi --version` tells the version.";
 
 /// Where to read on, and why a run can take long.
 const MORE: &str =
@@ -56,13 +95,15 @@ const MORE: &str =
 /// The output of the commands that write a game.
 const TABLES: &str = "Text and words are game tables, which every command reads. The edges are \
                       listed by source, then by target, ascending, each once. Dot: a picture of \
-                      the game, with the members of each class.";
+                      the game, with the members of each class. Pgsolver: PGSolver's format, which is \
+                      written where no form is named and the game came in it; a class is a vertex \
+                      with the name of its lowest member.";
 
 /// The commands, in the sequence of the help.
 pub const COMMANDS: [Command; 16] = [
     Command {
         name: "report",
-        usage: "report [GAME] [--vertex V]",
+        usage: "report [GAME] [--vertex V | --json]",
         summary: "sizes, passes, the class of each vertex, the classes and the totals",
         details:
             "The first line has the number of vertices and the number of different edges. A line \
@@ -71,7 +112,10 @@ pub const COMMANDS: [Command; 16] = [
                   else is in it, and what that means for a win.",
         example: "./raskjomi report games/b.txt --vertex 2",
         files: 0..=1,
-        options: &[Opt { name: "--vertex", value: Some("a vertex") }],
+        options: &[
+            Opt { name: "--vertex", value: Some("a vertex") },
+            Opt { name: "--json", value: None },
+        ],
         run: commands::report,
     },
     Command {
@@ -90,39 +134,39 @@ pub const COMMANDS: [Command; 16] = [
     },
     Command {
         name: "classes",
-        usage: "classes [GAME] [--as text|words|dot]",
+        usage: "classes [GAME] [--as text|words|dot | --json]",
         summary: "the class of each vertex",
         details:
             "Text: the members of each class as comments, then the class of each vertex. Words: \
                   a word for each vertex, its class. Dot: the game with its classes.",
         example: "./raskjomi classes games/lift-doors.txt",
         files: 0..=1,
-        options: AS,
+        options: AS_OR_JSON,
         run: commands::classes,
     },
     Command {
         name: "quotient",
-        usage: "quotient [GAME] [--as text|words|dot]",
+        usage: "quotient [GAME] [--as text|words|dot|pgsolver]",
         summary: "the quotient game, a vertex for each class",
         details: TABLES,
         example: "./raskjomi quotient games/d.txt",
         files: 0..=1,
-        options: AS,
+        options: AS_GAME,
         run: commands::quotient,
     },
     Command {
         name: "reduce",
-        usage: "reduce [GAME] [--as text|words|dot]",
+        usage: "reduce [GAME] [--as text|words|dot|pgsolver] [--with-classes]",
         summary: "the reduced game: the quotient without edges that its players have no use for",
         details: TABLES,
         example: "./raskjomi reduce games/lift-doors.txt",
         files: 0..=1,
-        options: AS,
+        options: OF_REDUCE,
         run: commands::reduce,
     },
     Command {
         name: "check-relation",
-        usage: "check-relation GAME RELATION",
+        usage: "check-relation GAME RELATION [--json]",
         summary: "whether a relation is a direct simulation",
         details:
             "The relation is given as n × n marks in rows, 1 for a pair that is in it, else 0: as text, \
@@ -131,12 +175,12 @@ pub const COMMANDS: [Command; 16] = [
                   is binary. The output of `order` is a relation. Marks beyond are ignored.",
         example: "./raskjomi order games/c.txt | ./raskjomi check-relation games/c.txt -",
         files: 2..=2,
-        options: &[],
+        options: &[Opt { name: "--json", value: None }],
         run: commands::check_relation,
     },
     Command {
         name: "check-plan",
-        usage: "check-plan GAME PLAN --player even|odd",
+        usage: "check-plan GAME PLAN --player even|odd [--json]",
         summary: "whether a plan wins for a player from the vertex of its position 0",
         details:
             "The plan is given as words or decimal text: number of positions, number of links, \
@@ -144,7 +188,10 @@ pub const COMMANDS: [Command; 16] = [
         example:
             "./raskjomi check-plan games/lift-doors.txt games/lift-doors.plan.txt --player even",
         files: 2..=2,
-        options: &[Opt { name: "--player", value: Some("even or odd") }],
+        options: &[
+            Opt { name: "--player", value: Some("even or odd") },
+            Opt { name: "--json", value: None },
+        ],
         run: commands::check_plan,
     },
     Command {
@@ -190,7 +237,7 @@ pub const COMMANDS: [Command; 16] = [
     },
     Command {
         name: "edit",
-        usage: "edit GAME --add V:W --remove V:W .. [--preview] [--classes] [--as text|words]",
+        usage: "edit GAME --add V:W --remove V:W .. [--preview] [--classes] [--as text|words|pgsolver]",
         summary: "the game after edges are added and removed, or what that does to its classes",
         details:
             "--add V:W adds the edge from V to W behind the others, --remove V:W removes every copy of \
@@ -208,13 +255,13 @@ pub const COMMANDS: [Command; 16] = [
             Opt { name: "--remove", value: Some("an edge, as 0:2") },
             Opt { name: "--preview", value: None },
             Opt { name: "--classes", value: None },
-            Opt { name: "--as", value: Some("text or words") },
+            Opt { name: "--as", value: Some("text, words or pgsolver") },
         ],
         run: commands::edit,
     },
     Command {
         name: "replay",
-        usage: "replay GAME TRACE [--classes] [--as text|words]",
+        usage: "replay GAME TRACE [--classes] [--as text|words|pgsolver]",
         summary: "the game after a recorded list of edits, or what that does to its classes",
         details: "A trace has its count, at most 4,096, then as many sources, then as many targets. Its \
                   entries are done in sequence: an edge that the game doesn't have is added behind \
@@ -227,7 +274,7 @@ pub const COMMANDS: [Command; 16] = [
         files: 2..=2,
         options: &[
             Opt { name: "--classes", value: None },
-            Opt { name: "--as", value: Some("text or words") },
+            Opt { name: "--as", value: Some("text, words or pgsolver") },
         ],
         run: commands::replay,
     },
@@ -259,7 +306,7 @@ pub const COMMANDS: [Command; 16] = [
     },
     Command {
         name: "seed",
-        usage: "seed SEED VERTICES DEGREE PRIORITIES [--as text|words]",
+        usage: "seed SEED VERTICES DEGREE PRIORITIES [--as text|words|pgsolver]",
         summary: "a game drawn by a seed, the same on every machine",
         details:
             "SEED is any number below 4,294,967,296. There are VERTICES vertices, 1 to 512, with \
@@ -269,12 +316,15 @@ pub const COMMANDS: [Command; 16] = [
                   game tables, which every command reads.",
         example: "./raskjomi seed 1 8 2 4 --as words | ./raskjomi reduce",
         files: 4..=4,
-        options: &[Opt { name: "--as", value: Some("text or words") }],
+        options: &[
+            Opt { name: "--as", value: Some("text, words or pgsolver") },
+            Opt { name: "--lowest", value: None },
+        ],
         run: commands::seed,
     },
     Command {
         name: "convert",
-        usage: "convert [GAME] [--as text|words]",
+        usage: "convert [GAME] [--as text|words|pgsolver]",
         summary: "a game where the highest priority decides, as one where the lowest does",
         details:
             "With M the smallest even number not below the highest priority, each priority q becomes \
@@ -285,44 +335,67 @@ pub const COMMANDS: [Command; 16] = [
                   command reads; as text, the table begins with a comment that gives M.",
         example: "./raskjomi convert games/c.txt | ./raskjomi reduce | ./raskjomi convert",
         files: 0..=1,
-        options: &[Opt { name: "--as", value: Some("text or words") }],
+        options: &[Opt { name: "--as", value: Some("text, words or pgsolver") }],
         run: commands::convert,
     },
     Command {
         name: "dot",
-        usage: "dot [GAME] [--reduced]",
+        usage: "dot [GAME] [--reduced] [--svg]",
         summary: "Graphviz text of the game with its classes, or of the reduced game",
         details:
-            "Even's vertices are diamonds, Odd's are boxes. An edge that the table has several \
-                  times is one arrow.",
+            "Even's vertices are diamonds, Odd's are boxes. A class of several members has a light colour, \
+                  the same in both pictures. An edge that the reduced game drops is dashed. An edge that \
+                  the table has several times is one arrow.",
         example: "./raskjomi dot games/d.txt | dot -Tsvg > d.svg",
         files: 0..=1,
-        options: &[Opt { name: "--reduced", value: None }],
+        options: &[Opt { name: "--reduced", value: None }, Opt { name: "--svg", value: None }],
         run: commands::dot,
     },
 ];
+
+/// All commands, in the sequence of the help.
+pub fn commands() -> impl Iterator<Item = &'static Command> {
+    let others = questions::COMMANDS.iter().chain(&files::COMMANDS).chain(&manual::COMMANDS);
+    COMMANDS.iter().chain(others)
+}
+
+/// The program's version.
+pub fn version() -> String {
+    format!("raskjomi {}\n", env!("CARGO_PKG_VERSION"))
+}
 
 /// The help of the whole program.
 pub fn overview() -> String {
     let mut text = String::from("raskjomi reduces parity games and judges plans on them\n\n");
     text += &wrapped(LIMITS);
     text += "\nusage: raskjomi COMMAND ..., with COMMAND one of\n";
-    for command in &COMMANDS {
+    for command in commands() {
         text += &format!("  {:15} {}\n", command.name, command.summary);
     }
     text += "\n`raskjomi COMMAND --help` tells more, with an example.\n";
-    text + "Exit status: 0 accepted, 1 refused, 2 bad usage, an unreadable file or a bad word.\n\n"
-        + &wrapped(GAMES)
-        + "\n"
-        + &wrapped(MORE)
+    text += &format!("Exit status: {STATUS}\n");
+    [GAMES, OPTIONS, MORE].iter().fold(text, |text, part| text + "\n" + &wrapped(part))
+}
+
+/// What holds for all commands, for the man page.
+pub fn paragraphs() -> [&'static str; 4] {
+    [LIMITS, GAMES, OPTIONS, MORE]
 }
 
 /// The help of one command.
 pub fn of(command: &Command) -> String {
     let mut text = format!("usage: raskjomi {}\n\n{}\n", command.usage, command.summary);
-    let of_games: &[&str] = if command.usage.contains("GAME") { &[LIMITS, GAMES] } else { &[] };
+    let of_games: &[&str] = if command.takes_game() { &[LIMITS, GAMES] } else { &[] };
     for part in [&[command.details], of_games].concat() {
         text += &format!("\n{}", wrapped(part));
+    }
+    let options: Vec<&Opt> = options::of(command).collect();
+    if !options.is_empty() {
+        text += "\noptions:\n";
+    }
+    for option in options {
+        text +=
+            &format!("  {:24} {}\n", option.written(), options::about(command.name, option.name));
     }
     text + &format!("\nexample: {}\n", command.example)
 }

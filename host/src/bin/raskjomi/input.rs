@@ -1,6 +1,11 @@
 //! Numbers from a file or standard input, binary or decimal text, with the places where they stand.
 
 use crate::failure::Failure;
+use crate::locate::game_refused;
+use crate::solution::SOLUTION;
+use crate::vertices::Vertices;
+use crate::{pgsolver, scanner};
+use std::ffi::OsStr;
 use std::fs::File;
 use std::io::{self, Read};
 use std::str::FromStr;
@@ -15,14 +20,58 @@ pub enum Unit {
     Mark(usize),
 }
 
+/// Where an input comes from, and how it is read.
+#[derive(Clone, Copy, Debug)]
+pub struct Source<'a> {
+    /// A file, or `-` for standard input.
+    pub path: &'a OsStr,
+    /// Whether the lowest priority decides in PGSolver's format, too.
+    pub lowest: bool,
+    /// What its bytes are, where somebody says it.
+    pub form: Option<Encoding>,
+}
+
+/// What the bytes of an input are.
+#[derive(Clone, Copy, Debug, PartialEq, Eq)]
+pub enum Encoding {
+    Text,
+    Binary,
+}
+
+impl Source<'_> {
+    /// Whether it is standard input.
+    pub fn is_standard(&self) -> bool {
+        self.path == "-"
+    }
+
+    /// The name that messages use.
+    pub fn name(&self) -> String {
+        let name =
+            if self.is_standard() { "standard input".into() } else { self.path.to_string_lossy() };
+        name.replace(char::is_control, "?")
+    }
+}
+
 /// Where the numbers stand.
 #[derive(Debug)]
 enum Places {
+    /// The line and the vertex's id that each number comes from.
+    Pgsolver(Vec<(usize, Option<u64>)>),
     /// The line and the word of each number, both counted from 1.
     Text(Vec<(usize, usize)>),
-    /// One after the other; this byte, counted from 0, is the first that no text has. Where there is none, the
-    /// length tells.
-    Binary(Option<usize>),
+    /// One after the other, and why they are read so.
+    Binary(Why),
+}
+
+/// Why an input is read as binary.
+#[derive(Clone, Copy, Debug)]
+enum Why {
+    /// It is asked for.
+    Said,
+    /// It has the length of the marks.
+    Length,
+    /// This byte, counted from 0, is the first that no text has.
+    Control(usize),
 }
 
 /// The numbers of an input.
@@ -30,6 +79,8 @@ enum Places {
 pub struct Input {
     pub name: String,
     pub numbers: Vec<u16>,
+    /// What its vertices are called, if it is a game.
+    pub vertices: Vertices,
     unit: Unit,
     places: Places,
 }
@@ -38,21 +89,48 @@ pub struct Input {
 const MOST_BYTES: usize = 1 << 24;
 
 impl Input {
-    /// Reads a file, or standard input where the path is `-`.
-    pub fn read(path: &str, unit: Unit) -> Result<Input, Failure> {
-        let name = if path == "-" { "standard input" } else { path };
-        let name = name.replace(char::is_control, "?");
-        let bytes = bytes(path).map_err(|error| {
-            Failure::usage(format!(
-                "{name}: {error}; name a file that can be read, or - for standard input"
-            ))
-        })?;
-        let control = not_of_text(&bytes);
-        if control.is_none() && !is_packed(&bytes, unit) {
-            return from_text(name, &bytes, unit);
+    /// Reads a game, in PGSolver's format if its first word says so.
+    pub fn game(source: Source) -> Result<Input, Failure> {
+        let bytes = Bytes::read(source)?;
+        if bytes.in_format(SOLUTION).is_some() {
+            return Err(bytes.bad(
+                "a solution in PGSolver's format, where a game is wanted; name the game, or see raskjomi plan",
+            ));
         }
-        let numbers = from_binary(&bytes, unit);
-        Ok(Input { name, numbers, unit, places: Places::Binary(control) })
+        match bytes.in_format(pgsolver::GAME) {
+            Some(text) => from_pgsolver(bytes.name, &text, source.lowest),
+            None => bytes.numbers(Unit::Word),
+        }
+    }
+
+    /// Reads other numbers.
+    pub fn read(source: Source, unit: Unit) -> Result<Input, Failure> {
+        let bytes = Bytes::read(source)?;
+        if bytes.is_packed(unit) {
+            return bytes.numbers(unit);
+        }
+        if bytes.in_format(pgsolver::GAME).is_some() {
+            return Err(bytes
+                .bad("a game in PGSolver's format, where no game is wanted; name the game first"));
+        }
+        if bytes.in_format(SOLUTION).is_some() {
+            return Err(bytes.bad(
+                "a solution in PGSolver's format; make it into a plan by raskjomi plan GAME SOLUTION --vertex V",
+            ));
+        }
+        bytes.numbers(unit)
+    }
+
+    /// The name and the text of a solution in PGSolver's format.
+    pub fn solution(source: Source) -> Result<(String, String), Failure> {
+        let bytes = Bytes::read(source)?;
+        match bytes.in_format(SOLUTION) {
+            Some(text) => Ok((bytes.name, text)),
+            None => Err(bytes.bad(
+                "no solution, whose first word is `paritysol`; write `paritysol N;`, with N the highest id, \
+                 then a line `id winner strategy;` for each vertex",
+            )),
+        }
     }
 
     /// Whether the input is text.
@@ -81,11 +159,12 @@ impl Input {
         };
         let detail = if detail.is_empty() { String::new() } else { format!(" ({detail})") };
         let form = match self.places {
-            Places::Text(_) => String::new(),
-            Places::Binary(Some(byte)) => {
+            Places::Text(_) | Places::Pgsolver(_) => String::new(),
+            Places::Binary(Why::Said) => ", read as binary".into(),
+            Places::Binary(Why::Control(byte)) => {
                 format!(", read as binary since byte {byte} is a control character")
             }
-            Places::Binary(None) => {
+            Places::Binary(Why::Length) => {
                 format!(", read as binary since it has the {count} bytes that the marks need")
             }
         };
@@ -94,6 +173,10 @@ impl Input {
 
     fn place(&self, index: usize) -> String {
         match (&self.places, self.unit) {
+            (Places::Pgsolver(places), _) => match places[index] {
+                (line, Some(id)) => format!("line {line}, id {id}"),
+                (line, None) => format!("line {line}"),
+            },
             (Places::Text(places), _) => {
                 format!("line {}, word {}", places[index].0, places[index].1)
             }
@@ -103,27 +186,140 @@ impl Input {
     }
 }
 
-fn bytes(path: &str) -> io::Result<Vec<u8>> {
-    let source: Box<dyn Read> =
-        if path == "-" { Box::new(io::stdin()) } else { Box::new(File::open(path)?) };
+/// The bytes of an input.
+struct Bytes {
+    name: String,
+    bytes: Vec<u8>,
+    form: Option<Encoding>,
+}
+
+impl Bytes {
+    fn read(source: Source) -> Result<Bytes, Failure> {
+        let (name, form) = (source.name(), source.form);
+        match all_bytes(source) {
+            Ok(bytes) if bytes.len() > MOST_BYTES => Err(Failure::usage(format!(
+                "{name}: more than 16 MiB, the most that is read; a game has at most {} vertices and {} \
+                 edges: name a file that can be read",
+                raskjomi::MOST_VERTICES,
+                raskjomi::MOST_EDGES
+            ))),
+            Ok(bytes) => Ok(Bytes { name, bytes, form }),
+            Err(error) => Err(Failure::usage(format!(
+                "{name}: {}; name a file that can be read, or - for standard input",
+                plain_error(&error)
+            ))),
+        }
+    }
+
+    fn bad(&self, what: &str) -> Failure {
+        Failure::usage(format!("{}: {what}", self.name))
+    }
+
+    /// The text, if it is in a format of PGSolver's, whose first word this is.
+    fn in_format(&self, first: &str) -> Option<String> {
+        let text = String::from_utf8_lossy(&self.bytes);
+        let text = text.trim_start_matches('\u{feff}');
+        let is_text = self.form != Some(Encoding::Binary);
+        (is_text && scanner::first_word(text).as_deref() == Some(first)).then(|| text.to_string())
+    }
+
+    /// Whether they are marks, eight in a byte, where nobody says what they are.
+    fn is_packed(&self, unit: Unit) -> bool {
+        self.form.is_none() && is_packed(&self.bytes, unit)
+    }
+
+    /// The numbers of binary or of text.
+    fn numbers(self, unit: Unit) -> Result<Input, Failure> {
+        let Some(why) = self.binary(unit)? else {
+            return from_text(self.name, &self.bytes, unit);
+        };
+        let (numbers, vertices) = (from_binary(&self.bytes, unit), Vertices::default());
+        Ok(Input { name: self.name, numbers, vertices, unit, places: Places::Binary(why) })
+    }
+
+    /// Why they are binary, if they are. Any table, plan or trace that the library accepts has a byte 0, 1 or 2
+    /// in its binary form, so it isn't taken for text.
+    fn binary(&self, unit: Unit) -> Result<Option<Why>, Failure> {
+        if let Some(form) = self.form {
+            return Ok((form == Encoding::Binary).then_some(Why::Said));
+        }
+        let control = not_of_text(&self.bytes);
+        if self.is_packed(unit) {
+            return Ok(Some(control.map_or(Why::Length, Why::Control)));
+        }
+        if unit == Unit::Word && is_utf_16(&self.bytes) {
+            return Err(self.not_plain(None));
+        }
+        match control {
+            Some(_) if is_mostly_text(&self.bytes) => Err(self.not_plain(control)),
+            _ => Ok(control.map(Why::Control)),
+        }
+    }
+
+    /// Text with a control character at a byte, or else in UTF-16.
+    fn not_plain(&self, control: Option<usize>) -> Failure {
+        let remedy = "save it as plain text, or say --binary if it is none";
+        let Some(byte) = control else {
+            return self.bad(&format!("line 1, column 1: text in UTF-16; {remedy}"));
+        };
+        let before = String::from_utf8_lossy(&self.bytes[..byte]);
+        let line = before.matches('\n').count() + 1;
+        let column = before.rsplit('\n').next().unwrap_or_default().chars().count() + 1;
+        let code = self.bytes[byte];
+        self.bad(&format!("line {line}, column {column}: control character {code}; {remedy}"))
+    }
+}
+
+fn all_bytes(source: Source) -> io::Result<Vec<u8>> {
+    let source: Box<dyn Read> = if source.is_standard() {
+        Box::new(io::stdin())
+    } else {
+        Box::new(File::open(source.path)?)
+    };
     let mut bytes = Vec::new();
     source.take(MOST_BYTES as u64 + 1).read_to_end(&mut bytes)?;
-    if bytes.len() > MOST_BYTES {
-        return Err(io::Error::other("more than 16 MiB"));
-    }
     Ok(bytes)
 }
 
-/// The first control character that isn't a blank. Any table, plan or trace that the library accepts has a
-/// byte 0, 1 or 2 in its binary form, so it isn't taken for text.
+/// An error in words, without its number in the system.
+pub fn plain_error(error: &io::Error) -> String {
+    let told = error.to_string();
+    let told = told.split(" (os error ").next().unwrap_or_default();
+    let mut letters = told.chars();
+    let first = letters.next().map(|first| first.to_lowercase().to_string());
+    first.unwrap_or_default() + letters.as_str()
+}
+
+/// The first control character that isn't a blank.
 fn not_of_text(bytes: &[u8]) -> Option<usize> {
     bytes.iter().position(|byte| byte.is_ascii_control() && !byte.is_ascii_whitespace())
 }
 
-/// Whether an input without control characters is marks, eight in a byte: it has the length of those. As text,
+/// Whether an input is marks, eight in a byte: it has the length of those. As text,
 /// so few bytes could hold all marks of one vertex alone, `0` or `1`; as binary these have unused bits set.
 fn is_packed(bytes: &[u8], unit: Unit) -> bool {
     unit == Unit::Mark(bytes.len()) && !matches!(bytes, b"0" | b"1")
+}
+
+/// Whether at least 7 of 8 bytes are of plain text. In a binary table, half of them aren't.
+fn is_mostly_text(bytes: &[u8]) -> bool {
+    let is_utf_8 = std::str::from_utf8(bytes).is_ok();
+    let plain = |byte: &u8| byte.is_ascii_graphic() || byte.is_ascii_whitespace();
+    let plain = bytes.iter().filter(|byte| plain(byte) || (is_utf_8 && !byte.is_ascii()));
+    8 * plain.count() >= 7 * bytes.len()
+}
+
+/// Whether words are text in UTF-16, by a mark at the start or since all are characters of games. A
+/// binary table or plan has a word 0.
+fn is_utf_16(bytes: &[u8]) -> bool {
+    let of_games =
+        |low: u8| low.is_ascii_digit() || low.is_ascii_whitespace() || b"/#".contains(&low);
+    let words = bytes.chunks_exact(2);
+    let all = words.len() > 1 && words.remainder().is_empty();
+    let mut words = words.map(|pair| (pair[0].max(pair[1]), pair[0].min(pair[1])));
+    bytes.starts_with(b"\xff\xfe")
+        || bytes.starts_with(b"\xfe\xff")
+        || (all && words.all(|(low, high)| high == 0 && of_games(low)))
 }
 
 /// Words low byte first, a last half word with high byte 0; or the bytes as they are.
@@ -147,7 +343,27 @@ fn from_text(name: String, bytes: &[u8], unit: Unit) -> Result<Input, Failure> {
             places.push(place);
         }
     }
-    Ok(Input { name, numbers, unit, places: Places::Text(places) })
+    Ok(Input { name, numbers, vertices: Vertices::default(), unit, places: Places::Text(places) })
+}
+
+/// A game in PGSolver's format: through the conversion, unless the lowest priority decides there, too.
+/// One that the reader refuses keeps its priorities: the call that gets it tells why.
+fn from_pgsolver(name: String, text: &str, lowest: bool) -> Result<Input, Failure> {
+    let parsed =
+        pgsolver::parse(text).map_err(|problem| Failure::usage(format!("{name}: {problem}")))?;
+    let (numbers, vertices, places) =
+        (parsed.words, parsed.vertices, Places::Pgsolver(parsed.places));
+    let mut input = Input { name, numbers, vertices, unit: Unit::Word, places };
+    if lowest || raskjomi::read(&input.numbers).is_err() {
+        return Ok(input);
+    }
+    let mut words = vec![0; input.numbers.len()];
+    raskjomi::convert(&input.numbers, &mut words)
+        .map_err(|refusal| game_refused(refusal, &input))?;
+    let even = u32::from(input.numbers[2]) + u32::from(words[2]);
+    input.vertices = input.vertices.converted(even);
+    input.numbers = words;
+    Ok(input)
 }
 
 /// A decimal number, digits alone.
@@ -161,15 +377,20 @@ fn bad_word(name: &str, (line, word): (usize, usize), digits: &str, unit: Unit) 
     if shown.len() < digits.len() {
         shown += "..";
     }
+    let shown = shown.replace(char::is_control, "?");
     let remedy = match unit {
-        Unit::Word => {
-            "no number from 0 to 65535; write decimal numbers between blanks or slashes, and comments \
-             after #"
-                .to_string()
-        }
         Unit::Mark(bytes) => format!(
             "no mark; write 0 or 1 for each pair, between blanks or slashes, and comments after #, or \
              give exactly {bytes} bytes, eight marks in each"
+        ),
+        Unit::Word if digits.ends_with(';') => format!(
+            "no number from 0 to {}; a game in PGSolver's format begins with `parity N;`, with N the \
+             highest id: put that line first",
+            u16::MAX
+        ),
+        Unit::Word => format!(
+            "no number from 0 to {}; write decimal numbers between blanks or slashes, and comments after #",
+            u16::MAX
         ),
     };
     Failure::usage(format!("{name}: line {line}, word {word}: `{shown}` is {remedy}"))

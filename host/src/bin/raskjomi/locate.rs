@@ -1,8 +1,11 @@
 //! Where in the user's files a refusal points.
 
 use crate::analysis::Game;
+use crate::causes;
 use crate::failure::Failure;
 use crate::input::Input;
+use crate::table::Table;
+use crate::vertices::Vertices;
 use raskjomi::{Kind, Refusal};
 
 /// A refusal of the game, told with its place in the game's file.
@@ -18,8 +21,8 @@ pub fn game_refused(refusal: Refusal, game: &Input) -> Failure {
         }
         5 => (place, format!("owner {}", number(place))),
         6 => (place, format!("vertex {}", number(place))),
-        8 => (2 + place, format!("vertex {place}")),
-        36 => (place, format!("vertex {}", place - 2)),
+        8 => (2 + place, format!("vertex {}", game.vertices.label(place))),
+        36 => (place, format!("vertex {}", game.vertices.label(place - 2))),
         _ => (place, String::new()),
     };
     tell(refusal, game.at(index, &detail))
@@ -27,11 +30,9 @@ pub fn game_refused(refusal: Refusal, game: &Input) -> Failure {
 
 /// A refusal of a relation on a game that is accepted.
 pub fn relation_refused(refusal: Refusal, game: &Game, relation: &Input) -> Failure {
-    let (place, n, text) = (refusal.place, game.size.vertices, relation.is_text());
-    let pair = format!("pair {}, {}", place / n, place % n);
+    let (place, text) = (refusal.place, relation.is_text());
     let (index, detail) = match refusal.number {
-        10 if text => (place, pair),
-        10 => (place / 8, format!("{pair}, bit {} from 0", place % 8)),
+        10 => return pair_refused(refusal, game, relation),
         21 if text => (relation.numbers.len(), format!("{} marks are needed", game.pairs())),
         21 => (relation.numbers.len(), format!("{place} bytes are needed")),
         41 => (place, format!("its bits from {} on belong to no pair", game.pairs() % 8)),
@@ -40,19 +41,54 @@ pub fn relation_refused(refusal: Refusal, game: &Game, relation: &Input) -> Fail
     tell(refusal, relation.at(index, &detail))
 }
 
+/// A marked pair that fails, told with the failing successor.
+fn pair_refused(refusal: Refusal, game: &Game, relation: &Input) -> Failure {
+    let (place, n, vertices) = (refusal.place, game.size.vertices, &game.input.vertices);
+    let (v, w) = (place / n, place % n);
+    let pair = format!("pair {}, {}", vertices.label(v), vertices.label(w));
+    let (index, detail) = match relation.is_text() {
+        true => (place, pair),
+        false => (place / 8, format!("{pair}, bit {} from 0", place % 8)),
+    };
+    let cause = causes::of_pair(&game.table(), vertices, &relation.packed(game.pairs()), v, w);
+    tell_cause(refusal, relation.at(index, &detail), &cause)
+}
+
 /// A refusal of a plan, or of the game itself.
 pub fn plan_refused(refusal: Refusal, game: &Input, plan: &Input) -> Failure {
     if refusal.kind() == Kind::Game {
         return game_refused(refusal, game);
     }
-    tell(refusal, place_in_plan(refusal, plan))
+    let place = place_in_plan(refusal, plan, &game.vertices);
+    tell_cause(
+        refusal,
+        place,
+        &cause_in_plan(refusal, &game.numbers, &game.vertices, &plan.numbers),
+    )
+}
+
+/// A refusal of a plan that was made from something, told with what it was to show.
+pub fn made_plan_refused(refusal: Refusal, game: &Game, claim: String, words: &[u16]) -> Failure {
+    let vertices = &game.input.vertices;
+    let vertex = vertices.label(words[2 + refusal.place].into());
+    let cause = cause_in_plan(refusal, &game.input.numbers, vertices, words);
+    tell_cause(refusal, format!("{claim}, but vertex {vertex} shows that the plan fails"), &cause)
+}
+
+/// The missing link or the walk that a refusal of a plan is about, in words.
+fn cause_in_plan(refusal: Refusal, game: &[u16], vertices: &Vertices, plan: &[u16]) -> String {
+    match refusal.number {
+        15 => causes::of_missing(&Table::new(game), vertices, plan, refusal.place),
+        16 => causes::of_walk(&Table::new(game), vertices, plan, refusal.place),
+        _ => String::new(),
+    }
 }
 
 /// Where in its file a refusal of a plan points.
-fn place_in_plan(refusal: Refusal, plan: &Input) -> String {
+fn place_in_plan(refusal: Refusal, plan: &Input, vertices: &Vertices) -> String {
     let (place, count) = (refusal.place, plan.numbers.len());
     let number = |index: usize| plan.numbers[index] as usize;
-    let vertex = |position: usize| number(2 + position);
+    let vertex = |position: usize| vertices.label(number(2 + position));
     let (index, detail) = match refusal.number {
         12 if count >= 2 => {
             let (p, l) = (number(0), number(1));
@@ -82,29 +118,39 @@ pub fn carry_refused(
     class: bool,
 ) -> Failure {
     let of = if class { " of the reduced game" } else { "" };
-    let last = game.size.vertices - 1;
-    tell(
+    let (count, vertices) = (game.size.vertices, &game.input.vertices);
+    let classes = Vertices::default();
+    let of_plan = if class { &classes } else { vertices };
+    tell_cause(
         refusal,
         match refusal.number {
-            33 if vertex as usize > last => {
-                format!("{}: vertex {vertex} (its vertices are 0 to {last})", game.input.name)
+            33 if vertex as usize >= count => {
+                format!("{}: vertex {vertex} ({})", game.input.name, vertices.range(count))
             }
             33 => {
-                let start =
-                    plan.at(2, &format!("the plan starts at vertex {}{of}", plan.numbers[2]));
+                let start = of_plan.label(plan.numbers[2].into());
+                let start = plan.at(2, &format!("the plan starts at vertex {start}{of}"));
+                let vertex = vertices.label(vertex as usize);
                 format!("{}: vertex {vertex}; {start}", game.input.name)
             }
-            34 => format!("{}, carried to vertex {vertex}", plan.name),
-            _ if class => format!("{}, on the reduced game", place_in_plan(refusal, plan)),
-            _ => place_in_plan(refusal, plan),
+            34 => format!("{}, carried to vertex {}", plan.name, vertices.label(vertex as usize)),
+            _ if class => format!("{}, on the reduced game", place_in_plan(refusal, plan, of_plan)),
+            _ => place_in_plan(refusal, plan, of_plan),
+        },
+        &match class.then(|| game.reduced()) {
+            Some(Ok(reduced)) => {
+                cause_in_plan(refusal, reduced.table().words(), of_plan, &plan.numbers)
+            }
+            Some(Err(_)) => String::new(),
+            None => cause_in_plan(refusal, &game.input.numbers, of_plan, &plan.numbers),
         },
     )
 }
 
 /// A refusal of an edit, told with the option that asked for it.
 pub fn edit_refused(refusal: Refusal, game: &Game, edit: &str) -> Failure {
-    let last = game.size.vertices - 1;
-    tell(refusal, format!("{}: {edit} (its vertices are 0 to {last})", game.input.name))
+    let range = game.input.vertices.range(game.size.vertices);
+    tell(refusal, format!("{}: {edit} ({range})", game.input.name))
 }
 
 /// A refusal of a trace, told with its words, or with the entry that it ends at and the entries done.
@@ -136,6 +182,12 @@ pub fn seed_refused(refusal: Refusal, [_, n, degree, priorities]: [u32; 4]) -> F
 
 /// Place, refusal and remedy in one line.
 fn tell(refusal: Refusal, place: String) -> Failure {
+    tell_cause(refusal, place, "")
+}
+
+/// The same with a cause, if there is one.
+fn tell_cause(refusal: Refusal, place: String, cause: &str) -> Failure {
     let remedy = refusal.explanation().remedy;
-    Failure::refused(refusal, format!("{place}: {refusal}; {remedy}"))
+    let cause = if cause.is_empty() { String::new() } else { format!("; here {cause}") };
+    Failure::refused(refusal, format!("{place}: {refusal}{cause}; {remedy}"))
 }

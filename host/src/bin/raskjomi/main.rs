@@ -3,27 +3,43 @@
 
 mod analysis;
 mod arguments;
+mod causes;
 mod commands;
 mod dot;
 mod failure;
+mod files;
+mod graph;
 mod help;
 mod input;
+mod json;
 mod locate;
+mod manual;
+mod options;
+mod output;
+mod pgsolver;
+mod progress;
+mod questions;
+mod scanner;
+mod solution;
+mod suggest;
 mod table;
 mod text;
+mod vertices;
+mod why;
 
 use std::env;
+use std::ffi::OsString;
 use std::io::{self, ErrorKind, Write};
 use std::process::ExitCode;
 
 fn main() -> ExitCode {
-    let words: Vec<String> =
-        env::args_os().skip(1).map(|word| word.to_string_lossy().into()).collect();
+    let words: Vec<OsString> = env::args_os().skip(1).collect();
     let (output, message, status) = match commands::run(&words) {
         Ok(output) => (output, None, 0),
         Err(failure) => (failure.output.into(), Some(failure.message), failure.status),
     };
     if let Err(error) = print(&output) {
+        let error = input::plain_error(&error);
         tell(&format!("standard output: {error}; write it where there is room"));
         return ExitCode::from(2);
     }

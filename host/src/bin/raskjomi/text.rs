@@ -2,6 +2,7 @@
 
 use crate::analysis::{members, Order};
 use crate::table::Table;
+use crate::vertices::Vertices;
 use raskjomi::is_marked;
 use std::fmt::{Display, Write};
 
@@ -15,15 +16,6 @@ fn lines<T: Display>(numbers: &[T], a_line: usize) -> String {
         words.join(" ") + "\n"
     };
     numbers.chunks(a_line).map(line).collect()
-}
-
-/// A list as people write it: "1, 2 and 3".
-pub fn listed(numbers: &[usize]) -> String {
-    let words: Vec<String> = numbers.iter().map(usize::to_string).collect();
-    match words.split_last() {
-        Some((last, rest)) if !rest.is_empty() => format!("{} and {last}", rest.join(", ")),
-        _ => words.concat(),
-    }
 }
 
 /// A table, each part under a comment.
@@ -74,16 +66,23 @@ pub const ORDER: &str = "order: row v, column w is 1 if v is below w";
 pub const GOVERNED: &str = "governed: row v, column w is 1 if v and w are bisimilar";
 
 /// The class of each vertex, under the members of each class.
-pub fn classes(classes: &[u16]) -> String {
+pub fn classes(classes: &[u16], vertices: &Vertices) -> String {
     let mut text = format!("# classes {}\n", members(classes).len());
     for (class, members) in members(classes).iter().enumerate() {
-        writeln!(text, "# class {class}: {}", listed(members)).expect("a string takes all");
+        writeln!(text, "# class {class}: {}", vertices.listed(members))
+            .expect("a string takes all");
     }
     text + "# the class of each vertex\n" + &lines(classes, A_LINE)
 }
 
+/// The class of each vertex, as comments.
+pub fn class_comments(classes: &[u16], vertices: &Vertices) -> String {
+    let line = |(vertex, class)| format!("# vertex {}: class {class}\n", vertices.label(vertex));
+    classes.iter().enumerate().map(line).collect()
+}
+
 /// The number of classes before and after, and the vertices whose company in their class changes.
-pub fn changes(before: &[u16], after: &[u16]) -> String {
+pub fn changes(before: &[u16], after: &[u16], vertices: &Vertices) -> String {
     let (old, new) = (members(before), members(after));
     let mut text = format!("classes {} before, {} after\n", old.len(), new.len());
     let company = |members: &[Vec<usize>], classes: &[u16], vertex: usize| {
@@ -93,13 +92,13 @@ pub fn changes(before: &[u16], after: &[u16]) -> String {
     };
     let named = |others: &[usize]| match others {
         [] => "alone".to_string(),
-        _ => format!("with {}", listed(others)),
+        _ => format!("with {}", vertices.listed(others)),
     };
     for vertex in 0..before.len() {
         let (was, is) = (company(&old, before, vertex), company(&new, after, vertex));
         if was != is {
-            let line = format!("vertex {vertex}: {} before, {} after", named(&was), named(&is));
-            writeln!(text, "{line}").expect("a string takes all");
+            let (label, was, is) = (vertices.label(vertex), named(&was), named(&is));
+            writeln!(text, "vertex {label}: {was} before, {is} after").expect("a string takes all");
         }
     }
     text
@@ -107,7 +106,7 @@ pub fn changes(before: &[u16], after: &[u16]) -> String {
 
 /// The number of classes before and after, and the vertices that would part or merge: those of a class
 /// that falls apart, or of one that comes from several, in the groups that they have in the other.
-pub fn preview(before: &[u16], after: &[u16]) -> String {
+pub fn preview(before: &[u16], after: &[u16], vertices: &Vertices) -> String {
     let (old, new) = (members(before), members(after));
     let mut text = format!("classes {} before, {} after\n", old.len(), new.len());
     let lines = [("would part", &old, after), ("would merge", &new, before)];
@@ -115,7 +114,8 @@ pub fn preview(before: &[u16], after: &[u16]) -> String {
         for members in classes {
             let groups = grouped(members, other);
             if groups.len() > 1 {
-                let groups: Vec<String> = groups.iter().map(|group| listed(group)).collect();
+                let groups: Vec<String> =
+                    groups.iter().map(|group| vertices.listed(group)).collect();
                 writeln!(text, "{name}: {}", groups.join(" | ")).expect("a string takes all");
             }
         }

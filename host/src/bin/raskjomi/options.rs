@@ -1,0 +1,47 @@
+//! What each option is for, and the options that several commands take.
+
+use crate::help::{Command, Opt};
+
+/// The options of every command that reads a game.
+const OF_GAMES: [Opt; 3] = [
+    Opt { name: "--lowest", value: None },
+    Opt { name: "--text", value: None },
+    Opt { name: "--binary", value: None },
+];
+
+/// The options of every command.
+const OF_ALL: [Opt; 1] = [Opt { name: "-o", value: Some("a file") }];
+
+/// The options of a command: its own, then those that it shares.
+pub fn of(command: &Command) -> impl Iterator<Item = &Opt> {
+    let shared: &[Opt] = if command.takes_game() { &OF_GAMES } else { &[] };
+    command.options.iter().chain(shared).chain(&OF_ALL)
+}
+
+/// What an option of a command is for.
+pub fn about(command: &str, option: &str) -> &'static str {
+    match (command, option) {
+        ("report", "--vertex") => "one sentence on this vertex alone",
+        ("plan", "--vertex") => "where the plan is to start",
+        ("carry", "--vertex") => "where the carried plan is to start",
+        ("verdict", "--vertex") => "where the player is to win",
+        ("edit" | "replay", "--classes") => "what becomes of the classes, in place of the game",
+        (_, "--vertex") => "the vertex: its number, or its id or name in PGSolver's format",
+        (_, "--as") => "the form of the output, one of those in the usage",
+        ("verdict", "--player") => "who is to win, by a plan of the player's own",
+        (_, "--player") => "whose plan it is",
+        (_, "--class") => "the plan is on the reduced game",
+        (_, "--add") => "add the edge from V to W; may be given several times",
+        (_, "--remove") => "remove the edge from V to W; may be given several times",
+        (_, "--preview") => "which vertices would part or merge, in place of the game",
+        (_, "--reduced") => "the reduced game, in place of the game with its classes",
+        (_, "--json") => "the output, and a refusal, as JSON in one line",
+        (_, "-o") => "write to FILE, which stays as it was where the command fails",
+        (_, "--text") => "the inputs are text, whatever characters they have",
+        (_, "--binary") => "the inputs are binary, whatever bytes they have",
+        (_, "--svg") => "the picture itself, drawn by Graphviz, which has to be installed",
+        (_, "--with-classes") => "add the class of each vertex as a comment",
+        (_, "--lowest") => "in PGSolver's format, too, the lowest priority decides",
+        _ => "",
+    }
+}

@@ -1,0 +1,227 @@
+//! Games in PGSolver's format, `parity N; id priority owner successor,successor "name"; ..`.
+
+use crate::scanner::{Problem, Scanner, Token};
+use crate::table::Table;
+use crate::vertices::Vertices;
+use raskjomi::Refusal;
+use std::collections::HashMap;
+use std::fmt::Write;
+
+/// The first word of a game.
+pub const GAME: &str = "parity";
+
+/// A line of the file: a vertex.
+struct Vertex {
+    line: usize,
+    id: u64,
+    priority: u16,
+    owner: u16,
+    successors: Vec<u64>,
+    name: Option<String>,
+}
+
+/// A game as the file has it: the words of its table, each with the line and the id that it comes from,
+/// and what its vertices are called.
+pub struct Parsed {
+    pub words: Vec<u16>,
+    pub places: Vec<(usize, Option<u64>)>,
+    pub vertices: Vertices,
+}
+
+/// Reads a game. Vertices are numbered by ascending id, and edges stand as the file lists them.
+pub fn parse(text: &str) -> Result<Parsed, Problem> {
+    let mut scanner = Scanner::new(text);
+    let (line, most) = header(&mut scanner)?;
+    let mut vertices: Vec<Vertex> = Vec::new();
+    let mut lines = HashMap::new();
+    while let Some((line, token)) = scanner.next()? {
+        if token == Token::Word("start".into()) {
+            start(&mut scanner)?;
+            continue;
+        }
+        let vertex = vertex(&mut scanner, line, token)?;
+        let problem = |what, remedy| Err(Problem::at(line, Some(vertex.id), what, remedy));
+        if most.is_some_and(|most| vertex.id > most) {
+            return problem(
+                "the id is above the highest id that the first line names".into(),
+                format!("write `parity {};` there, or more", vertex.id),
+            );
+        }
+        if let Some(before) = lines.insert(vertex.id, line) {
+            return problem(
+                format!("line {before} has this id already"),
+                "give each vertex an id of its own".into(),
+            );
+        }
+        vertices.push(vertex);
+    }
+    laid_out(line, vertices)
+}
+
+/// `parity N;`, where N, the highest id, may be missing: its line, and N.
+fn header(scanner: &mut Scanner) -> Result<(usize, Option<u64>), Problem> {
+    let (line, _) = scanner.next()?.expect("the first word was seen");
+    let remedy = "write `parity N;`, with N the highest id";
+    let most = match scanner.next()? {
+        Some((_, Token::Semicolon)) => return Ok((line, None)),
+        Some((_, Token::Number(most))) => most,
+        found => return Err(Problem::unexpected(found, line, None, "the highest id", remedy)),
+    };
+    scanner.end(line, None, remedy)?;
+    Ok((line, Some(most)))
+}
+
+/// `start id;`, which some tools write: it says nothing about the game.
+fn start(scanner: &mut Scanner) -> Result<(), Problem> {
+    let remedy = "write `start ID;`, or leave it out";
+    let (line, id) = scanner.number(None, "an id after `start`", remedy)?;
+    scanner.end(line, Some(id), remedy)
+}
+
+/// A vertex, from its id on.
+fn vertex(scanner: &mut Scanner, line: usize, token: Token) -> Result<Vertex, Problem> {
+    const REMEDY: &str = "write `id priority owner successor,successor \"name\";`";
+    let Token::Number(id) = token else {
+        return Err(Problem::unexpected(Some((line, token)), line, None, "an id", REMEDY));
+    };
+    let (_, priority) = scanner.number(Some(id), "a priority", REMEDY)?;
+    let priority = u16::try_from(priority).map_err(|_| {
+        let remedy =
+            "number the priorities in use anew, in the same sequence and each with its parity";
+        Problem::at(line, Some(id), format!("priority {priority} is above 65535"), remedy.into())
+    })?;
+    let (_, owner) = scanner.number(Some(id), "an owner", REMEDY)?;
+    if owner > 1 {
+        let remedy = "write 0 for Even's vertices and 1 for Odd's".into();
+        return Err(Problem::at(line, Some(id), format!("owner {owner}"), remedy));
+    }
+    let (successors, name) = successors(scanner, line, id, REMEDY)?;
+    Ok(Vertex { line, id, priority, owner: owner as u16, successors, name })
+}
+
+/// The successors, which may be none, the name, if there is one, and the end of a vertex.
+fn successors(
+    scanner: &mut Scanner,
+    line: usize,
+    id: u64,
+    remedy: &str,
+) -> Result<(Vec<u64>, Option<String>), Problem> {
+    let mut successors: Vec<u64> = Vec::new();
+    let mut next = scanner.next()?;
+    while let Some((at, Token::Number(successor))) = next {
+        if successors.contains(&successor) {
+            return Err(Problem::at(
+                at,
+                Some(id),
+                format!(
+                    "successor {successor} stands there twice, and an edge can't have two copies"
+                ),
+                "list it once".into(),
+            ));
+        }
+        successors.push(successor);
+        next = scanner.next()?;
+        if let Some((at, Token::Comma)) = next {
+            next = scanner.next()?;
+            if !matches!(next, Some((_, Token::Number(_)))) {
+                let wanted = "a successor after the comma";
+                return Err(Problem::unexpected(next, at, Some(id), wanted, remedy));
+            }
+        } else {
+            break;
+        }
+    }
+    let mut name = None;
+    if let Some((_, Token::Name(found))) = next {
+        name = Some(found);
+        next = scanner.next()?;
+    }
+    match next {
+        Some((_, Token::Semicolon)) => Ok((successors, name)),
+        found => Err(Problem::unexpected(found, line, Some(id), "a semicolon", remedy)),
+    }
+}
+
+/// The table of the vertices. Sizes that fit no word, and sizes above the limits, stand at the first
+/// vertex or edge too many.
+fn laid_out(header: usize, mut vertices: Vec<Vertex>) -> Result<Parsed, Problem> {
+    let edges: usize = vertices.iter().map(|vertex| vertex.successors.len()).sum();
+    let most = usize::from(u16::MAX);
+    if vertices.len() > most || edges > most {
+        let what = format!("{} vertices and {edges} edges", vertices.len());
+        let (n, m) = (raskjomi::MOST_VERTICES, raskjomi::MOST_EDGES);
+        let remedy = format!("a game has at most {n} vertices and {m} edges; bring a part of it");
+        return Err(Problem::at(header, None, what, remedy));
+    }
+    let place = |vertex: &Vertex| (vertex.line, Some(vertex.id));
+    let first_too_many = vertices.get(raskjomi::MOST_VERTICES).map_or((header, None), place);
+    vertices.sort_by_key(|vertex| vertex.id);
+    let numbers: HashMap<u64, u16> = vertices.iter().map(|v| v.id).zip(0..).collect();
+    let (mut sources, mut targets, mut ends) = (Vec::new(), Vec::new(), Vec::new());
+    for (number, vertex) in (0..).zip(&vertices) {
+        for successor in &vertex.successors {
+            let target = numbers.get(successor).ok_or_else(|| {
+                let what = format!("successor {successor} is no vertex of the file");
+                let remedy = format!("add a line for {successor}, or take it off the list");
+                Problem::at(vertex.line, Some(vertex.id), what, remedy)
+            })?;
+            sources.push(number);
+            targets.push(*target);
+            ends.push(place(vertex));
+        }
+    }
+    let edge_too_many = ends.get(raskjomi::MOST_EDGES).copied().unwrap_or((header, None));
+    let each: Vec<(usize, Option<u64>)> = vertices.iter().map(place).collect();
+    let column = |of: fn(&Vertex) -> u16| vertices.iter().map(of).collect::<Vec<u16>>();
+    Ok(Parsed {
+        words: [
+            vec![vertices.len() as u16, edges as u16],
+            column(|vertex| vertex.priority),
+            column(|vertex| vertex.owner),
+            sources,
+            targets,
+        ]
+        .concat(),
+        places: [vec![first_too_many, edge_too_many], each.clone(), each, ends.clone(), ends]
+            .concat(),
+        vertices: Vertices::named(
+            vertices.iter().map(|vertex| vertex.id).collect(),
+            vertices.into_iter().map(|vertex| vertex.name).collect(),
+        ),
+    })
+}
+
+/// Why a table can't be written.
+pub enum Unwritten {
+    /// Two copies of an edge, which has this index.
+    Copies(usize),
+    /// The conversion refuses it.
+    Refused(Refusal),
+}
+
+/// A table where the lowest priority decides, in PGSolver's format; through the conversion, as its
+/// readers let the highest decide, unless they are told to let the lowest.
+pub fn write(table: &Table, vertices: &Vertices, lowest: bool) -> Result<String, Unwritten> {
+    let mut seen = std::collections::HashSet::new();
+    let (sources, targets) = table.ends();
+    if let Some(copy) = sources.iter().zip(targets).position(|edge| !seen.insert(edge)) {
+        return Err(Unwritten::Copies(copy));
+    }
+    let mut words = table.words().to_vec();
+    if !lowest {
+        raskjomi::convert(table.words(), &mut words).map_err(Unwritten::Refused)?;
+    }
+    let priorities = Table::new(&words).priorities();
+    let mut successors = vec![Vec::new(); table.n()];
+    for (source, target) in table.edges() {
+        successors[source as usize].push(vertices.id(target as usize).to_string());
+    }
+    let mut text = format!("parity {};\n", vertices.id(table.n() - 1));
+    for (v, successors) in successors.iter().enumerate() {
+        let (id, owner) = (vertices.id(v), table.owners()[v]);
+        let name = vertices.name(v).map_or(String::new(), |name| format!(" \"{name}\""));
+        writeln!(text, "{id} {} {owner} {}{name};", priorities[v], successors.join(","))
+            .expect("a string takes all");
+    }
+    Ok(text)
+}

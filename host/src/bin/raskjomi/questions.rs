@@ -1,0 +1,131 @@
+//! The commands that answer questions about a game.
+
+use crate::analysis::{members, Game};
+use crate::arguments::Arguments;
+use crate::commands::Written;
+use crate::failure::Failure;
+use crate::graph::Graph;
+use crate::help::{Command, Opt};
+use crate::json::{self, Value};
+use crate::why::{Passes, Question};
+use crate::{progress, tell};
+
+/// They come after the others in the help.
+pub const COMMANDS: [Command; 3] = [
+    Command {
+        name: "check",
+        usage: "check [GAME ..] [--json]",
+        summary: "whether games are accepted, and their sizes: a line for each",
+        details: "A line says `accepted` with the numbers of vertices and of different edges, or `refused` \
+                  with number and place, or `unreadable`; what is wrong stands on standard error. The exit \
+                  status is the highest of all files'.",
+        example: "./raskjomi check games/b.txt games/c.txt",
+        files: 0..=usize::MAX,
+        options: &[Opt { name: "--json", value: None }],
+        run: check,
+    },
+    Command {
+        name: "merged",
+        usage: "merged [GAME]",
+        summary: "the vertices that another one represents in the reduced game",
+        details: "A line for each vertex that isn't the lowest member of its class: the vertex, its class, \
+                  and that lowest member, its representative.",
+        example: "./raskjomi merged games/lift-doors.txt",
+        files: 0..=1,
+        options: &[],
+        run: merged,
+    },
+    Command {
+        name: "why",
+        usage: "why GAME V W",
+        summary: "whether vertex V is below vertex W, and why, as sentences",
+        details: "Where V isn't below W, the first sentences say in which pass the pair falls, and by which \
+                  move; then the same of each pair of successors that this rests on, down to unequal \
+                  priorities. Where it is, they say how the moves are matched. V and W share a class if each \
+                  is below the other. The sentences are worked out by this program, and held to the \
+                  proved order before they are written.",
+        example: "./raskjomi why games/c.txt 2 1",
+        files: 3..=3,
+        options: &[],
+        run: why,
+    },
+];
+
+/// `check`.
+fn check(arguments: &Arguments) -> Written {
+    let (mut lines, mut values) = (String::new(), Vec::new());
+    let (mut status, mut messages) = (0, Vec::new());
+    for index in 0..arguments.count().max(1) {
+        let source = arguments.file(index);
+        let (name, loaded) = (source.name(), Game::load(source));
+        let (line, value) = match &loaded {
+            Ok(game) => {
+                let (n, m) = (game.size.vertices, game.size.different);
+                let (all, plural) = (game.size.edges, |count| if count == 1 { "" } else { "s" });
+                let sizes = [("vertices", n), ("different_edges", m), ("edges", all)];
+                let sizes = sizes.map(|(key, size)| (key, Value::from(size)));
+                let accepted = [("file", Value::from(&*name)), ("accepted", Value::Bool(true))];
+                let (of_n, of_m) = (if n == 1 { "vertex" } else { "vertices" }, plural(m));
+                (
+                    format!("accepted, {n} {of_n} and {m} different edge{of_m}"),
+                    json::object(accepted.into_iter().chain(sizes)),
+                )
+            }
+            Err(failure) => {
+                let told = failure.verdict().unwrap_or("unreadable".into());
+                (told, failure.value(&name))
+            }
+        };
+        lines += &format!("{name}: {line}\n");
+        values.push(value);
+        if let Err(failure) = loaded {
+            status = status.max(failure.status);
+            messages.push(failure.message);
+        }
+    }
+    let output = match arguments.has("--json") {
+        true => Value::List(values).to_string() + "\n",
+        false => lines,
+    };
+    let Some(last) = messages.pop() else { return Ok(output.into()) };
+    messages.iter().for_each(|message| tell(message));
+    Err(Failure::told(output, last, status))
+}
+
+/// `merged`.
+fn merged(arguments: &Arguments) -> Written {
+    let game = Game::load(arguments.file(0))?;
+    let (classes, vertices) = (game.classes()?, &game.input.vertices);
+    let members = members(&classes);
+    let mut text = String::new();
+    for (vertex, &class) in classes.iter().enumerate() {
+        let lowest = members[class as usize][0];
+        if lowest != vertex {
+            let (vertex, lowest) = (vertices.label(vertex), vertices.label(lowest));
+            text += &format!("vertex {vertex}: class {class}, represented by vertex {lowest}\n");
+        }
+    }
+    if text.is_empty() {
+        text = "no vertex is represented by another\n".into();
+    }
+    Ok(text.into())
+}
+
+/// `why`.
+fn why(arguments: &Arguments) -> Written {
+    let game = Game::load(arguments.file(0))?;
+    let v = game.vertex(&arguments.word(1), "V")?;
+    let w = game.vertex(&arguments.word(2), "W")?;
+    let (graph, order) = (Graph::new(&game.table()), game.order()?);
+    let watch = progress::watch("the explanation");
+    let passes = Passes::of(&graph);
+    drop(watch);
+    if !passes.agree(&order) {
+        return Err(Failure::usage(
+            "why: the passes that are worked out here aren't those of the proved order, so nothing is \
+             explained; the order stands, and this program has a fault: please report it with the game",
+        ));
+    }
+    let vertices = &game.input.vertices;
+    Ok(Question { graph: &graph, passes: &passes, vertices }.answer(v, w).into())
+}
