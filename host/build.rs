@@ -2,22 +2,37 @@
 
 mod rattle;
 
-use std::path::PathBuf;
+use std::path::Path;
+use std::process::ExitCode;
 
 /// The crates of exports, each with an archive of its own.
 const ARCHIVES: [&str; 5] = ["abi", "abi_carry", "abi_governed", "abi_edit", "abi_verdict"];
 
-fn main() {
-    let host = PathBuf::from(std::env::var("CARGO_MANIFEST_DIR").expect("cargo names the folder"));
-    let root = host.parent().expect("the host stands in the repository");
+fn main() -> ExitCode {
+    match link() {
+        Ok(()) => ExitCode::SUCCESS,
+        Err(what) => {
+            eprintln!("raskjomi: {what}");
+            ExitCode::FAILURE
+        }
+    }
+}
+
+/// Tells cargo what to link, or what is missing.
+fn link() -> Result<(), String> {
+    let host = std::env::var("CARGO_MANIFEST_DIR").map_err(|_| "run this by cargo".to_string())?;
+    let root = Path::new(&host).parent().ok_or("put the folder host into the repository")?;
+    for source in rattle::SOURCES {
+        if !root.join(source).exists() {
+            return Err(format!("no {source} beside the folder host; take the whole repository"));
+        }
+        println!("cargo:rerun-if-changed={}", root.join(source).display());
+    }
     for name in ARCHIVES {
-        let archive = rattle::built(root, &format!("staticlib/lib{name}.a"), &["staticlib", name]);
-        let folder = archive.parent().expect("the archive stands in a folder");
-        println!("cargo:rustc-link-search=native={}", folder.display());
+        let archive = rattle::built(root, &format!("staticlib/lib{name}.a"), &["staticlib", name])?;
+        println!("cargo:rustc-link-search=native={}", root.join("target/staticlib").display());
         println!("cargo:rustc-link-lib=static={name}");
         println!("cargo:rerun-if-changed={}", archive.display());
     }
-    for source in rattle::SOURCES {
-        println!("cargo:rerun-if-changed={}", root.join(source).display());
-    }
+    Ok(())
 }

@@ -7,20 +7,31 @@
 
 /// An export's answer. Number 0 is "accepted", with the counts that belong to the call; any other
 /// number is a refusal with its place. All other fields are 0, but that [`replay`] tells its entries with
-/// a refusal too. `shown` is 1 where [`verdict`] confirms that the player wins.
+/// a refusal too.
 #[repr(C)]
 #[derive(Clone, Copy, Debug, Default, PartialEq, Eq)]
 pub struct RaskjomiAnswer {
+    /// 0 where the call accepts, else the number of the refusal.
     pub number: u32,
+    /// The number of passes.
     pub passes: u32,
+    /// The number of classes.
     pub classes: u32,
+    /// The number n of vertices of the table read or written.
     pub vertices: u32,
+    /// The number m of edges in the table read or written.
     pub edges: u32,
+    /// The number of different edges.
     pub different: u32,
+    /// The number p of positions of the plan written.
     pub positions: u32,
+    /// The number l of links of the plan written.
     pub links: u32,
+    /// The number of entries of a trace that were done.
     pub entries: u32,
+    /// The place of the refusal.
     pub place: usize,
+    /// 1 where [`verdict`] confirms that the player wins, else 0.
     pub shown: u32,
 }
 

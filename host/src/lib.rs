@@ -14,6 +14,14 @@
 //! in memory that the caller lends, of any length and content. docs/CONTRACT.md in the repository has the
 //! definitions, each call's checks in order, every refusal, and what each buffer holds afterwards.
 //!
+//! [`Game`], [`Plan`] and [`Trace`] own their words, for hosts that need not lend memory.
+//!
+//! No call uses the heap, and none keeps anything: calls may run on several threads at once. A thread that
+//! calls needs [`LEAST_STACK`] bytes of stack. Time is bounded by the sizes: the order, and all that writes
+//! it, takes at most some n × m operations on rows of n bits, [`accept_plan`] and the calls that judge a plan, too, at
+//! most some p × l steps besides, and [`replay`] some m for each entry. The longest of them measured is
+//! [`accept_plan`] on the largest plan (docs/PERFORMANCE.md).
+//!
 //! ```
 //! // Three vertices with priorities 0, 1, 0 and owners Even, Even, Odd, and an edge from each to 1.
 //! let game = [3, 3, 0, 1, 0, 0, 0, 1, 0, 1, 2, 1, 1, 1];
@@ -27,15 +35,18 @@
 //! # Ok::<(), raskjomi::Refusal>(())
 //! ```
 #![deny(unsafe_code)]
-#![warn(missing_docs)]
+#![deny(missing_docs)]
 
-#[allow(missing_docs)]
 pub mod exports;
 mod marks;
+mod owned;
+mod player;
 mod refusal;
 
 use exports::RaskjomiAnswer;
 pub use marks::{is_marked, mark_bytes, pack_marks};
+pub use owned::{Game, GameBuilder, Order, Plan, Reduced, Trace};
+pub use player::Player;
 pub use refusal::{explain, Explanation, Kind, Refusal};
 
 /// The player for whom an even lowest priority wins.
@@ -47,9 +58,22 @@ pub const ODD: u32 = 1;
 pub const MOST_VERTICES: usize = 512;
 /// The most edges of a game's table, repeats included.
 pub const MOST_EDGES: usize = 4_096;
+/// The words of the longest table: an output of so many takes every table that a call writes.
+pub const MOST_TABLE_WORDS: usize = 2 + 2 * MOST_VERTICES + 2 * MOST_EDGES;
+/// The most positions of a plan.
+pub const MOST_POSITIONS: usize = 4_096;
+/// The most links of a plan.
+pub const MOST_LINKS: usize = 16_384;
+/// The most entries of a trace.
+pub const MOST_ENTRIES: usize = 4_096;
+/// The most edges out of a vertex in a game by the seed.
+pub const MOST_DEGREE: usize = 16;
+/// The stack, in bytes, that suffices for every call: it is measured, and not proved.
+pub const LEAST_STACK: usize = 256 * 1024;
 
 /// The sizes of a table.
 #[derive(Clone, Copy, Debug, PartialEq, Eq)]
+#[non_exhaustive]
 pub struct Size {
     /// The number n of vertices.
     pub vertices: usize,
@@ -73,10 +97,11 @@ impl Size {
 }
 
 /// The words of the longest plan: an output of so many takes every plan that a call writes.
-pub const MOST_PLAN_WORDS: usize = 36_866;
+pub const MOST_PLAN_WORDS: usize = 2 + MOST_POSITIONS + 2 * MOST_LINKS;
 
 /// The sizes of a plan.
 #[derive(Clone, Copy, Debug, PartialEq, Eq)]
+#[non_exhaustive]
 pub struct PlanSize {
     /// The number p of positions, at most 4,096.
     pub positions: usize,
@@ -93,6 +118,7 @@ impl PlanSize {
 
 /// What an edit leaves: the sizes of the new table, and the number of its classes.
 #[derive(Clone, Copy, Debug, PartialEq, Eq)]
+#[non_exhaustive]
 pub struct Edited {
     /// The number of classes.
     pub classes: usize,
@@ -112,6 +138,7 @@ impl Edited {
 /// What a replay answers: the sizes of the final table and the number of its classes, or the first
 /// refusal; and how many entries were done, in either case.
 #[derive(Clone, Copy, Debug, PartialEq, Eq)]
+#[non_exhaustive]
 pub struct Replay {
     /// Whether every entry was accepted.
     pub verdict: Result<Edited, Refusal>,
@@ -179,6 +206,10 @@ fn edited(answer: RaskjomiAnswer) -> Edited {
 /// assert_eq!((refusal.number, refusal.place), (5, 3));
 /// # Ok::<(), raskjomi::Refusal>(())
 /// ```
+///
+/// # Errors
+///
+/// Refusals 1 to 8: see [`explain`].
 pub fn read(game: &[u16]) -> Result<Size, Refusal> {
     verdict(exports::read(game)).map(|answer| size(answer, answer.different))
 }
@@ -196,6 +227,10 @@ pub fn read(game: &[u16]) -> Result<Size, Refusal> {
 /// assert!(raskjomi::is_marked(&marks, 3, 0, 2));
 /// # Ok::<(), raskjomi::Refusal>(())
 /// ```
+///
+/// # Errors
+///
+/// Refusals 1 to 8 of the game, and 21 and 22 of marks and spare that are too short.
 pub fn order(game: &[u16], marks: &mut [u8], spare: &mut [u8]) -> Result<u32, Refusal> {
     verdict(exports::order(game, marks, spare)).map(|answer| answer.passes)
 }
@@ -214,6 +249,11 @@ pub fn order(game: &[u16], marks: &mut [u8], spare: &mut [u8]) -> Result<u32, Re
 /// let refusal = raskjomi::accept_relation(&game, &[0, 0b1000_0000]).unwrap_err();
 /// assert_eq!((refusal.number, refusal.place), (41, 1));
 /// ```
+///
+/// # Errors
+///
+/// Refusals 1 to 8 of the game, 21 of marks that are too short, and those of the relation: 41 for a set bit that
+/// is no mark, and 10 for a pair that fails.
 pub fn accept_relation(game: &[u16], marks: &[u8]) -> Result<(), Refusal> {
     verdict(exports::accept_relation(game, marks)).map(|_| ())
 }
@@ -228,6 +268,10 @@ pub fn accept_relation(game: &[u16], marks: &[u8]) -> Result<(), Refusal> {
 /// assert_eq!(classes, [0, 1, 0]);
 /// # Ok::<(), raskjomi::Refusal>(())
 /// ```
+///
+/// # Errors
+///
+/// Those of [`order()`], and 23 of class words that are too few.
 pub fn classes(
     game: &[u16],
     marks: &mut [u8],
@@ -250,6 +294,10 @@ pub fn classes(
 /// assert_eq!(output[..size.words()], [2, 2, 0, 1, 0, 0, 0, 1, 1, 1]);
 /// # Ok::<(), raskjomi::Refusal>(())
 /// ```
+///
+/// # Errors
+///
+/// Those of [`classes()`], and 24 of an output that is too short.
 pub fn quotient(
     game: &[u16],
     marks: &mut [u8],
@@ -274,6 +322,10 @@ pub fn quotient(
 /// assert_eq!(output[12..size.words()], [0, 1, 2, 2, 3, 4, 2, 3, 3, 4, 3, 4]);
 /// # Ok::<(), raskjomi::Refusal>(())
 /// ```
+///
+/// # Errors
+///
+/// Those of [`quotient`].
 pub fn reduce(
     game: &[u16],
     marks: &mut [u8],
@@ -296,8 +348,12 @@ pub fn reduce(
 /// let refusal = raskjomi::accept_plan(&game, raskjomi::ODD, &plan).unwrap_err();
 /// assert_eq!((refusal.number, refusal.place), (15, 0));
 /// ```
-pub fn accept_plan(game: &[u16], player: u32, plan: &[u16]) -> Result<(), Refusal> {
-    verdict(exports::accept_plan(game, player, plan)).map(|_| ())
+///
+/// # Errors
+///
+/// Refusals 1 to 8 of the game, 11 of the player, and 12 to 16 of the plan.
+pub fn accept_plan(game: &[u16], player: impl Into<u32>, plan: &[u16]) -> Result<(), Refusal> {
+    verdict(exports::accept_plan(game, player.into(), plan)).map(|_| ())
 }
 
 /// Carries a plan to another vertex: writes one that starts at `vertex`, and that [`accept_plan`]
@@ -326,16 +382,21 @@ pub fn accept_plan(game: &[u16], player: u32, plan: &[u16]) -> Result<(), Refusa
 /// assert_eq!(refusal, Err(raskjomi::Refusal { number: 33, place: 4 }));
 /// # Ok::<(), raskjomi::Refusal>(())
 /// ```
+///
+/// # Errors
+///
+/// Those of [`order()`], then those of [`accept_plan`], then 33 of the vertex, 34 of a carried plan that is too
+/// large, and 35 of an output that is too short.
 pub fn carry(
     game: &[u16],
-    player: u32,
+    player: impl Into<u32>,
     plan: &[u16],
     vertex: u32,
     marks: &mut [u8],
     spare: &mut [u8],
     output: &mut [u16],
 ) -> Result<PlanSize, Refusal> {
-    verdict(exports::carry(game, player, plan, vertex, marks, spare, output)).map(carried)
+    verdict(exports::carry(game, player.into(), plan, vertex, marks, spare, output)).map(carried)
 }
 
 /// Carries a plan on the reduced game to a vertex of the game, as [`carry`] does; a class compares as
@@ -361,10 +422,14 @@ pub fn carry(
 /// assert_eq!(output[..carried.words()], [3, 3, 5, 2, 4, 0, 1, 2, 1, 2, 2]);
 /// # Ok::<(), raskjomi::Refusal>(())
 /// ```
+///
+/// # Errors
+///
+/// Those of [`reduce`], then as for [`carry`].
 #[allow(clippy::too_many_arguments)]
 pub fn carry_class(
     game: &[u16],
-    player: u32,
+    player: impl Into<u32>,
     plan: &[u16],
     vertex: u32,
     marks: &mut [u8],
@@ -373,8 +438,17 @@ pub fn carry_class(
     reduction: &mut [u16],
     output: &mut [u16],
 ) -> Result<(Size, PlanSize), Refusal> {
-    let answer =
-        exports::carry_class(game, player, plan, vertex, marks, spare, classes, reduction, output);
+    let answer = exports::carry_class(
+        game,
+        player.into(),
+        plan,
+        vertex,
+        marks,
+        spare,
+        classes,
+        reduction,
+        output,
+    );
     verdict(answer).map(|answer| (written(answer), carried(answer)))
 }
 
@@ -382,7 +456,9 @@ pub fn carry_class(
 /// plan passes [`accept_plan`] there and starts at the vertex's class; then the player has a winning plan from
 /// `vertex` in the game itself. A plan that passes and starts at another class shows nothing, even where the
 /// classes compare. Order, classes and the reduced game are written as [`reduce`] does, the latter into
-/// `reduction`, before the plan is judged; they stay where the plan is refused.
+/// `reduction`, before the plan is judged; they stay where the plan is refused. [`Verdict::Refused`] has refusals 1
+/// to 8 of the game, 33 of a vertex that isn't there, 21 to 24 of memory that is too short, 11 of the player, and 12
+/// to 16 of the plan on the reduced game.
 ///
 /// ```
 /// use raskjomi::{Refusal, Verdict};
@@ -412,13 +488,14 @@ pub fn carry_class(
 pub fn give_verdict(
     game: &[u16],
     vertex: u32,
-    player: u32,
+    player: impl Into<u32>,
     plan: &[u16],
     marks: &mut [u8],
     spare: &mut [u8],
     classes: &mut [u16],
     reduction: &mut [u16],
 ) -> Verdict {
+    let player = player.into();
     let answer = exports::verdict(game, vertex, player, plan, marks, spare, classes, reduction);
     match verdict(answer) {
         Ok(answer) if answer.shown == 1 => Verdict::Wins(written(answer)),
@@ -441,6 +518,10 @@ pub fn give_verdict(
 /// assert_eq!(raskjomi::read(&game)?.different, 5);
 /// # Ok::<(), raskjomi::Refusal>(())
 /// ```
+///
+/// # Errors
+///
+/// Refusals 31 of the numbers, and 32 of an output that is too short.
 pub fn seed(
     seed: u32,
     vertices: u32,
@@ -470,6 +551,10 @@ pub fn seed(
 /// assert_eq!((refused.number, refused.place), (36, 3));
 /// # Ok::<(), raskjomi::Refusal>(())
 /// ```
+///
+/// # Errors
+///
+/// Refusals 1 to 8 of the game, 24 of an output that is too short, and 36 of priorities that fit no word.
 pub fn convert(game: &[u16], output: &mut [u16]) -> Result<(usize, usize), Refusal> {
     verdict(exports::convert(game, output)).map(filled)
 }
@@ -492,6 +577,10 @@ pub fn convert(game: &[u16], output: &mut [u16]) -> Result<(usize, usize), Refus
 /// assert_eq!(refusal, Err(raskjomi::Refusal { number: 37, place: 0 }));
 /// # Ok::<(), raskjomi::Refusal>(())
 /// ```
+///
+/// # Errors
+///
+/// Refusals 1 to 8 of the table, 21 to 23 of the memory, and 37 and 39 of the edge.
 pub fn add_edge(
     table: &mut [u16],
     source: u32,
@@ -519,6 +608,10 @@ pub fn add_edge(
 /// assert_eq!(refusal, Err(raskjomi::Refusal { number: 38, place: 0 }));
 /// # Ok::<(), raskjomi::Refusal>(())
 /// ```
+///
+/// # Errors
+///
+/// Refusals 1 to 8 of the table, 21 to 23 of the memory, and 37 and 38 of the edge.
 pub fn remove_edge(
     table: &mut [u16],
     source: u32,
@@ -549,6 +642,10 @@ pub fn remove_edge(
 /// assert_eq!(refusal, Err(raskjomi::Refusal { number: 24, place: 14 }));
 /// # Ok::<(), raskjomi::Refusal>(())
 /// ```
+///
+/// # Errors
+///
+/// Those of [`add_edge`], with 24 of a second table that is too short.
 pub fn preview_add(
     game: &[u16],
     source: u32,
@@ -573,6 +670,10 @@ pub fn preview_add(
 /// assert_eq!(table, [3, 3, 0, 1, 0, 0, 0, 1, 0, 1, 2, 1, 1, 1, 0, 0, 9]);
 /// # Ok::<(), raskjomi::Refusal>(())
 /// ```
+///
+/// # Errors
+///
+/// Those of [`remove_edge`], with 24 of a second table that is too short.
 pub fn preview_remove(
     game: &[u16],
     source: u32,
@@ -599,14 +700,14 @@ pub fn preview_remove(
 /// // The edge from 0 to 2 comes, the one from 0 to 1 goes.
 /// let trace = [2, 0, 0, 2, 1];
 /// let replay = raskjomi::replay(&mut table, &trace, &mut marks, &mut spare, &mut classes);
-/// let edited = raskjomi::Edited { classes: 3, vertices: 3, edges: 3 };
-/// assert_eq!(replay, raskjomi::Replay { verdict: Ok(edited), entries: 2 });
+/// let edited = replay.verdict.unwrap();
+/// assert_eq!((edited.classes, edited.vertices, edited.edges, replay.entries), (3, 3, 3, 2));
 /// assert_eq!(table, [3, 3, 0, 1, 0, 0, 0, 1, 1, 2, 0, 1, 1, 2, 0, 0]);
 /// // Vertex 0 keeps its last edge: the first entry is done, and the second is refused.
 /// let trace = [2, 1, 0, 2, 2];
 /// let replay = raskjomi::replay(&mut table, &trace, &mut marks, &mut spare, &mut classes);
 /// let refusal = raskjomi::Refusal { number: 38, place: 0 };
-/// assert_eq!(replay, raskjomi::Replay { verdict: Err(refusal), entries: 1 });
+/// assert_eq!((replay.verdict, replay.entries), (Err(refusal), 1));
 /// assert_eq!(table, [3, 4, 0, 1, 0, 0, 0, 1, 1, 2, 0, 1, 1, 1, 2, 2]);
 /// ```
 pub fn replay(
@@ -633,6 +734,10 @@ pub fn replay(
 /// assert_eq!(marks, [0b0010_0001, 0b1000_0100]);
 /// # Ok::<(), raskjomi::Refusal>(())
 /// ```
+///
+/// # Errors
+///
+/// Those of [`order()`].
 pub fn governed_order(game: &[u16], marks: &mut [u8], spare: &mut [u8]) -> Result<u32, Refusal> {
     verdict(exports::governed_order(game, marks, spare)).map(|answer| answer.passes)
 }
@@ -647,6 +752,10 @@ pub fn governed_order(game: &[u16], marks: &mut [u8], spare: &mut [u8]) -> Resul
 /// let refusal = raskjomi::accept_governed(&game, &[0b0001_0101, 1]).unwrap_err();
 /// assert_eq!((refusal.number, refusal.place), (10, 2));
 /// ```
+///
+/// # Errors
+///
+/// Those of [`accept_relation`], with 10 for a pair whose reverse is unmarked, too.
 pub fn accept_governed(game: &[u16], marks: &[u8]) -> Result<(), Refusal> {
     verdict(exports::accept_governed(game, marks)).map(|_| ())
 }
@@ -661,6 +770,10 @@ pub fn accept_governed(game: &[u16], marks: &[u8]) -> Result<(), Refusal> {
 /// assert_eq!(classes, [0, 1, 0]);
 /// # Ok::<(), raskjomi::Refusal>(())
 /// ```
+///
+/// # Errors
+///
+/// Those of [`classes()`].
 pub fn governed_classes(
     game: &[u16],
     marks: &mut [u8],

@@ -17,6 +17,10 @@ pub fn mark_bytes(n: usize) -> usize {
 /// let marks = [0b0101_0101, 1];
 /// assert!(raskjomi::is_marked(&marks, 3, 0, 2) && !raskjomi::is_marked(&marks, 3, 0, 1));
 /// ```
+///
+/// # Panics
+///
+/// If the marks are too short for the pair.
 #[inline]
 pub fn is_marked(marks: &[u8], n: usize, v: usize, w: usize) -> bool {
     let i = v * n + w;

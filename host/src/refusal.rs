@@ -42,6 +42,7 @@ impl std::error::Error for Refusal {}
 
 /// What a refusal number is about.
 #[derive(Clone, Copy, Debug, PartialEq, Eq)]
+#[non_exhaustive]
 pub enum Kind {
     /// The number is no refusal's.
     None,
@@ -93,6 +94,7 @@ impl fmt::Display for Kind {
 
 /// A refusal number in words.
 #[derive(Clone, Copy, Debug, PartialEq, Eq)]
+#[non_exhaustive]
 pub struct Explanation {
     /// The condition that failed.
     pub meaning: &'static str,

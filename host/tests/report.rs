@@ -1,5 +1,6 @@
 //! The report program, run on many inputs, prints what the oracle says.
 
+#[allow(dead_code)]
 #[path = "../rattle.rs"]
 mod rattle;
 
@@ -18,7 +19,9 @@ use std::thread;
 /// The program, built once for all tests.
 fn program() -> &'static Path {
     static PROGRAM: OnceLock<PathBuf> = OnceLock::new();
-    PROGRAM.get_or_init(|| rattle::built(root(), "bin/report", &["check", "report"]))
+    PROGRAM.get_or_init(|| {
+        rattle::built(root(), "bin/report", &["check", "report"]).expect("the report program")
+    })
 }
 
 /// What the program prints for the input. It may stop reading before the input ends.

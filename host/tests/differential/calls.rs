@@ -252,7 +252,7 @@ impl Case {
         let (game, mut memory) = (&self.game[..], self.memory.clone());
         let Memory { table, marks, spare, classes, reduction, output } = &mut memory;
         let (player, plan, vertex) = (self.player, &self.plan, self.vertex);
-        let of_size = |Size { vertices, edges, different }| Answer {
+        let of_size = |Size { vertices, edges, different, .. }| Answer {
             vertices: vertices as u32,
             edges: edges as u32,
             different: different as u32,
@@ -262,8 +262,12 @@ impl Case {
             assert_eq!(size.different, size.edges, "each edge stands once");
             Answer { classes: size.vertices as u32, different: 0, ..of_size(size) }
         };
-        let of_filled = |(vertices, edges)| of_size(Size { vertices, edges, different: 0 });
-        let of_plan = |PlanSize { positions, links }| Answer {
+        let of_filled = |(vertices, edges)| Answer {
+            vertices: vertices as u32,
+            edges: edges as u32,
+            ..Answer::default()
+        };
+        let of_plan = |PlanSize { positions, links, .. }| Answer {
             positions: positions as u32,
             links: links as u32,
             ..Answer::default()
@@ -272,9 +276,9 @@ impl Case {
             let Answer { positions, links, .. } = of_plan(plan);
             Answer { positions, links, ..of_table(size) }
         };
-        let of_edit = |Edited { classes, vertices, edges }| {
-            let size = of_size(Size { vertices, edges, different: 0 });
-            Answer { classes: classes as u32, ..size }
+        let of_edit = |Edited { classes, vertices, edges, .. }| Answer {
+            classes: classes as u32,
+            ..of_filled((vertices, edges))
         };
         let of_classes = |classes| Answer { classes: classes as u32, ..Answer::default() };
         let (from, to) = self.edge;

@@ -180,9 +180,13 @@ fn one_byte_or_word_short_is_refused() {
 #[test]
 fn bytes_to_lend() {
     for vertices in 0..=600 {
-        let size = raskjomi::Size { vertices, edges: 0, different: 0 };
-        assert_eq!(size.marks(), mark_bytes(vertices));
         assert_eq!(raskjomi::mark_bytes(vertices), mark_bytes(vertices));
+    }
+    for n in 1..=raskjomi::MOST_VERTICES {
+        let edges = (0..n as u16).map(|v| (v, v)).collect();
+        let loops = Table { priorities: vec![0; n], owners: vec![0; n], edges };
+        let size = raskjomi::read(&loops.words()).expect("a game");
+        assert_eq!(size.marks(), mark_bytes(n));
     }
 }
 

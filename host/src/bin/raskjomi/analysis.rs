@@ -237,7 +237,7 @@ impl Game {
         let (mut marks, mut spare) = self.marks();
         let (mut classes, mut words) = (vec![0; self.size.vertices], self.input.numbers.clone());
         words.resize(words.len() + trace.len(), 0);
-        let Replay { verdict, entries } =
+        let Replay { verdict, entries, .. } =
             raskjomi::replay(&mut words, trace, &mut marks, &mut spare, &mut classes);
         verdict.map_err(|refusal| (entries, refusal))?;
         Ok(Merged { classes, words })

@@ -1,8 +1,9 @@
 //! Why a relation or a plan is refused, in words: the failing successor, the missing one, the walk.
 
-use crate::graph::{marked, Cause, Graph};
+use crate::graph::{Cause, Graph};
 use crate::table::Table;
 use crate::vertices::Vertices;
+use raskjomi::is_marked;
 use std::collections::VecDeque;
 
 /// The most positions of a walk that a message shows.
@@ -10,7 +11,7 @@ const SHOWN: usize = 12;
 
 /// Why a pair of the relation fails: refusal 10.
 pub fn of_pair(table: &Table, vertices: &Vertices, marks: &[u8], v: usize, w: usize) -> String {
-    let (graph, related) = (Graph::new(table), |x, y| marked(marks, table.n(), x, y));
+    let (graph, related) = (Graph::new(table), |x, y| is_marked(marks, table.n(), x, y));
     let [v_is, w_is] = [v, w].map(|vertex| vertices.label(vertex));
     match graph.cause(v, w, related) {
         Some(Cause::Priorities) => {

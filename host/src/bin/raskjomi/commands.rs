@@ -490,15 +490,12 @@ fn told(edits: &[Edit]) -> String {
     format!("edits: {added} added, {} removed", edits.len() - added)
 }
 
-/// The words of the longest table.
-const MOST_WORDS: usize = 9_218;
-
 /// `seed`.
 pub fn seed(arguments: &Arguments) -> Written {
     let form = form_given(arguments, "seed")?;
     let numbers = seed_numbers(arguments)?;
     let [seed, n, degree, priorities] = numbers;
-    let mut words = vec![0; MOST_WORDS];
+    let mut words = vec![0; raskjomi::MOST_TABLE_WORDS];
     raskjomi::seed(seed, n, degree, priorities, &mut words)
         .map_err(|refusal| seed_refused(refusal, numbers))?;
     let title =

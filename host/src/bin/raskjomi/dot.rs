@@ -3,10 +3,10 @@
 
 use crate::analysis::{members, Merged};
 use crate::failure::Failure;
-use crate::graph::marked;
 use crate::input::plain_error;
 use crate::table::Table;
 use crate::vertices::Vertices;
+use raskjomi::is_marked;
 use std::collections::HashSet;
 use std::fmt::Write as _;
 use std::io::{ErrorKind, Write as _};
@@ -107,7 +107,7 @@ pub fn order(table: &Table, vertices: &Vertices, marks: &[u8]) -> String {
     let node = |v: usize| node(table, vertices, v, &vertices.label(v), "");
     let mut lines: Vec<String> = (0..n).map(node).collect();
     let pairs = (0..n).flat_map(|v| (0..n).map(move |w| (v, w)));
-    let pairs = pairs.filter(|&(v, w)| v != w && marked(marks, n, v, w));
+    let pairs = pairs.filter(|&(v, w)| v != w && is_marked(marks, n, v, w));
     lines.extend(pairs.map(|(v, w)| format!("{v} -> {w};")));
     digraph("order", &lines)
 }

@@ -88,9 +88,3 @@ impl Graph {
         }
     }
 }
-
-/// Whether the marks that the library writes and reads have the pair (v, w): how marks stand in memory
-/// is known here alone.
-pub fn marked(marks: &[u8], n: usize, v: usize, w: usize) -> bool {
-    raskjomi::is_marked(marks, n, v, w)
-}

@@ -2,8 +2,9 @@
 //! held to the marks and the pass count that the library gives.
 
 use crate::analysis::Order;
-use crate::graph::{marked, Cause, Graph};
+use crate::graph::{Cause, Graph};
 use crate::vertices::Vertices;
+use raskjomi::is_marked;
 use std::collections::HashSet;
 use std::fmt::Write;
 
@@ -62,7 +63,7 @@ impl Passes {
     pub fn agree(&self, order: &Order) -> bool {
         let pairs = (0..self.n).flat_map(|v| (0..self.n).map(move |w| (v, w)));
         let mut pairs =
-            pairs.map(|(v, w)| (self.pass(v, w) == KEPT, marked(&order.marks, self.n, v, w)));
+            pairs.map(|(v, w)| (self.pass(v, w) == KEPT, is_marked(&order.marks, self.n, v, w)));
         self.count == order.passes && pairs.all(|(kept, marked)| kept == marked)
     }
 }
