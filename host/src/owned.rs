@@ -2,6 +2,10 @@
 
 use crate::{Edited, Player, Refusal, Replay, Size};
 
+/// A call that writes a relation, and one that writes a game of classes.
+type WriteMarks = fn(&[u16], &mut [u8], &mut [u8]) -> Result<u32, Refusal>;
+type WriteTable = fn(&[u16], &mut [u8], &mut [u8], &mut [u16], &mut [u16]) -> Result<Size, Refusal>;
+
 /// A game that the reader accepts, with the words of its table.
 ///
 /// ```
@@ -171,7 +175,7 @@ impl Game {
         self.relation(crate::governed_order)
     }
 
-    fn relation(&self, write: fn(&[u16], &mut [u8], &mut [u8]) -> Result<u32, Refusal>) -> Order {
+    fn relation(&self, write: WriteMarks) -> Order {
         let (mut marks, mut spare) = self.marks();
         let passes = granted(write(&self.words, &mut marks, &mut spare));
         Order { marks, passes, vertices: self.size.vertices }
@@ -195,11 +199,7 @@ impl Game {
         self.merged(crate::reduce)
     }
 
-    #[allow(clippy::type_complexity)]
-    fn merged(
-        &self,
-        write: fn(&[u16], &mut [u8], &mut [u8], &mut [u16], &mut [u16]) -> Result<Size, Refusal>,
-    ) -> Reduced {
+    fn merged(&self, write: WriteTable) -> Reduced {
         let (mut marks, mut spare) = self.marks();
         let (mut classes, mut words) = (vec![0; self.size.vertices], vec![0; self.size.words()]);
         let size = granted(write(&self.words, &mut marks, &mut spare, &mut classes, &mut words));

@@ -97,6 +97,57 @@ fn functions_are_those_of_the_exports() {
     assert_eq!(declared.len(), 21);
 }
 
+/// The header without comments and directives, with single blanks.
+fn header() -> String {
+    let text = fs::read_to_string(root().join("host/include/raskjomi.h")).expect("the header");
+    let code = text.split("/*").map(|part| part.split_once("*/").map_or(part, |(_, code)| code));
+    let code: String = code.collect();
+    let lines: Vec<&str> = code.lines().filter(|line| !line.starts_with('#')).collect();
+    plain(&lines.join("\n"))
+}
+
+/// A type of C as Rust has it.
+fn of_c(kind: &str) -> &str {
+    match kind {
+        "uint8_t" => "u8",
+        "uint16_t" => "u16",
+        "uint32_t" => "u32",
+        "size_t" => "usize",
+        other => other,
+    }
+}
+
+/// A parameter or field of C, as "const uint16_t *game", as Rust declares it.
+fn from_c(declared: &str) -> String {
+    let (kind, name) = declared.rsplit_once(' ').expect("a type and a name");
+    let constant = kind.strip_prefix("const ");
+    let element = of_c(constant.unwrap_or(kind));
+    match (name.strip_prefix('*'), constant) {
+        (Some(name), Some(_)) => format!("{name}: *const {element}"),
+        (Some(name), None) => format!("{name}: *mut {element}"),
+        _ => format!("{name}: {element}"),
+    }
+}
+
+#[test]
+fn the_header_declares_the_exports() {
+    let header = header();
+    let prototypes =
+        header.split(';').filter_map(|part| part.split_once('(')).map(|(head, rest)| {
+            let (result, name) = head.trim().rsplit_once(' ').expect("a result and a name");
+            let parameters = parts(rest.trim_end_matches(')')).into_iter().map(from_c).collect();
+            let result = result.rsplit(' ').next().expect("a type");
+            (name.to_string(), (parameters, of_c(result).to_string()))
+        });
+    let declared: BTreeMap<String, Signature> = prototypes.collect();
+    assert_eq!(declared, exports_in_rattle());
+    let fields = between(&header, "typedef struct RaskjomiAnswer {", "}").split(';');
+    let fields = fields.map(str::trim).filter(|field| !field.is_empty());
+    let fields: Vec<String> = fields.map(|field| format!("pub {}", from_c(field))).collect();
+    let declarations = declarations_in_rust();
+    assert_eq!(fields, parts(between(&declarations, "pub struct RaskjomiAnswer {", "}")));
+}
+
 #[test]
 fn answer_has_the_fields_of_the_exports() {
     let head = "pub struct RaskjomiAnswer {";

@@ -41,7 +41,7 @@ pub fn run(words: &[OsString]) -> Written {
     }
     let arguments = Arguments::parse(command, rest)?;
     let output = (command.run)(&arguments).map_err(|failure| match arguments.has("--json") {
-        true => failure.as_json(),
+        true => failure.with_json(),
         false => failure,
     })?;
     let Some(path) = arguments.output() else { return Ok(output) };

@@ -43,7 +43,7 @@ impl Failure {
     }
 
     /// The failure with itself as a value on standard output, unless its output is told already.
-    pub fn as_json(mut self) -> Failure {
+    pub fn with_json(mut self) -> Failure {
         if self.refusal.is_some() || self.output.is_empty() {
             self.output = format!("{}\n", json::object(self.fields()));
         }

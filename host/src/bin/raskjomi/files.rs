@@ -6,6 +6,7 @@ use crate::commands::{self, as_words, vertex_given, Written};
 use crate::help::{Command, Opt};
 use crate::input::Input;
 use crate::locate::made_plan_refused;
+use crate::progress::watch;
 use crate::solution::Solution;
 use crate::text;
 
@@ -53,6 +54,7 @@ fn plan(arguments: &Arguments) -> Written {
     let (table, vertices) = (game.table(), &game.input.vertices);
     let (player, words) = Solution::parse(&name, &text)?.plan(&table, vertices, vertex)?;
     let (winner, label) = (name_of(player), vertices.label(vertex));
+    let _watch = watch("the plan");
     raskjomi::accept_plan(&game.input.numbers, player, &words).map_err(|refusal| {
         let claim = format!("{name}: {winner} is said to win from vertex {label}");
         made_plan_refused(refusal, &game, claim, &words)

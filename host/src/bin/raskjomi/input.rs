@@ -349,8 +349,11 @@ fn from_text(name: String, bytes: &[u8], unit: Unit) -> Result<Input, Failure> {
 /// A game in PGSolver's format: through the conversion, unless the lowest priority decides there, too.
 /// One that the reader refuses keeps its priorities: the call that gets it tells why.
 fn from_pgsolver(name: String, text: &str, lowest: bool) -> Result<Input, Failure> {
-    let parsed =
-        pgsolver::parse(text).map_err(|problem| Failure::usage(format!("{name}: {problem}")))?;
+    let parsed = pgsolver::parse(text).map_err(|problem| {
+        Failure::usage(format!(
+            "{name}: {problem} (it is read in PGSolver's format, as its first word is `parity`)"
+        ))
+    })?;
     let (numbers, vertices, places) =
         (parsed.words, parsed.vertices, Places::Pgsolver(parsed.places));
     let mut input = Input { name, numbers, vertices, unit: Unit::Word, places };
