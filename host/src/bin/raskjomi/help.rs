@@ -332,7 +332,8 @@ pub const COMMANDS: [Command; 16] = [
                   tool, and so are order, classes and edges between classes; a priority p of the \
                   reduced game means M - p to the tool. Converted again, the reduced game is one for \
                   the tool, where the highest decides. Text and words are game tables, which every \
-                  command reads; as text, the table begins with a comment that gives M.",
+                  command reads; as text, the table begins with a comment that gives M. A game in PGSolver's format \
+                  is converted as it is read, and is written as it then is.",
         example: "./raskjomi convert games/c.txt | ./raskjomi reduce | ./raskjomi convert",
         files: 0..=1,
         options: &[Opt { name: "--as", value: Some("text, words or pgsolver") }],

@@ -4,7 +4,7 @@ use crate::scanner::{Problem, Scanner, Token};
 use crate::table::Table;
 use crate::vertices::Vertices;
 use raskjomi::Refusal;
-use std::collections::HashMap;
+use std::collections::{HashMap, HashSet};
 use std::fmt::Write;
 
 /// The first word of a game.
@@ -142,53 +142,60 @@ fn successors(
     }
 }
 
-/// The table of the vertices. Sizes that fit no word, and sizes above the limits, stand at the first
-/// vertex or edge too many.
+/// The table of the vertices. Sizes above the limits stand at the first vertex or edge too many.
 fn laid_out(header: usize, mut vertices: Vec<Vertex>) -> Result<Parsed, Problem> {
-    let edges: usize = vertices.iter().map(|vertex| vertex.successors.len()).sum();
-    let most = usize::from(u16::MAX);
-    if vertices.len() > most || edges > most {
-        let what = format!("{} vertices and {edges} edges", vertices.len());
-        let (n, m) = (raskjomi::MOST_VERTICES, raskjomi::MOST_EDGES);
-        let remedy = format!("a game has at most {n} vertices and {m} edges; bring a part of it");
-        return Err(Problem::at(header, None, what, remedy));
-    }
+    let sizes = sizes(header, &vertices)?;
     let place = |vertex: &Vertex| (vertex.line, Some(vertex.id));
-    let first_too_many = vertices.get(raskjomi::MOST_VERTICES).map_or((header, None), place);
+    let vertex_too_many = vertices.get(raskjomi::MOST_VERTICES).map_or((header, None), place);
     vertices.sort_by_key(|vertex| vertex.id);
-    let numbers: HashMap<u64, u16> = vertices.iter().map(|v| v.id).zip(0..).collect();
-    let (mut sources, mut targets, mut ends) = (Vec::new(), Vec::new(), Vec::new());
-    for (number, vertex) in (0..).zip(&vertices) {
+    let ends = ends(&vertices)?;
+    let (sources, targets): (Vec<u16>, Vec<u16>) = ends.iter().copied().unzip();
+    let each: Vec<(usize, Option<u64>)> = vertices.iter().map(place).collect();
+    let of_edges: Vec<_> = sources.iter().map(|&source| each[usize::from(source)]).collect();
+    let edge_too_many = of_edges.get(raskjomi::MOST_EDGES).copied().unwrap_or((header, None));
+    let column = |of: fn(&Vertex) -> u16| vertices.iter().map(of).collect::<Vec<u16>>();
+    let [priorities, owners] = [column(|vertex| vertex.priority), column(|vertex| vertex.owner)];
+    let first = vec![vertex_too_many, edge_too_many];
+    Ok(Parsed {
+        words: [sizes.to_vec(), priorities, owners, sources, targets].concat(),
+        places: [first, each.clone(), each, of_edges.clone(), of_edges].concat(),
+        vertices: Vertices::named(
+            vertices.iter().map(|vertex| vertex.id).collect(),
+            vertices.into_iter().map(|vertex| vertex.name).collect(),
+        ),
+    })
+}
+
+/// The numbers of vertices and of edges, if they fit words.
+fn sizes(header: usize, vertices: &[Vertex]) -> Result<[u16; 2], Problem> {
+    let edges: usize = vertices.iter().map(|vertex| vertex.successors.len()).sum();
+    let size = |count: usize| {
+        u16::try_from(count).map_err(|_| {
+            let what = format!("{} vertices and {edges} edges", vertices.len());
+            let (n, m) = (raskjomi::MOST_VERTICES, raskjomi::MOST_EDGES);
+            let remedy =
+                format!("a game has at most {n} vertices and {m} edges; bring a part of it");
+            Problem::at(header, None, what, remedy)
+        })
+    };
+    Ok([size(vertices.len())?, size(edges)?])
+}
+
+/// The ends of all edges, as numbers of vertices, which stand by ascending id.
+fn ends(vertices: &[Vertex]) -> Result<Vec<(u16, u16)>, Problem> {
+    let numbers: HashMap<u64, u16> = vertices.iter().map(|vertex| vertex.id).zip(0..).collect();
+    let mut ends = Vec::new();
+    for (source, vertex) in (0..).zip(vertices) {
         for successor in &vertex.successors {
             let target = numbers.get(successor).ok_or_else(|| {
                 let what = format!("successor {successor} is no vertex of the file");
                 let remedy = format!("add a line for {successor}, or take it off the list");
                 Problem::at(vertex.line, Some(vertex.id), what, remedy)
             })?;
-            sources.push(number);
-            targets.push(*target);
-            ends.push(place(vertex));
+            ends.push((source, *target));
         }
     }
-    let edge_too_many = ends.get(raskjomi::MOST_EDGES).copied().unwrap_or((header, None));
-    let each: Vec<(usize, Option<u64>)> = vertices.iter().map(place).collect();
-    let column = |of: fn(&Vertex) -> u16| vertices.iter().map(of).collect::<Vec<u16>>();
-    Ok(Parsed {
-        words: [
-            vec![vertices.len() as u16, edges as u16],
-            column(|vertex| vertex.priority),
-            column(|vertex| vertex.owner),
-            sources,
-            targets,
-        ]
-        .concat(),
-        places: [vec![first_too_many, edge_too_many], each.clone(), each, ends.clone(), ends]
-            .concat(),
-        vertices: Vertices::named(
-            vertices.iter().map(|vertex| vertex.id).collect(),
-            vertices.into_iter().map(|vertex| vertex.name).collect(),
-        ),
-    })
+    Ok(ends)
 }
 
 /// Why a table can't be written.
@@ -202,7 +209,7 @@ pub enum Unwritten {
 /// A table where the lowest priority decides, in PGSolver's format; through the conversion, as its
 /// readers let the highest decide, unless they are told to let the lowest.
 pub fn write(table: &Table, vertices: &Vertices, lowest: bool) -> Result<String, Unwritten> {
-    let mut seen = std::collections::HashSet::new();
+    let mut seen = HashSet::new();
     let (sources, targets) = table.ends();
     if let Some(copy) = sources.iter().zip(targets).position(|edge| !seen.insert(edge)) {
         return Err(Unwritten::Copies(copy));

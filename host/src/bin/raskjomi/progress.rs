@@ -57,6 +57,12 @@ mod tests {
     #[derive(Clone, Default)]
     struct Page(Arc<Mutex<Vec<u8>>>);
 
+    impl Page {
+        fn content(&self) -> Vec<u8> {
+            self.0.lock().expect("a page").clone()
+        }
+    }
+
     impl Write for Page {
         fn write(&mut self, bytes: &[u8]) -> io::Result<usize> {
             self.0.lock().expect("a page").extend(bytes);
@@ -68,25 +74,29 @@ mod tests {
         }
     }
 
-    /// What is written of a call that takes so long, with a line after each pause.
-    fn told(call: Duration, pause: Duration) -> String {
+    /// What is written of a call that lasts until the test says, with a line after each pause.
+    fn told(pause: Duration, lasts: impl Fn(&Page) -> bool) -> String {
         let page = Page::default();
         let watch = Watch { thread: Some(watching("order", pause, page.clone())) };
-        thread::sleep(call);
+        while lasts(&page) {
+            thread::sleep(Duration::from_millis(1));
+        }
         drop(watch);
-        let bytes = page.0.lock().expect("a page").clone();
-        String::from_utf8(bytes).expect("text")
+        String::from_utf8(page.content()).expect("text")
     }
 
     #[test]
     fn a_long_call_is_told_and_the_line_goes() {
-        let text = told(Duration::from_millis(200), Duration::from_millis(20));
-        assert!(text.starts_with("\rraskjomi: order: 0 s so far"), "{text}");
-        assert!(text.ends_with(&format!("\r{:28}\r", "")), "{text:?}");
+        let text = told(Duration::from_millis(2), |page| page.content().is_empty());
+        let (line, _) = text[1..].split_once('\r').expect("a line that goes");
+        let seconds =
+            line.strip_prefix("raskjomi: order: ").and_then(|rest| rest.strip_suffix(" s so far"));
+        assert!(seconds.is_some_and(|seconds| seconds.parse::<u64>().is_ok()), "{text:?}");
+        assert!(text.ends_with(&format!("\r{:1$}\r", "", line.len())), "{text:?}");
     }
 
     #[test]
     fn a_short_call_is_not() {
-        assert_eq!(told(Duration::ZERO, Duration::from_secs(60)), "");
+        assert_eq!(told(Duration::from_secs(60), |_| false), "");
     }
 }

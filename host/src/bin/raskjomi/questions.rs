@@ -54,42 +54,46 @@ pub const COMMANDS: [Command; 3] = [
 /// `check`.
 fn check(arguments: &Arguments) -> Written {
     let (mut lines, mut values) = (String::new(), Vec::new());
-    let (mut status, mut messages) = (0, Vec::new());
+    let mut failures: Vec<Failure> = Vec::new();
     for index in 0..arguments.count().max(1) {
-        let source = arguments.file(index);
-        let (name, loaded) = (source.name(), Game::load(source));
-        let (line, value) = match &loaded {
-            Ok(game) => {
-                let (n, m) = (game.size.vertices, game.size.different);
-                let (all, plural) = (game.size.edges, |count| if count == 1 { "" } else { "s" });
-                let sizes = [("vertices", n), ("different_edges", m), ("edges", all)];
-                let sizes = sizes.map(|(key, size)| (key, Value::from(size)));
-                let accepted = [("file", Value::from(&*name)), ("accepted", Value::Bool(true))];
-                let (of_n, of_m) = (if n == 1 { "vertex" } else { "vertices" }, plural(m));
-                (
-                    format!("accepted, {n} {of_n} and {m} different edge{of_m}"),
-                    json::object(accepted.into_iter().chain(sizes)),
-                )
-            }
+        let name = arguments.file(index).name();
+        let (line, value) = match Game::load(arguments.file(index)) {
+            Ok(game) => accepted(&name, &game),
             Err(failure) => {
                 let told = failure.verdict().unwrap_or("unreadable".into());
-                (told, failure.value(&name))
+                let value = failure.value(&name);
+                failures.push(failure);
+                (told, value)
             }
         };
         lines += &format!("{name}: {line}\n");
         values.push(value);
-        if let Err(failure) = loaded {
-            status = status.max(failure.status);
-            messages.push(failure.message);
-        }
     }
     let output = match arguments.has("--json") {
         true => Value::List(values).to_string() + "\n",
         false => lines,
     };
-    let Some(last) = messages.pop() else { return Ok(output.into()) };
-    messages.iter().for_each(|message| tell(message));
+    let Some(status) = failures.iter().map(|failure| failure.status).max() else {
+        return Ok(output.into());
+    };
+    let last = failures.pop().map_or(String::new(), |failure| failure.message);
+    failures.iter().for_each(|failure| tell(&failure.message));
     Err(Failure::told(output, last, status))
+}
+
+/// What `check` says of an accepted game, in words and as a value.
+fn accepted(name: &str, game: &Game) -> (String, Value) {
+    let (n, d) = (game.size.vertices, game.size.different);
+    let (vertices, edges) =
+        (if n == 1 { "vertex" } else { "vertices" }, if d == 1 { "edge" } else { "edges" });
+    let value = json::object([
+        ("file", Value::from(name)),
+        ("accepted", Value::Bool(true)),
+        ("vertices", Value::from(n)),
+        ("different_edges", Value::from(d)),
+        ("edges", Value::from(game.size.edges)),
+    ]);
+    (format!("accepted, {n} {vertices} and {d} different {edges}"), value)
 }
 
 /// `merged`.

@@ -1,6 +1,6 @@
 //! What somebody may have meant.
 
-/// ", perhaps you mean `x`" for the known word nearest to one, if at most two letters differ.
+/// " (perhaps `x`)" for the known word nearest to one, if at most two letters differ; else nothing.
 pub fn near<'a>(word: &str, known: impl Iterator<Item = &'a str>) -> String {
     let nearest = known.map(|other| (distance(word, other), other)).min();
     match nearest {
