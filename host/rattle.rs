@@ -4,6 +4,7 @@ use std::fs::{self, File};
 use std::io::{self, BufRead, BufReader, Read, Write};
 use std::path::{Path, PathBuf};
 use std::process::{Command, Stdio};
+use std::sync::mpsc::{channel, Sender};
 use std::thread;
 use std::time::SystemTime;
 
@@ -52,17 +53,13 @@ pub fn build(
     let mut child = command.spawn().map_err(|error| {
         format!("can't start `rt` ({error}); put the Rattle toolchain that docs/TRUST.md names on the PATH")
     })?;
-    let (stdout, stderr) = (child.stdout.take(), child.stderr.take());
-    let errors = thread::spawn(move || {
-        let mut text = String::new();
-        let _ = stderr.map(|mut stderr| stderr.read_to_string(&mut text));
-        text
-    });
+    // It tells of crates on either stream.
+    let (sender, lines) = channel();
+    child.stdout.take().map(|stream| send_lines(stream, sender.clone()));
+    child.stderr.take().map(|stream| send_lines(stream, sender));
     let mut left = needed(root, rt.last().unwrap_or(&""));
     let (count, mut text) = (left.len(), String::new());
-    for line in
-        stdout.into_iter().flat_map(|stdout| BufReader::new(stdout).lines()).map_while(Result::ok)
-    {
+    for line in lines {
         if let Some((name, fresh)) = proved(&line) {
             left.retain(|other| other != name);
             if fresh {
@@ -71,11 +68,19 @@ pub fn build(
         }
         text += &(line + "\n");
     }
-    text += &errors.join().unwrap_or_default();
     match child.wait() {
         Ok(status) if status.success() => Ok(()),
         _ => Err(format!("`rt {}` failed; it says:\n{text}", rt.join(" "))),
     }
+}
+
+/// Sends the lines of a stream until it ends.
+fn send_lines(stream: impl Read + Send + 'static, lines: Sender<String>) {
+    thread::spawn(move || {
+        for line in BufReader::new(stream).split(b'\n').map_while(Result::ok) {
+            let _ = lines.send(String::from_utf8_lossy(&line).into());
+        }
+    });
 }
 
 /// The crates that a crate needs, and itself, in the sequence of crates.txt.

@@ -49,16 +49,17 @@ fn told(folder: &Path) -> (String, Result<(), String>) {
 
 #[test]
 fn each_crate_is_told_with_what_is_left() {
-    let script = "echo 'rt: theory proved (unchanged since it was last proved)'\n\
-                  for c in table order seed abi; do echo \"rt: $c proved\"; echo \"fn $c::f: proved\"; done\n\
+    // As `rt staticlib` does, it tells of the crates below on standard error.
+    let script = "echo 'rt: theory proved (unchanged since it was last proved)' >&2\n\
+                  for c in table order seed; do echo \"rt: $c proved (3 s)\" >&2; done\n\
+                  echo 'fn abi::f: proved'\necho 'rt: target/staticlib/libabi.a is proved'\n\
                   echo \"$*\" > words";
     let folder = repository("building", script);
     let (text, ended) = told(&folder);
     assert_eq!(ended, Ok(()));
     let lines = "raskjomi: proved table, 2 of 5; left: seed, order, abi, then the host\n\
                  raskjomi: proved order, 3 of 5; left: seed, abi, then the host\n\
-                 raskjomi: proved seed, 4 of 5; left: abi, then the host\n\
-                 raskjomi: proved abi, 5 of 5; the host is left to build\n";
+                 raskjomi: proved seed, 4 of 5; left: abi, then the host\n";
     assert_eq!(text, lines);
     assert_eq!(fs::read_to_string(folder.join("words")).expect("words"), "staticlib abi\n");
     let (text, _) = told(&repository("building-first", "echo 'rt: theory proved'"));
@@ -66,13 +67,18 @@ fn each_crate_is_told_with_what_is_left() {
         text,
         "raskjomi: proved theory, 1 of 5; left: table, seed and 2 more, then the host\n"
     );
+    let all = "for c in theory table seed order abi; do echo \"rt: $c proved (1 s)\"; done";
+    let (text, _) = told(&repository("building-all", all));
+    assert!(text.ends_with("raskjomi: proved abi, 5 of 5; the host is left to build\n"), "{text}");
 }
 
 #[test]
 fn failures_are_lines_and_no_panics() {
     let (_, ended) =
         told(&repository("building-fails", "echo 'table: error'; echo why >&2; exit 1"));
-    assert_eq!(ended, Err("`rt staticlib abi` failed; it says:\ntable: error\nwhy\n".into()));
+    let what = ended.expect_err("it fails");
+    assert!(what.starts_with("`rt staticlib abi` failed; it says:\n"), "{what}");
+    assert!(what.contains("\ntable: error\n") && what.contains("\nwhy\n"), "{what}");
     let folder = repository("building-without", "");
     fs::remove_file(folder.join("rt")).expect("no rt");
     let (_, ended) = told(&folder);
