@@ -45,7 +45,7 @@ fn ids_and_names() {
     for vertex in ["3", "start"] {
         let text = run_on(&["plan", &game, "-", "--vertex", vertex], solution).text();
         assert!(
-            text.starts_with("# This plan wins for Even from vertex id 3 \"start\".\n"),
+            text.starts_with("# This plan wins for Even from vertex id 3 \"start\".\n# vertex 0: id 3 \"start\"\n# vertex 1: id 5\n# positions"),
             "{text}"
         );
         assert_eq!(numbers(&text), [2, 2, 0, 1, 0, 1, 1, 0], "positions at vertices 0 and 1");

@@ -353,7 +353,7 @@ pub fn carry(arguments: &Arguments) -> Written {
         if class { format!("{start} of the reduced game") } else { vertices.label(start.into()) };
     let sentence =
         format!("This plan wins for {winner} from vertex {vertex}, carried from vertex {origin}.");
-    Ok(text::plan(&sentence, &words).into())
+    Ok(text::plan(&sentence, &words, vertices).into())
 }
 
 /// `verdict`: in a sentence, what is confirmed of a player and a vertex, or what is left open.

@@ -63,5 +63,5 @@ fn plan(arguments: &Arguments) -> Written {
         return Ok(text::bytes(&words));
     }
     let sentence = format!("This plan wins for {winner} from vertex {label}.");
-    Ok(text::plan(&sentence, &words).into())
+    Ok(text::plan(&sentence, &words, vertices).into())
 }

@@ -47,11 +47,7 @@ impl Output<'_> {
             title +=
                 &format!("; the lowest priority decides, and p stands for {even} - p of the file");
         }
-        for v in 0..self.table.n() {
-            if self.vertices.name(v).is_some() || self.vertices.has_gaps() {
-                title += &format!("\n# vertex {v}: {}", self.vertices.label(v));
-            }
-        }
+        title += &self.vertices.comments(0..self.table.n());
         text::table(&title, &self.table)
     }
 

@@ -4,6 +4,7 @@ use crate::analysis::{members, Order};
 use crate::table::Table;
 use crate::vertices::Vertices;
 use raskjomi::is_marked;
+use std::collections::BTreeSet;
 use std::fmt::{Display, Write};
 
 /// Numbers in a line.
@@ -40,10 +41,12 @@ fn titled(title: &str, parts: &[(&str, &[u16])]) -> String {
     text
 }
 
-/// A plan under a sentence, each part under a comment.
-pub fn plan(sentence: &str, words: &[u16]) -> String {
+/// A plan under a sentence and what its vertices are called, each part under a comment.
+pub fn plan(sentence: &str, words: &[u16], names: &Vertices) -> String {
     let (sizes, rest) = words.split_at(2);
     let (vertices, links) = rest.split_at(sizes[0] as usize);
+    let all: BTreeSet<usize> = vertices.iter().map(|&vertex| vertex.into()).collect();
+    let sentence = format!("{sentence}{}", names.comments(all));
     let (sources, targets) = links.split_at(sizes[1] as usize);
     let parts = [
         ("positions, links", sizes),
@@ -51,7 +54,7 @@ pub fn plan(sentence: &str, words: &[u16]) -> String {
         ("sources of the links", sources),
         ("targets of the links", targets),
     ];
-    titled(sentence, &parts)
+    titled(&sentence, &parts)
 }
 
 /// The marks, a row for each vertex.

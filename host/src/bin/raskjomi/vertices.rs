@@ -75,6 +75,14 @@ impl Vertices {
         }
     }
 
+    /// A comment for each of the vertices that has an id of its own or a name, behind another comment.
+    pub fn comments(&self, vertices: impl IntoIterator<Item = usize>) -> String {
+        let has_gaps = self.has_gaps();
+        let vertices =
+            vertices.into_iter().filter(|&vertex| has_gaps || self.name(vertex).is_some());
+        vertices.map(|vertex| format!("\n# vertex {vertex}: {}", self.label(vertex))).collect()
+    }
+
     /// A list as people write it: "1, 2 and 3".
     pub fn listed(&self, vertices: &[usize]) -> String {
         let words: Vec<String> = vertices.iter().map(|&vertex| self.label(vertex)).collect();
