@@ -55,8 +55,12 @@ pub fn build(
     })?;
     // It tells of crates on either stream.
     let (sender, lines) = channel();
-    child.stdout.take().map(|stream| send_lines(stream, sender.clone()));
-    child.stderr.take().map(|stream| send_lines(stream, sender));
+    let stdout = child.stdout.take().map(|stream| Box::new(stream) as Box<dyn Read + Send>);
+    let stderr = child.stderr.take().map(|stream| Box::new(stream) as Box<dyn Read + Send>);
+    for stream in [stdout, stderr].into_iter().flatten() {
+        send_lines(stream, sender.clone());
+    }
+    drop(sender);
     let mut left = needed(root, rt.last().unwrap_or(&""));
     let (count, mut text) = (left.len(), String::new());
     for line in lines {
@@ -75,7 +79,7 @@ pub fn build(
 }
 
 /// Sends the lines of a stream until it ends.
-fn send_lines(stream: impl Read + Send + 'static, lines: Sender<String>) {
+fn send_lines(stream: Box<dyn Read + Send>, lines: Sender<String>) {
     thread::spawn(move || {
         for line in BufReader::new(stream).split(b'\n').map_while(Result::ok) {
             let _ = lines.send(String::from_utf8_lossy(&line).into());
