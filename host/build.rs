@@ -2,6 +2,7 @@
 
 mod rattle;
 
+use rattle::Product;
 use std::path::Path;
 use std::process::ExitCode;
 
@@ -28,11 +29,15 @@ fn link() -> Result<(), String> {
         }
         println!("cargo:rerun-if-changed={}", root.join(source).display());
     }
+    let file = |name: &str| format!("staticlib/lib{name}.a");
+    rattle::built(
+        root,
+        &ARCHIVES.map(|name| Product { file: file(name), rt: ["staticlib", name] }),
+    )?;
+    println!("cargo:rustc-link-search=native={}", root.join("target/staticlib").display());
     for name in ARCHIVES {
-        let archive = rattle::built(root, &format!("staticlib/lib{name}.a"), &["staticlib", name])?;
-        println!("cargo:rustc-link-search=native={}", root.join("target/staticlib").display());
         println!("cargo:rustc-link-lib=static={name}");
-        println!("cargo:rerun-if-changed={}", archive.display());
+        println!("cargo:rerun-if-changed={}", root.join("target").join(file(name)).display());
     }
     Ok(())
 }

@@ -1,8 +1,9 @@
 // What the Rattle toolchain builds. The build script and the tests share this file.
 
+use std::collections::BTreeSet;
 use std::fs::{self, File};
 use std::io::{self, BufRead, BufReader, Read, Write};
-use std::path::{Path, PathBuf};
+use std::path::Path;
 use std::process::{Command, Stdio};
 use std::sync::mpsc::{channel, Sender};
 use std::thread;
@@ -11,15 +12,21 @@ use std::time::SystemTime;
 /// The crates that everything is built from, below the repository's root.
 pub const SOURCES: [&str; 2] = ["crates", "crates.txt"];
 
-/// A file below the root's target folder, built by `rt` first if it is missing or older than the
-/// crates; or what is wrong, in a line.
-pub fn built(root: &Path, product: &str, rt: &[&str]) -> Result<PathBuf, String> {
-    let path = root.join("target").join(product);
+/// A file below the root's target folder, and the words, of which the last is a crate, for which `rt` makes it.
+pub struct Product<'a> {
+    pub file: String,
+    pub rt: [&'a str; 2],
+}
+
+/// Makes each product that is missing or older than the crates; or says what is wrong, in a line.
+pub fn built(root: &Path, products: &[Product]) -> Result<(), String> {
     let newest = SOURCES.iter().filter_map(|source| newest(&root.join(source))).max();
-    if changed(&path).is_none_or(|built| Some(built) < newest) {
-        build(Path::new("rt"), root, rt, terminal())?;
-    }
-    Ok(path)
+    let is_old = |product: &&Product| {
+        let path = root.join("target").join(&product.file);
+        changed(&path).is_none_or(|built| Some(built) < newest)
+    };
+    let old: Vec<[&str; 2]> = products.iter().filter(is_old).map(|product| product.rt).collect();
+    build_all(Path::new("rt"), root, &old, terminal())
 }
 
 /// When the file or folder was last changed, if it is there.
@@ -41,13 +48,37 @@ fn terminal() -> Box<dyn Write> {
     }
 }
 
-/// Runs `rt` with the words, and tells of each crate that it proves.
-pub fn build(
+/// Runs `rt` for each of these pairs of words, and tells of each crate that it proves.
+pub fn build_all(
     program: &Path,
     root: &Path,
-    rt: &[&str],
-    mut out: Box<dyn Write>,
+    runs: &[[&str; 2]],
+    out: Box<dyn Write>,
 ) -> Result<(), String> {
+    let left = needed(root, runs.iter().map(|[_, name]| *name));
+    let mut work = Work { count: left.len(), left, out };
+    runs.iter().try_for_each(|rt| build(program, root, rt, &mut work))
+}
+
+/// The crates that are left to prove, of so many, and where it is told.
+struct Work {
+    count: usize,
+    left: Vec<String>,
+    out: Box<dyn Write>,
+}
+
+impl Work {
+    /// A crate is proved, now or earlier; a crate that is proved now is told.
+    fn done(&mut self, name: &str, now: bool) {
+        self.left.retain(|other| other != name);
+        if now {
+            let told = progress(name, self.count, &self.left);
+            let _ = writeln!(self.out, "raskjomi: {told}");
+        }
+    }
+}
+
+fn build(program: &Path, root: &Path, rt: &[&str; 2], work: &mut Work) -> Result<(), String> {
     let mut command = Command::new(program);
     command.args(rt).current_dir(root).stdout(Stdio::piped()).stderr(Stdio::piped());
     let mut child = command.spawn().map_err(|error| {
@@ -61,19 +92,19 @@ pub fn build(
         send_lines(stream, sender.clone());
     }
     drop(sender);
-    let mut left = needed(root, rt.last().unwrap_or(&""));
-    let (count, mut text) = (left.len(), String::new());
+    let mut text = String::new();
     for line in lines {
-        if let Some((name, fresh)) = proved(&line) {
-            left.retain(|other| other != name);
-            if fresh {
-                let _ = writeln!(out, "raskjomi: {}", progress(name, count, &left));
-            }
+        if let Some((name, now)) = proved(&line) {
+            work.done(name, now);
         }
         text += &(line + "\n");
     }
     match child.wait() {
-        Ok(status) if status.success() => Ok(()),
+        Ok(status) if status.success() => {
+            // Of the crate itself it doesn't tell.
+            work.done(rt[1], work.left.iter().any(|other| other == rt[1]));
+            Ok(())
+        }
         _ => Err(format!("`rt {}` failed; it says:\n{text}", rt.join(" "))),
     }
 }
@@ -87,14 +118,19 @@ fn send_lines(stream: Box<dyn Read + Send>, lines: Sender<String>) {
     });
 }
 
-/// The crates that a crate needs, and itself, in the sequence of crates.txt.
-fn needed(root: &Path, name: &str) -> Vec<String> {
+/// These crates and all that they need, in the sequence of crates.txt, where a crate stands after those that it needs.
+pub fn needed<'a>(root: &Path, names: impl Iterator<Item = &'a str>) -> Vec<String> {
     let list = fs::read_to_string(root.join("crates.txt")).unwrap_or_default();
-    let lines: Vec<(&str, &str)> = list.lines().filter_map(|line| line.split_once(':')).collect();
-    let of = lines.iter().find(|(other, _)| *other == name).map_or("", |(_, needs)| needs);
-    let is_needed =
-        |other: &&str| *other == name || of.split_whitespace().any(|need| need == *other);
-    lines.iter().map(|(other, _)| *other).filter(is_needed).map(String::from).collect()
+    let lines = list.lines().filter_map(|line| line.split_once(':'));
+    let mut needed: BTreeSet<String> = names.map(String::from).collect();
+    let mut found: Vec<String> = Vec::new();
+    for (name, needs) in lines.rev().filter(|(name, _)| !name.starts_with('#')) {
+        if needed.contains(name) {
+            needed.extend(needs.split_whitespace().map(String::from));
+            found.insert(0, name.into());
+        }
+    }
+    found
 }
 
 /// The crate that a line of `rt` says is proved, and whether it was proved now.

@@ -30,7 +30,9 @@ fn repository(name: &str, script: &str) -> PathBuf {
     let folder = PathBuf::from(env!("CARGO_TARGET_TMPDIR")).join(name);
     let _ = fs::remove_dir_all(&folder);
     fs::create_dir_all(folder.join("crates")).expect("a folder");
-    let crates = "# crates\ntheory:\ntable: theory\nseed: theory table\nplan: theory\norder: theory table\nabi: theory table order seed\n";
+    let crates =
+        "# crates: each with its needs\ntheory:\ntable: theory\nseed: theory table\nplan: theory\n\
+                  order: table\nedit: order\nabi: order seed\nabi_edit: edit\n";
     fs::write(folder.join("crates.txt"), crates).expect("a list");
     let rt = folder.join("rt");
     fs::write(&rt, format!("#!/bin/sh\n{script}\n")).expect("a script");
@@ -38,13 +40,18 @@ fn repository(name: &str, script: &str) -> PathBuf {
     folder
 }
 
-/// What is told while `rt staticlib abi` runs in the folder, and how it ends.
-fn told(folder: &Path) -> (String, Result<(), String>) {
+/// What is told while `rt staticlib` runs in the folder for each of the crates, and how it ends.
+fn told_of(folder: &Path, crates: &[&str]) -> (String, Result<(), String>) {
     let page = Page::default();
     let rt = folder.join("rt");
-    let ended = rattle::build(&rt, folder, &["staticlib", "abi"], Box::new(page.clone()));
+    let runs: Vec<[&str; 2]> = crates.iter().map(|name| ["staticlib", *name]).collect();
+    let ended = rattle::build_all(&rt, folder, &runs, Box::new(page.clone()));
     let bytes = page.0.lock().expect("a page").clone();
     (String::from_utf8(bytes).expect("text"), ended)
+}
+
+fn told(folder: &Path) -> (String, Result<(), String>) {
+    told_of(folder, &["abi"])
 }
 
 #[test]
@@ -59,10 +66,11 @@ fn each_crate_is_told_with_what_is_left() {
     assert_eq!(ended, Ok(()));
     let lines = "raskjomi: proved table, 2 of 5; left: seed, order, abi, then the host\n\
                  raskjomi: proved order, 3 of 5; left: seed, abi, then the host\n\
-                 raskjomi: proved seed, 4 of 5; left: abi, then the host\n";
+                 raskjomi: proved seed, 4 of 5; left: abi, then the host\n\
+                 raskjomi: proved abi, 5 of 5; the host is left to build\n";
     assert_eq!(text, lines);
     assert_eq!(fs::read_to_string(folder.join("words")).expect("words"), "staticlib abi\n");
-    let (text, _) = told(&repository("building-first", "echo 'rt: theory proved'"));
+    let (text, _) = told(&repository("building-first", "echo 'rt: theory proved'; exit 1"));
     assert_eq!(
         text,
         "raskjomi: proved theory, 1 of 5; left: table, seed and 2 more, then the host\n"
@@ -70,6 +78,46 @@ fn each_crate_is_told_with_what_is_left() {
     let all = "for c in theory table seed order abi; do echo \"rt: $c proved (1 s)\"; done";
     let (text, _) = told(&repository("building-all", all));
     assert!(text.ends_with("raskjomi: proved abi, 5 of 5; the host is left to build\n"), "{text}");
+    assert_eq!(text.lines().count(), 5, "each once: {text}");
+}
+
+#[test]
+fn archives_are_told_as_one_work() {
+    // The second run finds the crates of the first unchanged.
+    let script = "[ \"$2\" = abi ] && was='' || was=' (unchanged since it was last proved)'\n\
+                  for c in theory table order; do echo \"rt: $c proved$was\" >&2; done\n\
+                  [ \"$2\" = abi ] && echo 'rt: seed proved' || echo 'rt: edit proved (2 s)'";
+    let (text, ended) = told_of(&repository("building-two", script), &["abi", "abi_edit"]);
+    assert_eq!(ended, Ok(()));
+    let mut lines: Vec<&str> = text.lines().collect();
+    let last = lines.split_off(lines.len() - 2);
+    assert_eq!(lines.len(), 5, "{text}");
+    assert_eq!(lines[4], "raskjomi: proved abi, 5 of 7; left: edit, abi_edit, then the host");
+    let expected = [
+        "raskjomi: proved edit, 6 of 7; left: abi_edit, then the host",
+        "raskjomi: proved abi_edit, 7 of 7; the host is left to build",
+    ];
+    assert_eq!(last, expected);
+}
+
+/// Every crate that an archive rests on is counted, whether its line names it or not.
+#[test]
+fn all_crates_below_the_archives_are_counted() {
+    let root = Path::new(env!("CARGO_MANIFEST_DIR")).parent().expect("the repository");
+    let crates = rattle::needed(root, ["abi"].into_iter());
+    for name in ["theory", "word", "bits", "board", "removal", "rounds", "reader", "abi"] {
+        assert!(crates.iter().any(|other| other == name), "{name} in {crates:?}");
+    }
+    assert!(!crates.iter().any(|name| name == "abi_verdict" || name.starts_with('#')));
+    let list = fs::read_to_string(root.join("crates.txt")).expect("the list");
+    let mut before: Vec<&str> = Vec::new();
+    for (name, needs) in list.lines().filter_map(|line| line.split_once(": ")).skip(1) {
+        let of_the_kit = ["io", "libc"];
+        for need in needs.split_whitespace().filter(|need| !of_the_kit.contains(need)) {
+            assert!(need == "theory" || before.contains(&need), "{name} stands after {need}");
+        }
+        before.push(name);
+    }
 }
 
 #[test]

@@ -9,6 +9,7 @@ mod common;
 use common::{root, say};
 use generator::{any_game, damaged, random, Lcg, Table, REFUSALS};
 use oracle::{Oracle, Trap};
+use rattle::Product;
 use std::collections::BTreeMap;
 use std::io::Write;
 use std::path::{Path, PathBuf};
@@ -20,7 +21,9 @@ use std::thread;
 fn program() -> &'static Path {
     static PROGRAM: OnceLock<PathBuf> = OnceLock::new();
     PROGRAM.get_or_init(|| {
-        rattle::built(root(), "bin/report", &["check", "report"]).expect("the report program")
+        let report = Product { file: "bin/report".into(), rt: ["check", "report"] };
+        rattle::built(root(), &[report]).expect("the report program");
+        root().join("target/bin/report")
     })
 }
 
