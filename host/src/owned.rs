@@ -1,6 +1,6 @@
 //! Values that own their words, over the calls that work in lent memory.
 
-use crate::{Edited, Player, Refusal, Replay, Size};
+use crate::{Edited, Player, Refusal, Replay, Size, Verdict};
 
 /// A call that writes a relation, and one that writes a game of classes.
 type WriteMarks = fn(&[u16], &mut [u8], &mut [u8]) -> Result<u32, Refusal>;
@@ -264,6 +264,35 @@ impl Game {
         )?;
         words.truncate(size.words());
         Ok(Plan { words })
+    }
+
+    /// The verdict on a player and a vertex, by a plan on the reduced game.
+    ///
+    /// [`Verdict::Refused`] has refusals 12 to 16 and 33, as [`give_verdict`](crate::give_verdict()) has them.
+    ///
+    /// ```
+    /// use raskjomi::{Game, Plan, Player, Verdict};
+    /// // Vertices 0 and 2 share class 0, and lead to vertex 1, which has priority 1 and leads to itself.
+    /// let game = Game::new(vec![3, 3, 0, 1, 0, 0, 0, 1, 0, 1, 2, 1, 1, 1])?;
+    /// let plan = Plan::new(&[0, 1], &[(0, 1), (1, 1)]);
+    /// assert!(matches!(game.give_verdict(2, Player::Odd, &plan), Verdict::Wins(_)));
+    /// assert!(matches!(game.give_verdict(1, Player::Odd, &plan), Verdict::NotShown(_)));
+    /// assert!(matches!(game.give_verdict(2, Player::Even, &plan), Verdict::Refused(_)));
+    /// # Ok::<(), raskjomi::Refusal>(())
+    /// ```
+    pub fn give_verdict(&self, vertex: u32, player: Player, plan: &Plan) -> Verdict {
+        let (mut marks, mut spare) = self.marks();
+        let (mut classes, mut table) = (vec![0; self.size.vertices], vec![0; self.size.words()]);
+        crate::give_verdict(
+            &self.words,
+            vertex,
+            player,
+            &plan.words,
+            &mut marks,
+            &mut spare,
+            &mut classes,
+            &mut table,
+        )
     }
 
     /// The game after the entries of a trace.

@@ -122,7 +122,8 @@ fn expected(case: &Case) -> String {
         let answer = make(&mut lent);
         text += &lent.told(name, answer);
         if name == "order" {
-            let mark = |i| if raskjomi::is_marked(&lent.marks, n, i / n, i % n) { '1' } else { '0' };
+            let mark =
+                |i| if raskjomi::is_marked(&lent.marks, n, i / n, i % n) { '1' } else { '0' };
             text.extend((0..n * n).map(mark));
             text += "\n";
         }
@@ -256,7 +257,13 @@ fn a_c_program_gets_the_answers_that_rust_gets() {
     let accepted =
         |call: &str| expected.lines().any(|line| line.starts_with(&format!("{call} 0 ")));
     let calls = [
-        "carry", "carry_class", "verdict", "add_edge", "remove_edge", "preview_add", "replay",
+        "carry",
+        "carry_class",
+        "verdict",
+        "add_edge",
+        "remove_edge",
+        "preview_add",
+        "replay",
         "seed",
     ];
     for call in calls {

@@ -439,6 +439,13 @@ fn verdicts() {
                     This doesn't mean that Even loses at vertex 2, or that the other player wins there: a plan \
                     that starts at class 2 may still show either.\n";
     assert_eq!(say("2", "even"), sentence);
+    let line =
+        ["verdict", "games/d.txt", "games/c.plan.txt", "--json", "--player=even", "--vertex"];
+    let json = |vertex| run(&[&line[..], &[vertex]].concat()).text();
+    let told = "{\"accepted\":true,\"shown\":true,\"player\":\"Even\",\
+                \"at\":{\"vertex\":5,\"id\":5,\"name\":null,\"class\":0},\"plan_starts_at_class\":0}\n";
+    assert_eq!(json("5"), told);
+    assert!(json("2").starts_with("{\"accepted\":true,\"shown\":false,"));
     // Odd's plan from class 1, which is below class 2; either input may be standard input.
     let odd = b"2 2 / 1 3 / 0 1 / 1 1";
     let line = ["verdict", "games/c.txt", "-", "--player=odd", "--vertex"];

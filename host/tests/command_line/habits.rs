@@ -78,7 +78,7 @@ fn outputs_to_a_file() {
 
 #[test]
 fn the_output_does_not_depend_on_the_path() {
-    let lines: [&[&str]; 9] = [
+    let lines: [&[&str]; 10] = [
         &["report"],
         &["order"],
         &["classes"],
@@ -88,13 +88,16 @@ fn the_output_does_not_depend_on_the_path() {
         &["dot"],
         &["report", "--json"],
         &["edit", "-", "--add=5:1"],
+        &["verdict", "-", "games/c.plan.txt", "--player=even", "--vertex=5"],
     ];
     let text = fs::read(root().join("games/d.txt")).expect("a game");
     let copy = file("another-name.txt", &text);
     for line in lines {
-        let of = |path: &str| match line.contains(&"-") {
-            true => run(&[line[0], path, line[2]]).bytes(),
-            false => run(&[line, &[path]].concat()).bytes(),
+        let of = |path: &str| {
+            let there = line.contains(&"-");
+            let named = line.iter().map(|&word| if word == "-" { path } else { word });
+            let words: Vec<&str> = named.chain((!there).then_some(path)).collect();
+            run(&words).bytes()
         };
         assert_eq!(of("games/d.txt"), of(&copy), "{line:?}");
         assert_eq!(of("games/d.txt"), run_on(line, &text).bytes(), "{line:?}");
@@ -226,6 +229,7 @@ fn the_man_page_and_the_completions_have_every_command() {
     assert_eq!(complete("raskjomi help me", 2), "merged");
     assert_eq!(complete("raskjomi reduce --wi", 2), "--with-classes");
     assert_eq!(complete("raskjomi reduce --as p", 3), "pgsolver");
+    assert_eq!(complete("raskjomi verdict --j", 2), "--json");
     assert_eq!(complete("raskjomi check-plan --player o", 3), "odd");
     assert_eq!(complete("raskjomi reduce games/lift-doors.t", 2), "games/lift-doors.txt");
 }

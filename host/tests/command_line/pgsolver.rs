@@ -143,6 +143,19 @@ fn names_in_messages_and_pictures() {
     );
     told(&["carry", &good, "--player=even", "--vertex=5"], "names.pg: vertex id 5; ");
     told(
+        &["verdict", &good, "--player=even", "--vertex", "clos\u{e9}"],
+        "wins: Even wins at vertex id 9 \"clos\u{e9}\", as the plan wins for Even from class 2 of the reduced game, ",
+    );
+    told(&["verdict", &good, "--player=even", "--vertex=5"], ", but vertex id 5 is in class 1. ");
+    told(
+        &["verdict", &good, "--player=even", "--vertex=9", "--json"],
+        "\"at\":{\"vertex\":2,\"id\":9,\"name\":\"clos\u{e9}\",\"class\":2}",
+    );
+    told(
+        &["verdict", &good, "--player=even", "--vertex=1"],
+        "no vertex `1`; write --vertex with an id or a name",
+    );
+    told(
         &["carry", &good, "--player=even", "--vertex=1"],
         "no vertex `1`; write --vertex with an id or a name",
     );

@@ -195,6 +195,14 @@ fn verdicts() {
     let game = file("no-verdict-game.txt", b"1 1 / 0 2 / 0 0");
     let parts = ["no-verdict-game.txt: line 1, word 4 (owner 2): "];
     refused(&game, "games/c.plan.txt", "9", "5 at 3", &parts);
+    // The missing link on the reduced game; as JSON, with the message beside the number.
+    let short = file("no-verdict-link.txt", b"3 2 / 0 2 3 / 0 1 / 1 2");
+    let cause = "; here it has no link; its vertex leads to 3; ";
+    refused("games/d.txt", &short, "5", "15 at 2", &[cause]);
+    let line = ["verdict", "games/d.txt", &short, "--player=even", "--vertex=5", "--json"];
+    let out = run(&line).fails(1, &["refused 15 at 2"]);
+    let head = "{\"accepted\":false,\"refusal\":{\"number\":15,\"place\":2,";
+    assert!(out.starts_with(head) && out.contains(cause), "{out}");
 }
 
 #[test]

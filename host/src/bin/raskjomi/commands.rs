@@ -109,16 +109,19 @@ fn report_value(game: &Game, reduced: &Merged) -> Result<Value, Failure> {
 
 /// The vertices with their ids, names and classes, as a value.
 fn vertex_values(game: &Game, classes: &[u16]) -> Value {
-    let vertex = |(vertex, &class): (usize, &u16)| {
-        let vertices = &game.input.vertices;
-        json::object([
-            ("vertex", Value::from(vertex)),
-            ("id", Value::Number(vertices.id(vertex))),
-            ("name", vertices.name(vertex).map_or(Value::Null, Value::from)),
-            ("class", Value::Number(class.into())),
-        ])
-    };
-    Value::List(classes.iter().enumerate().map(vertex).collect())
+    let value = |(vertex, &class): (usize, &u16)| vertex_value(game, vertex, class);
+    Value::List(classes.iter().enumerate().map(value).collect())
+}
+
+/// A vertex with its id, name and class, as a value.
+fn vertex_value(game: &Game, vertex: usize, class: u16) -> Value {
+    let vertices = &game.input.vertices;
+    json::object([
+        ("vertex", Value::from(vertex)),
+        ("id", Value::Number(vertices.id(vertex))),
+        ("name", vertices.name(vertex).map_or(Value::Null, Value::from)),
+        ("class", Value::Number(class.into())),
+    ])
 }
 
 /// The vertex's class, its other members, and what that means for a win.
@@ -366,20 +369,31 @@ pub fn verdict(arguments: &Arguments) -> Written {
     if let Verdict::Refused(refusal) = verdict {
         return Err(carry_refused(refusal, &game, &plan, vertex, true).with_verdict());
     }
-    let (name, v) = (name_of(player), game.input.vertices.label(vertex as usize));
-    let (start, class) = (plan.numbers[2], classes[vertex as usize]);
+    let (shown, v) = (matches!(verdict, Verdict::Wins(_)), vertex as usize);
+    let (name, start, class) = (name_of(player), plan.numbers[2], classes[v]);
+    if arguments.has("--json") {
+        let value = json::object([
+            ("accepted", Value::Bool(true)),
+            ("shown", Value::Bool(shown)),
+            ("player", Value::from(name)),
+            ("at", vertex_value(&game, v, class)),
+            ("plan_starts_at_class", Value::Number(start.into())),
+        ]);
+        return Ok(format!("{value}\n").into());
+    }
+    let v = game.input.vertices.label(v);
     let passes = format!("the plan wins for {name} from class {start} of the reduced game");
-    let sentence = match verdict {
-        Verdict::Wins(_) => {
-            format!("wins: {name} wins at vertex {v}, as {passes}, which is the class of vertex {v}.")
-        }
-        _ => format!(
+    Ok(match shown {
+        true => format!(
+            "wins: {name} wins at vertex {v}, as {passes}, which is the class of vertex {v}.\n"
+        ),
+        false => format!(
             "not shown: {passes}, but vertex {v} is in class {class}. This doesn't mean that {name} loses at \
              vertex {v}, or that the other player wins there: a plan that starts at class {class} may \
-             still show either."
+             still show either.\n"
         ),
-    };
-    Ok((sentence + "\n").into())
+    }
+    .into())
 }
 
 /// The word of `--vertex`, for what it is used.

@@ -33,7 +33,7 @@ Command {
               for each vertex, 0 for Even and 1 for Odd, with a strategy where the vertex is its \
               winner's. The strategy becomes a plan that starts at V, for the player who is said to win \
               there. It is written only if `check-plan` accepts it, so a solution with a mistake is found \
-              where it matters for V. A plan on the reduced game goes on to `carry --class`.",
+              where it matters for V. A plan on the reduced game goes on to `verdict` and `carry --class`.",
     example: "./raskjomi plan games/c.txt games/c.sol --vertex 0",
     files: 2..=2,
     options: &[

@@ -220,7 +220,7 @@ pub const COMMANDS: [Command; 16] = [
     },
     Command {
         name: "verdict",
-        usage: "verdict GAME PLAN --vertex V --player even|odd",
+        usage: "verdict GAME PLAN --vertex V --player even|odd [--json]",
         summary: "whether a plan on the reduced game shows that a player wins at a vertex",
         details:
             "PLAN is given as for `check-plan`, and is on the reduced game, as `reduce` writes it. Where it wins \
@@ -233,6 +233,7 @@ pub const COMMANDS: [Command; 16] = [
         options: &[
             Opt { name: "--vertex", value: Some("a vertex") },
             Opt { name: "--player", value: Some("even or odd") },
+            Opt { name: "--json", value: None },
         ],
         run: commands::verdict,
     },
