@@ -1,15 +1,17 @@
--- Invariant: c is at most k, so its words are there.
+use mathlib.Core.Path.{_≡_}
+use lib.ListN.{length}
 use Prim.Native.Nat.{_≤_, _-_}
+use Rattle.report.specs.Room.{OnPage}
 use native.Mathlib.Omega.{arith}
 use borrow.Author.Needs.{needs}
 use Rattle.report.proofs.print.classes.Statement.{statement}
 use Rattle.report.proofs.print.classes.Tie as tie
 
 abbrev Inv-loop : tie.InvT-loop
-Inv-loop members edges k c₀ t5 t6 t7 c = c ≤ k
+Inv-loop page₀ at members edges k end₀ c₀ t9 t10 t11 page end c = OnPage (length page) end × (c ≤ k) × (length page ≡ length page₀)
 
 abbrev μ-loop : tie.MeasureT-loop
-μ-loop members edges k c₀ t5 t6 t7 c = k - c
+μ-loop page₀ at members edges k end₀ c₀ t9 t10 t11 page end c = k - c
 
 loop-holds : tie.Need-loop-holds Inv-loop μ-loop
 loop-holds c = search needs
@@ -30,7 +32,7 @@ shared-slice-read-two : tie.Need-shared-slice-read-two Inv-loop μ-loop
 shared-slice-read-two c = search needs
 
 cast-two : tie.Need-cast-two Inv-loop μ-loop
-cast-two c = omega (arith, c .shared-slice-known3 .given (c .before .before .before .before .before .loop .c))
+cast-two c = omega (arith, c .shared-slice-known3 .given (c .before .before .before .before .before .before .before .before .before .loop .c))
 
 slice-aggregate-two-2 : tie.Need-slice-aggregate-two-2 Inv-loop μ-loop
 slice-aggregate-two-2 c = search needs
@@ -42,7 +44,7 @@ shared-slice-read-two-2 : tie.Need-shared-slice-read-two-2 Inv-loop μ-loop
 shared-slice-read-two-2 c = search needs
 
 cast-two-2 : tie.Need-cast-two-2 Inv-loop μ-loop
-cast-two-2 c = omega (arith, c .shared-slice-known4 .given (c .before .before .before .before .before .before .before .loop .c))
+cast-two-2 c = omega (arith, c .shared-slice-known4 .given (c .before .before .before .before .before .before .before .before .before .before .before .loop .c))
 
 two-requires : tie.Need-two-requires Inv-loop μ-loop
 two-requires c κs = search needs
@@ -55,6 +57,9 @@ loop-less c = search needs
 
 loop-again : tie.Need-loop-again Inv-loop μ-loop
 loop-again c = search needs
+
+same-length : tie.Need-same-length Inv-loop μ-loop
+same-length c = search needs
 
 returns : tie.Need-returns Inv-loop μ-loop
 returns c = search needs
@@ -80,4 +85,5 @@ classes-spec =
     add-c
     loop-less
     loop-again
+    same-length
     returns)

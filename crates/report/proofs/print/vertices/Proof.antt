@@ -1,15 +1,17 @@
--- Invariant: v is at most n, so its class word is there.
+use mathlib.Core.Path.{_≡_}
+use lib.ListN.{length}
 use Prim.Native.Nat.{_≤_, _-_}
+use Rattle.report.specs.Room.{OnPage}
 use native.Mathlib.Omega.{arith}
 use borrow.Author.Needs.{needs}
 use Rattle.report.proofs.print.vertices.Statement.{statement}
 use Rattle.report.proofs.print.vertices.Tie as tie
 
 abbrev Inv-loop : tie.InvT-loop
-Inv-loop classes n v₀ t4 t5 v = v ≤ n
+Inv-loop page₀ at classes n k₀ v₀ t7 t8 page k v = OnPage (length page) k × (v ≤ n) × (length page ≡ length page₀)
 
 abbrev μ-loop : tie.MeasureT-loop
-μ-loop classes n v₀ t4 t5 v = n - v
+μ-loop page₀ at classes n k₀ v₀ t7 t8 page k v = n - v
 
 loop-holds : tie.Need-loop-holds Inv-loop μ-loop
 loop-holds c = search needs
@@ -27,7 +29,7 @@ shared-slice-read-two : tie.Need-shared-slice-read-two Inv-loop μ-loop
 shared-slice-read-two c = search needs
 
 cast-two : tie.Need-cast-two Inv-loop μ-loop
-cast-two c = omega (arith, c .shared-slice-known2 .given (c .before .before .before .before .loop .v))
+cast-two c = omega (arith, c .shared-slice-known2 .given (c .before .before .before .before .before .loop .v))
 
 two-requires : tie.Need-two-requires Inv-loop μ-loop
 two-requires c κs = search needs
@@ -40,6 +42,9 @@ loop-less c = search needs
 
 loop-again : tie.Need-loop-again Inv-loop μ-loop
 loop-again c = search needs
+
+same-length : tie.Need-same-length Inv-loop μ-loop
+same-length c = search needs
 
 returns : tie.Need-returns Inv-loop μ-loop
 returns c = search needs
@@ -60,4 +65,5 @@ vertices-spec =
     add-v
     loop-less
     loop-again
+    same-length
     returns)
