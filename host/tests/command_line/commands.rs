@@ -3,7 +3,7 @@
 use crate::common::root;
 use crate::games::{B, C, CARRIED, D, TABLES};
 use crate::run::{bytes, file, numbers, run, run_on, shipped, words};
-use generator::{any_game, Lcg};
+use generator::{any_game, Lcg, Table};
 use oracle::{mark_bytes, Memory, Oracle, Relation};
 use std::process::Command;
 
@@ -234,6 +234,14 @@ fn marks_that_could_be_text() {
              2 bytes that the marks need: refused 10 at 4: ",
         ],
     );
+    // Nor are they a game in PGSolver's format, or text with a stray character. Every relation between loops is one.
+    let edges = (0..8).map(|v| (v, v)).collect();
+    let loops = Table { priorities: vec![0; 8], owners: vec![0; 8], edges };
+    let loops = file("loops.bin", &bytes(&loops.words()));
+    for marks in [&b"parity 1"[..], b"1 0 1 0\x01"] {
+        assert_eq!(run_on(&["check-relation", &loops, "-"], marks).text(), "accepted\n");
+    }
+    run_on(&["check-relation", &loops, "-"], b"parity 10").fails(2, &["PGSolver's format"]);
     // One vertex: a mark as text, and as a byte.
     let loops = file("loop.txt", b"1 1 / 0 / 0 / 0 / 0");
     for relation in [&b"0"[..], b"1", b"1\n", &[0], &[1]] {

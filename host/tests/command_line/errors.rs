@@ -42,6 +42,8 @@ fn governed_bisimulations() {
     bad(&["governed", "classes", "games/c.txt", "a"], &["a game alone", "governed check"]);
     bad(&["governed", "check", "games/c.txt", "a", "--as=text"], &["without --as"]);
     bad(&["governed", "order", "games/c.txt", "--as=svg"], &["no form `svg`"]);
+    let json = run(&["governed", "order", "games/c.txt", "--json"]);
+    json.fails(2, &["governed: --json is for governed classes and governed check"]);
     bad(&["governed", "check", "-", "-"], &["both inputs", "name a file"]);
 }
 

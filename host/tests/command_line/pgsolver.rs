@@ -148,6 +148,15 @@ fn names_in_messages_and_pictures() {
     );
     told(&["verdict", &good, "--player=even", "--vertex=5"], ", but vertex id 5 is in class 1. ");
     told(
+        &["verdict", &plan, "--player=even", "--vertex=9"],
+        "(link 0, from vertex 2 \"clos\u{e9}\" to 0 \"door, open\"), on the reduced game: refused 14 at 0",
+    );
+    let round = file("names-round.txt", b"1 1 / 2 / 0 / 0");
+    told(
+        &["verdict", &round, "--player=odd", "--vertex=9"],
+        "; here a walk of 1 link by vertices 2 \"clos\u{e9}\" -> 2 \"clos\u{e9}\", with highest priority 0 in the file; ",
+    );
+    told(
         &["verdict", &good, "--player=even", "--vertex=9", "--json"],
         "\"at\":{\"vertex\":2,\"id\":9,\"name\":\"clos\u{e9}\",\"class\":2}",
     );

@@ -38,6 +38,8 @@ fn answers_as_json() {
     let expected = "{\"vertices\":[{\"vertex\":0,\"id\":3,\"name\":\"a\\\\\\\\?b\",\"class\":0},\
         {\"vertex\":1,\"id\":7,\"name\":null,\"class\":0}],\"classes\":[[0,1]]}\n";
     assert_eq!(classes, expected);
+    let governed = run(&["governed", "classes", "games/d.txt", "--json"]).text();
+    assert!(governed.ends_with("\"classes\":[[0],[1],[2],[3],[4],[5]]}\n"), "{governed}");
     let checked = run(&["check", "--json", "games/b.txt"]).text();
     let expected = "[{\"file\":\"games/b.txt\",\"accepted\":true,\"vertices\":3,\"different_edges\":3,\"edges\":3}]\n";
     assert_eq!(checked, expected);
@@ -47,6 +49,9 @@ fn answers_as_json() {
     let head =
         "{\"accepted\":false,\"refusal\":{\"number\":15,\"place\":0,\"meaning\":\"a position lacks";
     assert!(refused.starts_with(head) && refused.ends_with("\"}\n"), "{refused}");
+    let line = ["governed", "check", "games/b.txt", "-", "--json"];
+    let refused = run_on(&line, b"1 0 1 / 0 1 0 / 0 0 1").fails(1, &["refused 10 at 2"]);
+    assert!(refused.starts_with("{\"accepted\":false,\"refusal\":{\"number\":10,\"place\":2,"));
     let unreadable = run(&["classes", "--json", "games/none"]).fails(2, &["games/none"]);
     assert!(
         unreadable.starts_with("{\"accepted\":false,\"refusal\":null,\"message\":\"games/none: ")

@@ -301,6 +301,9 @@ pub fn governed(arguments: &Arguments) -> Written {
         "check" if !arguments.has_file(2) || arguments.has("--as") => {
             Err(Failure::usage("governed: write governed check GAME RELATION, without --as"))
         }
+        "order" if arguments.has("--json") => {
+            Err(Failure::usage("governed: --json is for governed classes and governed check"))
+        }
         "order" => marks(arguments, 1, Game::governed_order, text::GOVERNED),
         "classes" => class_list(arguments, 1, Game::governed_classes),
         "check" => judged(arguments, 1, raskjomi::accept_governed),

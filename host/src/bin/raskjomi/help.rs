@@ -282,7 +282,7 @@ pub const COMMANDS: [Command; 16] = [
     },
     Command {
         name: "governed",
-        usage: "governed order|classes|check GAME [RELATION] [--as text|words|dot]",
+        usage: "governed order|classes|check GAME [RELATION] [--as text|words|dot | --json]",
         summary: "the same of governed bisimulations, which tell more vertices apart",
         details:
             "A governed bisimulation is a direct simulation that has the reverse of each of its pairs. \
@@ -292,7 +292,7 @@ pub const COMMANDS: [Command; 16] = [
                   without its reverse, too.",
         example: "./raskjomi governed order games/d.txt | ./raskjomi governed check games/d.txt -",
         files: 2..=3,
-        options: AS,
+        options: AS_OR_JSON,
         run: commands::governed,
     },
     Command {

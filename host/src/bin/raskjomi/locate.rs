@@ -1,6 +1,6 @@
 //! Where in the user's files a refusal points.
 
-use crate::analysis::Game;
+use crate::analysis::{Game, Merged};
 use crate::causes;
 use crate::failure::Failure;
 use crate::input::Input;
@@ -119,32 +119,25 @@ pub fn carry_refused(
 ) -> Failure {
     let of = if class { " of the reduced game" } else { "" };
     let (count, vertices) = (game.size.vertices, &game.input.vertices);
-    let classes = Vertices::default();
-    let of_plan = if class { &classes } else { vertices };
-    tell_cause(
-        refusal,
-        match refusal.number {
-            33 if vertex as usize >= count => {
-                format!("{}: vertex {vertex} ({})", game.input.name, vertices.range(count))
-            }
-            33 => {
-                let start = of_plan.label(plan.numbers[2].into());
-                let start = plan.at(2, &format!("the plan starts at vertex {start}{of}"));
-                let vertex = vertices.label(vertex as usize);
-                format!("{}: vertex {vertex}; {start}", game.input.name)
-            }
-            34 => format!("{}, carried to vertex {}", plan.name, vertices.label(vertex as usize)),
-            _ if class => format!("{}, on the reduced game", place_in_plan(refusal, plan, of_plan)),
-            _ => place_in_plan(refusal, plan, of_plan),
-        },
-        &match class.then(|| game.reduced()) {
-            Some(Ok(reduced)) => {
-                cause_in_plan(refusal, reduced.table().words(), of_plan, &plan.numbers)
-            }
-            Some(Err(_)) => String::new(),
-            None => cause_in_plan(refusal, &game.input.numbers, of_plan, &plan.numbers),
-        },
-    )
+    let reduced = class.then(|| game.reduced().ok()).flatten();
+    let classes = reduced.as_ref().map(|reduced| game.class_vertices(&reduced.classes));
+    let of_plan = classes.as_ref().unwrap_or(vertices);
+    let place = match refusal.number {
+        33 if vertex as usize >= count => {
+            format!("{}: vertex {vertex} ({})", game.input.name, vertices.range(count))
+        }
+        33 => {
+            let start = of_plan.label(plan.numbers[2].into());
+            let start = plan.at(2, &format!("the plan starts at vertex {start}{of}"));
+            let vertex = vertices.label(vertex as usize);
+            format!("{}: vertex {vertex}; {start}", game.input.name)
+        }
+        34 => format!("{}, carried to vertex {}", plan.name, vertices.label(vertex as usize)),
+        _ if class => format!("{}, on the reduced game", place_in_plan(refusal, plan, of_plan)),
+        _ => place_in_plan(refusal, plan, of_plan),
+    };
+    let table = reduced.as_ref().map_or(game.table(), Merged::table);
+    tell_cause(refusal, place, &cause_in_plan(refusal, table.words(), of_plan, &plan.numbers))
 }
 
 /// A refusal of an edit, told with the option that asked for it.
