@@ -64,7 +64,7 @@ fn inputs() -> Vec<Vec<u8>> {
         }
     }
     inputs.extend([300, 511, 512].map(|n| bytes(&random(&mut lcg, n, 2 * n, 8).words())));
-    inputs.extend([0, 1, 2, 3, 4, 100, 200_000].map(|more| largest_and(more)));
+    inputs.extend([0, 1, 2, 3, 4, 100, 200_000].map(largest_and));
     inputs
 }
 

@@ -94,7 +94,8 @@ fn worked_verdicts() {
     // Class 1 of game C is below class 2. Odd wins from 1, and Even from 2.
     let loses = [2, 2, 1, 3, 0, 1, 1, 1];
     let round = [3, 3, 0, 2, 4, 0, 1, 2, 1, 2, 2];
-    let rows: [(&[u16], u32, u32, &[u16], bool); 6] = [
+    type Row<'a> = (&'a [u16], u32, u32, &'a [u16], bool);
+    let rows: [Row; 6] = [
         (&C, 1, ODD, &loses, true),
         (&C, 2, ODD, &loses, false),
         (&C, 0, EVEN, &round, true),
