@@ -295,8 +295,8 @@ fn not_of_text(bytes: &[u8]) -> Option<usize> {
     bytes.iter().position(|byte| byte.is_ascii_control() && !byte.is_ascii_whitespace())
 }
 
-/// Whether an input is marks, eight in a byte: it has the length of those. As text,
-/// so few bytes could hold all marks of one vertex alone, `0` or `1`; as binary these have unused bits set.
+/// Whether an input is marks, eight in a byte: it has the length of those. As text, so few bytes could hold all
+/// marks of one vertex alone, `0` or `1`; as binary these have unused bits set.
 fn is_packed(bytes: &[u8], unit: Unit) -> bool {
     unit == Unit::Mark(bytes.len()) && !matches!(bytes, b"0" | b"1")
 }
