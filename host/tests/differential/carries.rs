@@ -261,21 +261,25 @@ fn memory_after_a_plan_is_refused() {
     }
 }
 
+/// Makes a buffer one shorter than n vertices and a table of so many words need.
+type Shorten = fn(&mut Memory, usize, usize);
+
+/// The buffers of 21 to 24, in turn.
+pub const SHORTENED: [Shorten; 4] = [
+    |memory, n, _| memory.marks.truncate(mark_bytes(n) - 1),
+    |memory, n, _| memory.spare.truncate(mark_bytes(n) - 1),
+    |memory, n, _| memory.classes.truncate(n - 1),
+    |memory, _, words| memory.reduction.truncate(words - 1),
+];
+
 #[test]
 fn lengths_come_before_the_plan_and_leave_all_memory_old() {
-    type Shorten = fn(&mut Memory, usize, usize);
-    let shortened: [Shorten; 4] = [
-        |memory, n, _| memory.marks.truncate(mark_bytes(n) - 1),
-        |memory, n, _| memory.spare.truncate(mark_bytes(n) - 1),
-        |memory, n, _| memory.classes.truncate(n - 1),
-        |memory, _, words| memory.reduction.truncate(words - 1),
-    ];
     let mut lcg = Lcg::new(84);
     for most in [1, 4, 20].repeat(30) {
         let table = of_both(&mut lcg, most);
         let (n, words) = (table.n(), table.words().len());
         for (call, buffers) in [(Call::Carry, 2), (Call::CarryClass, 4)] {
-            for (i, shorten) in shortened.iter().enumerate() {
+            for (i, shorten) in SHORTENED.iter().enumerate() {
                 let mut memory = dirty(&mut lcg, &table, 0);
                 shorten(&mut memory, n, words);
                 // No such player, and no plan.

@@ -2,7 +2,7 @@
 //! nothing by plans that start elsewhere, and leaves memory as it should be after every outcome.
 
 use crate::calls::{Call, Case};
-use crate::carries::{dirty, leaves, of_both, room, worked_out, Origin};
+use crate::carries::{dirty, leaves, of_both, room, worked_out, Origin, SHORTENED};
 use crate::limits::agree;
 use crate::samples::any_strategy;
 use crate::tables::games::{C, D};
@@ -188,19 +188,12 @@ fn memory_after_a_plan_is_refused() {
 
 #[test]
 fn refusals_before_the_plan_leave_all_memory_old() {
-    type Shorten = fn(&mut Memory, usize, usize);
-    let shortened: [Shorten; 4] = [
-        |memory, n, _| memory.marks.truncate(mark_bytes(n) - 1),
-        |memory, n, _| memory.spare.truncate(mark_bytes(n) - 1),
-        |memory, n, _| memory.classes.truncate(n - 1),
-        |memory, _, words| memory.reduction.truncate(words - 1),
-    ];
     let mut lcg = Lcg::new(145);
     for most in [1, 4, 20].repeat(30) {
         let table = of_both(&mut lcg, most);
         let (n, words) = (table.n(), table.words().len());
         let places = [mark_bytes(n), mark_bytes(n), n, words];
-        for (i, shorten) in shortened.iter().enumerate() {
+        for (i, shorten) in SHORTENED.iter().enumerate() {
             let mut memory = dirty(&mut lcg, &table, 0);
             shorten(&mut memory, n, words);
             // No such player, and no plan.
