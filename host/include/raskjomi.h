@@ -11,7 +11,7 @@
  * Every input is allowed: any length and content, and any number. A slice goes as a pointer and a length in
  * elements: the pointer is aligned and not null, also where the length is 0, and no slice that is written overlaps
  * another. No call uses the heap or keeps anything, so calls may run on several threads at once; each thread that calls
- * needs RASKJOMI_LEAST_STACK bytes of stack.
+ * needs RASKJOMI_LEAST_STACK bytes of stack, and what its thread-local storage takes, which comes out of the same stack.
  *
  * After a refusal the lent memory has its old content, but for what raskjomi_carry, raskjomi_carry_class,
  * raskjomi_verdict and raskjomi_replay say of theirs. After acceptance the words and bytes that a call names are written,
@@ -49,7 +49,7 @@ extern "C" {
 #define RASKJOMI_IS_MARKED(marks, n, v, w) ((marks)[RASKJOMI_MARK(n, v, w) / 8] >> RASKJOMI_MARK(n, v, w) % 8 & 1)
 
 /* A call's answer. Number 0 is "accepted", with the counts that the call names; any other number is a refusal with its
- * place. All other fields are 0. */
+ * place. All other fields are 0, but that a refused raskjomi_replay tells the entries done. */
 typedef struct RaskjomiAnswer {
     uint32_t number;
     uint32_t passes;

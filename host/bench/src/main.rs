@@ -59,6 +59,12 @@ impl Memory {
         REDUCE[side](game, &mut self.marks, &mut self.spare, &mut self.classes, &mut self.output)
     }
 
+    /// Whether Even's plan on the reduced game shows that Even wins at vertex 0.
+    fn verdict(&mut self, side: usize, game: &[u16], plan: &[u16]) -> RaskjomiAnswer {
+        let Memory { marks, spare, classes, output, .. } = self;
+        VERDICT[side](game, 0, raskjomi::EVEN, plan, marks, spare, classes, output)
+    }
+
     /// Carries Even's plan to vertex 0, from the reduced game or within the game.
     fn carry(&mut self, side: usize, game: &[u16], plan: &[u16], class: bool) -> RaskjomiAnswer {
         let Memory { marks, spare, classes, output, plan: carried } = self;
@@ -70,6 +76,9 @@ impl Memory {
     }
 }
 
+/// A call that gives a verdict.
+type Verdict =
+    fn(&[u16], u32, u32, &[u16], &mut [u8], &mut [u8], &mut [u16], &mut [u16]) -> RaskjomiAnswer;
 /// A call that draws a game.
 type Seed = fn(u32, u32, u32, u32, &mut [u16]) -> RaskjomiAnswer;
 /// A call that converts a game.
@@ -90,6 +99,7 @@ const REDUCE: [Reduce; 3] = [
 const ACCEPT_PLAN: [AcceptPlan; 2] = [exports::accept_plan, baseline::accept_plan];
 const CARRY: [Carry; 2] = [exports::carry, baseline::carry];
 const CARRY_CLASS: [CarryClass; 2] = [exports::carry_class, baseline::carry_class];
+const VERDICT: [Verdict; 2] = [exports::verdict, baseline::verdict];
 const SEED: [Seed; 2] = [exports::seed, baseline::seed];
 const CONVERT: [Convert; 2] = [exports::convert, baseline::convert];
 
@@ -165,6 +175,13 @@ fn carry_figures(game: &[u16], plan: &[u16], class: bool) -> Figures {
     figures
 }
 
+fn verdict_figures(game: &[u16], plan: &[u16]) -> Figures {
+    let call = |side: usize, memory: &mut Memory| memory.verdict(side, game, plan);
+    let (figures, answer) = figures(Memory::for_game(game), call);
+    assert_eq!((answer.number, answer.shown), (0, 1), "Even wins");
+    figures
+}
+
 fn seed_figures([seed, n, degree, priorities]: [u32; 4], words: usize) -> Figures {
     figures(vec![7; words], |side, output| SEED[side](seed, n, degree, priorities, output)).0
 }
@@ -196,6 +213,7 @@ fn show(Row { name, game, work, .. }: &Row) -> Shown {
         Work::AcceptPlan(plan) => plan_figures(game, plan),
         Work::Carry(plan) => carry_figures(game, plan, false),
         Work::CarryClass(plan) => carry_figures(game, plan, true),
+        Work::Verdict(plan) => verdict_figures(game, plan),
         Work::Seed(numbers) => seed_figures(*numbers, game.len()),
         Work::Convert => convert_figures(game),
         Work::AddEdge(source, target) => edits::figures(&edits::ADD, game, *source, *target),

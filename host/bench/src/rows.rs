@@ -18,6 +18,8 @@ pub enum Work {
     Carry(Vec<u16>),
     /// The same from the reduced game.
     CarryClass(Vec<u16>),
+    /// Even's plan on the reduced game, for vertex 0.
+    Verdict(Vec<u16>),
     /// The game, converted.
     Convert,
     /// The game by a seed, of so many vertices, edges out of each, and priorities.
@@ -92,6 +94,13 @@ fn largest_carry(n: usize) -> [Row; 2] {
     let round = 4096 / n;
     let (game, plan) = round_ring(n, 4, round, 0);
     both_ways(&game, &plan, round).map(Row::in_family)
+}
+
+/// The verdict on a game of n vertices that are one class, by a plan of 4,096 positions.
+fn verdict(n: usize) -> Row {
+    let (game, _) = round_ring(n, 4, 4096 / n, 0);
+    let plan = round_of_loops(4096, 0..4096);
+    Row::new("verdict, p 4096", &game, Work::Verdict(plan.words())).in_family()
 }
 
 /// Random games of n vertices, with so many edges out of each on average, and 1, 2 and 8 priorities.
@@ -169,6 +178,7 @@ fn at_most_256(lcg: &mut Lcg) -> Vec<Row> {
     // Beside the rows of 512 vertices and 4,096 edges.
     rows.extend(randoms(lcg, 256, 8));
     rows.extend(largest_carry(256));
+    rows.push(verdict(256));
     rows
 }
 
@@ -181,6 +191,7 @@ fn of_512(lcg: &mut Lcg) -> Vec<Row> {
     rows.push(Row::reduce("chain", chain(512)).in_family());
     rows.push(largest(lcg, 512));
     rows.extend(largest_carry(512));
+    rows.push(verdict(512));
     rows.push(Row::reduce("two rings", rings(&[255, 256])).in_family());
     rows.push(Row::reduce("five rings", tailed_rings(&[49, 51, 52, 53, 55], 512)).in_family());
     rows.extend(watched(247, 251, 6));

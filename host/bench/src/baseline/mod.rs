@@ -15,6 +15,7 @@ mod reader;
 mod reduction;
 mod rounds;
 mod seed;
+mod verdict;
 
 pub use carry::{carry, carry_class};
 pub use convert::convert;
@@ -25,6 +26,7 @@ pub use plan::accept_plan;
 pub use reduction::reduce;
 pub use rounds::{timed as timed_order, write_order as by_rows};
 pub use seed::seed;
+pub use verdict::verdict;
 
 use raskjomi::exports::RaskjomiAnswer;
 
