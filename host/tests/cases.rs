@@ -16,6 +16,11 @@ const P1: [u16; 6] = [1, 1, 1, 1, 0, 0];
 const LACKING: [u16; 4] = [1, 0, 0, 0];
 /// 0 is Even's and 1 is Odd's, and both go to 2 and to 3, whose priorities differ.
 const MIXED_OWNERS: [u16; 22] = [4, 6, 0, 0, 1, 2, 0, 1, 0, 0, 0, 0, 1, 1, 2, 3, 2, 3, 2, 3, 2, 3];
+/// 4 to 3 to 2 to 1 to 0, which has a loop and a priority of its own.
+const CHAIN: [u16; 22] = [5, 5, 1, 0, 0, 0, 0, 0, 0, 0, 0, 0, 0, 1, 2, 3, 4, 0, 0, 1, 2, 3];
+/// The same with vertices 2 and 3 exchanged.
+const RENUMBERED_CHAIN: [u16; 22] =
+    [5, 5, 1, 0, 0, 0, 0, 0, 0, 0, 0, 0, 0, 1, 2, 3, 4, 0, 0, 3, 1, 2];
 
 /// The text of the program, line by line.
 struct Text {
@@ -109,6 +114,16 @@ fn doubled_d() -> Vec<u16> {
     game
 }
 
+/// A plan of p positions at vertex 0, each with a link to itself.
+fn loops(p: u16) -> Vec<u16> {
+    [vec![p, p], vec![0; p.into()], (0..p).collect(), (0..p).collect()].concat()
+}
+
+/// A plan whose positions are at vertex 0 and whose links are loops at position 0.
+fn zeros(p: u16, l: u16) -> Vec<u16> {
+    [vec![p, l], vec![0; p.into()], vec![0; 2 * l as usize]].concat()
+}
+
 fn reading(text: &mut Text) {
     text.reads("P1", &P1);
     text.reads("P2", &[]);
@@ -163,6 +178,8 @@ fn orders(text: &mut Text) {
     text.orders("C_order", &C, 4, 4);
     text.orders("D_order", &D, 5, 6);
     text.orders("mixed_owners", &MIXED_OWNERS, 2, 2);
+    text.orders("chain", &CHAIN, 4, 4);
+    text.orders("renumbered_chain", &RENUMBERED_CHAIN, 4, 4);
     text.orders("order_refused_game", &LACKING, 1, 1);
     text.orders("marks_one_byte_short", &B, 1, 1);
     text.orders("spare_one_byte_short", &B, 2, 1);
@@ -194,13 +211,12 @@ fn plans(text: &mut Text) {
     text.plans("plan_one_word_short", &C, 0, &plan[..10]);
     text.plans("plan_one_word_long", &C, 0, &[1, 0, 4, 4]);
     text.plans("p_0", &C, 0, &[0, 0]);
-    for (name, p, l) in
-        [("p_4096_l_16384", 4096, 16384), ("p_4097", 4097, 16384), ("l_16385", 4096, 16385)]
-    {
-        let mut words = vec![0; 36866];
-        (words[0], words[1]) = (p, l);
-        text.plans(name, &[1, 1, 0, 0, 0, 0], 0, &words);
-    }
+    let one = [1, 1, 0, 0, 0, 0];
+    text.plans("p_4096", &one, 0, &loops(4096));
+    text.plans("p_4097", &one, 0, &loops(4097));
+    text.plans("l_16384", &one, 0, &zeros(1, 16384));
+    text.plans("l_16385", &one, 0, &zeros(1, 16385));
+    text.plans("p_4096_l_16384", &one, 0, &zeros(4096, 16384));
 }
 
 fn bad_plans(text: &mut Text) {
@@ -248,4 +264,29 @@ fn mixed_owners_tell_some_from_every() {
         text.lines
     };
     assert_ne!(lines(Oracle::exact()), lines(Oracle::with(Trap::MixedRowsExchanged)));
+}
+
+/// The chain with its vertices numbered from the other end, so that rows descend where they ascend.
+fn turned(chain: [u16; 22]) -> [u16; 22] {
+    let mut turned = chain;
+    turned[2..7].reverse();
+    turned[12..].iter_mut().for_each(|end| *end = 4 - *end);
+    turned
+}
+
+/// Tested under the marks so far, pairs are unmarked in earlier passes; the marks in the end are the same.
+#[test]
+fn chains_tell_marks_before_the_pass_from_marks_so_far() {
+    for (game, so_far) in
+        [(CHAIN, 2), (turned(CHAIN), 4), (RENUMBERED_CHAIN, 3), (turned(RENUMBERED_CHAIN), 3)]
+    {
+        let [exact, misled] =
+            [Oracle::exact(), Oracle::with(Trap::UnmarkDuringPass)].map(|oracle| {
+                let mut memory = sevens(4, 4, 0, 0);
+                let answer = oracle.order(&game, &mut memory);
+                (answer.passes, memory)
+            });
+        assert_eq!((exact.0, misled.0), (4, so_far));
+        assert_eq!(exact.1, misled.1);
+    }
 }

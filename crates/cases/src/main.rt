@@ -14,6 +14,7 @@ fn main() {
     reading::kinds();
     orders::games();
     orders::mixed_owners();
+    orders::chains();
     orders::short_buffers();
     orders::good_relations();
     orders::bad_relations();

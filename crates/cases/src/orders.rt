@@ -1,4 +1,4 @@
-// The order and the relation acceptor: document 01's games, short buffers, bad relations.
+// The order and the relation acceptor: document 01's games, games of several passes, short buffers, bad relations.
 use crate::print;
 use crate::tables;
 use order::Ordering;
@@ -38,6 +38,19 @@ pub fn mixed_owners() {
         &tables::game_mixed(),
         &mut [7; 2],
         &mut [7; 2],
+    );
+}
+
+// Pass k, for k from 1 to 3, unmarks the pairs of the vertex k edges away from the loop with those farther away; pass 4 unmarks none. With
+// each pair tested under the marks so far the same marks are left in fewer passes: of the first game in two where rows ascend, of the second
+// in three whether rows ascend or descend.
+pub fn chains() {
+    orders(b"chain", &tables::game_chain(), &mut [7; 4], &mut [7; 4]);
+    orders(
+        b"renumbered_chain",
+        &tables::game_renumbered_chain(),
+        &mut [7; 4],
+        &mut [7; 4],
     );
 }
 

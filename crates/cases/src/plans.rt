@@ -14,12 +14,27 @@ fn accepts(name: &[u8], game: &[u16], player: u32, words: &[u16]) {
     }
 }
 
-// A plan of 36,866 words, zeros but for its sizes, for a game of one vertex of priority 0.
-fn accepts_sizes(name: &[u8], p: u16, l: u16) {
+// The plan of the first words, for a game of one vertex of Even's, of priority 0 and with a loop.
+fn accepts_sized(name: &[u8], words: &[u16], p: u16, l: u16) {
+    let size = 2 + p as usize + 2 * (l as usize);
+    if size <= words.len() {
+        accepts(name, &[1, 1, 0, 0, 0, 0], 0, &words[..size]);
+    }
+}
+
+// All links are loops at position 0.
+fn accepts_zeros(name: &[u8], p: u16, l: u16) {
     let mut words = [0u16; 36866];
-    words[0] = p;
-    words[1] = l;
-    accepts(name, &[1, 1, 0, 0, 0, 0], 0, &words);
+    tables::put(&mut words, 0, p);
+    tables::put(&mut words, 1, l);
+    accepts_sized(name, &words, p, l);
+}
+
+// Every position has a link to itself.
+fn accepts_loops(name: &[u8], p: u16) {
+    let mut words = [0u16; 12293];
+    tables::loops(&mut words, p);
+    accepts_sized(name, &words, p, p);
 }
 
 pub fn games() {
@@ -54,10 +69,14 @@ pub fn bad_sizes() {
     accepts(b"p_0", &c, 0, &[0, 0]);
 }
 
+// Each limit of refusal 12 and one beyond it, at the right length: but for the limit, p_4097 and l_16385 win as p_4096 and l_16384 do. At both
+// limits position 1 lacks a link.
 pub fn limits() {
-    accepts_sizes(b"p_4096_l_16384", 4096, 16384);
-    accepts_sizes(b"p_4097", 4097, 16384);
-    accepts_sizes(b"l_16385", 4096, 16385);
+    accepts_loops(b"p_4096", 4096);
+    accepts_loops(b"p_4097", 4097);
+    accepts_zeros(b"l_16384", 1, 16384);
+    accepts_zeros(b"l_16385", 1, 16385);
+    accepts_zeros(b"p_4096_l_16384", 4096, 16384);
 }
 
 // Refusals 13 and 14.

@@ -1,5 +1,5 @@
-// Tables that the cases share: document 01's games B, C and D, D with an edge doubled, its plan for game C, a game of both players, and the
-// largest game.
+// Tables that the cases share: document 01's games B, C and D, D with an edge doubled, its plan for game C, a game of both players, two
+// chains, the largest game, and a plan of loops.
 ghost use mathlib.Core.Path.{_≡_};
 ghost use lib.ListN.{length};
 
@@ -144,6 +144,62 @@ pub fn game_mixed() -> [u16; 22] {
     ]
 }
 
+// All Even's: 4 to 3 to 2 to 1 to 0, which has a loop and a priority of its own.
+pub fn game_chain() -> [u16; 22] {
+    [
+        5,
+        5,
+        1,
+        0,
+        0,
+        0,
+        0,
+        0,
+        0,
+        0,
+        0,
+        0,
+        0,
+        1,
+        2,
+        3,
+        4,
+        0,
+        0,
+        1,
+        2,
+        3,
+    ]
+}
+
+// The same with vertices 2 and 3 exchanged: 4 to 2 to 3 to 1 to 0.
+pub fn game_renumbered_chain() -> [u16; 22] {
+    [
+        5,
+        5,
+        1,
+        0,
+        0,
+        0,
+        0,
+        0,
+        0,
+        0,
+        0,
+        0,
+        0,
+        1,
+        2,
+        3,
+        4,
+        0,
+        0,
+        3,
+        1,
+        2,
+    ]
+}
+
 // 512 vertices and 4,096 edges: 8 from each vertex v, to v + 0, .., v + 7, modulo 512.
 pub fn largest(game: &mut [u16])
     requires { ⌜ length (now game) ≡ 9218 ⌝ }
@@ -161,5 +217,17 @@ pub fn largest(game: &mut [u16])
 pub fn put(game: &mut [u16], at: usize, word: u16) {
     if at < game.len() {
         game[at] = word;
+    }
+}
+
+// A plan of p positions at vertex 0, each with a link to itself; words beyond it stay.
+pub fn loops(words: &mut [u16], p: u16) {
+    put(words, 0, p);
+    put(words, 1, p);
+    let mut i = 0u16;
+    while i < p {
+        put(words, 2 + p as usize + i as usize, i);
+        put(words, 2 + 2 * (p as usize) + i as usize, i);
+        i += 1;
     }
 }
