@@ -25,7 +25,7 @@ pub use families::{
     chain, complete, copies, fans, forced_ring, random, ring, rings, tailed_rings, watched_rings,
 };
 pub use lcg::Lcg;
-pub use plans::{largest_plan, strategy_plan, unfolded, Plan};
+pub use plans::{largest_plan, plans_at_limits, strategy_plan, unfolded, Plan};
 pub use relations::{relation, set_unused_bits};
 pub use repeats::{repeated, same_game};
 pub use sample::{any_game, bent_plan, old_bytes, old_words};

@@ -71,6 +71,22 @@ pub fn largest_plan(lcg: &mut Lcg, n: usize) -> (Table, Plan) {
     (game, plan)
 }
 
+/// A game of one vertex with a loop, the player's and of the player's parity, and plans for it at the limits
+/// of positions and links and one beyond, with whether the plan is within both. But for the limits each
+/// wins: every position has a link to itself, and further links are repeats.
+pub fn plans_at_limits(player: u16) -> (Table, Vec<(Plan, bool)>) {
+    let game = Table { priorities: vec![player], owners: vec![player], edges: vec![(0, 0)] };
+    let loops = |p: u16, l: u16| Plan {
+        vertices: vec![0; p.into()],
+        links: (0..l).map(|j| (j % p, j % p)).collect(),
+    };
+    let within = [(4_096, 4_096), (1, 16_384), (4_096, 16_384)];
+    let beyond = [(4_097, 4_097), (1, 16_385), (4_097, 16_384), (4_096, 16_385)];
+    let within = within.map(|(p, l)| (loops(p, l), true));
+    let beyond = beyond.map(|(p, l)| (loops(p, l), false));
+    (game, within.into_iter().chain(beyond).collect())
+}
+
 impl Solution {
     /// The winner's plan from a vertex.
     pub fn plan(&self, game: &Table, vertex: usize) -> Plan {

@@ -146,14 +146,26 @@ fn bend(lcg: &mut Lcg, plan: &mut Plan, n: usize) {
     }
 }
 
+/// Too few words, a number out of its limits at the right length, or another length.
 fn wrong_size(lcg: &mut Lcg, mut words: Vec<u16>) -> Vec<u16> {
     match lcg.below(6) {
         0 => words.truncate(lcg.below(2)),
-        1 => words[0] = lcg.pick(&[0, 4_097, 65_535]),
-        2 => words[1] = lcg.pick(&[16_385, 65_535]),
+        1 => {
+            words[0] = lcg.pick(&[0, 4_097, 65_535]);
+            right_length(&mut words);
+        }
+        2 => {
+            words[1] = lcg.pick(&[16_385, 65_535]);
+            right_length(&mut words);
+        }
         3 => words[0] += 1,
         4 => words.truncate(words.len() - 1),
         _ => words.push(0),
     }
     words
+}
+
+/// Gives a plan the length that its first two words ask for.
+fn right_length(words: &mut Vec<u16>) {
+    words.resize(2 + words[0] as usize + 2 * words[1] as usize, 0);
 }

@@ -4,7 +4,8 @@ use crate::calls::{Call, Case, Outcome};
 use crate::carries::{room, round};
 use crate::{edits, previews, replays, verdicts};
 use generator::{
-    chain, complete, largest_plan, opponents, random, round_of_loops, round_ring, Lcg, Table,
+    chain, complete, largest_plan, opponents, plans_at_limits, random, round_of_loops, round_ring,
+    Lcg, Table,
 };
 use oracle::{mark_bytes, Memory, Oracle};
 use std::sync::OnceLock;
@@ -153,6 +154,26 @@ fn one_beyond_a_limit_is_refused() {
             memory.marks.fill(0);
             let case = Case::on_memory(call, &table.words(), memory);
             assert_eq!(agree(&case), number, "{call:?}");
+        }
+    }
+}
+
+/// Plans that break a limit of refusal 12 and nothing else, and plans that keep it, by every call that judges
+/// a plan.
+#[test]
+fn plans_at_their_limits() {
+    for player in [0, 1] {
+        let (table, plans) = plans_at_limits(player);
+        for (plan, within) in plans {
+            let (game, words) = (table.words(), plan.words());
+            assert_eq!(words.len(), 2 + words[0] as usize + 2 * words[1] as usize);
+            for call in [Call::AcceptPlan, Call::Carry, Call::CarryClass, Call::Verdict] {
+                let case = Case::of_carrying(call, &game, player.into(), &words, 0, room(&table));
+                agree(&case);
+                let answer = case.actual().answer;
+                let number = if within { 0 } else { 12 };
+                assert_eq!((answer.number, answer.place), (number, 0), "{call:?}");
+            }
         }
     }
 }

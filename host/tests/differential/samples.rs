@@ -4,8 +4,9 @@ use crate::calls::{Call, Case};
 use crate::carries::{of_both, plan_words, room, round, Origin};
 use generator::{
     any_game, bent_plan, branching, crowded, damaged, damaged_often, damaged_trace, edge_to_edit,
-    old_bytes, old_words, relation, seed_numbers, set_unused_bits, solve, strategy_plan, trace,
-    trace_words, unfolded, words_behind, Lcg, Plan, Solution, Table, REFUSALS,
+    old_bytes, old_words, plans_at_limits, relation, seed_numbers, set_unused_bits, solve,
+    strategy_plan, trace, trace_words, unfolded, words_behind, Lcg, Plan, Solution, Table,
+    REFUSALS,
 };
 use oracle::{mark_bytes, Memory, Oracle, Relation};
 
@@ -156,6 +157,14 @@ fn case_of_crowd(lcg: &mut Lcg) -> Case {
     Case::of_carrying(call, &game.words(), player as u32, &plan, vertex, room(&game))
 }
 
+/// A plan at the limits of its sizes, or one beyond.
+fn case_at_limits(lcg: &mut Lcg) -> Case {
+    let player = lcg.below(2) as u16;
+    let (game, mut plans) = plans_at_limits(player);
+    let (plan, _) = plans.swap_remove(lcg.below(plans.len()));
+    Case::of_plan(&game.words(), player.into(), plan.words())
+}
+
 /// An edge added and one removed, with a whole table or a damaged one at the start of a buffer.
 pub fn cases_of_edits(lcg: &mut Lcg, table: &Table) -> Vec<Case> {
     let case = |call| {
@@ -222,6 +231,7 @@ pub fn cases(lcg: &mut Lcg, most: usize) -> Vec<Case> {
     cases.push(case_of_verdict(lcg, &carried));
     if lcg.once_in(CROWDS) {
         cases.push(case_of_crowd(lcg));
+        cases.push(case_at_limits(lcg));
     }
     cases.extend(cases_of_edits(lcg, &table));
     cases.extend(cases_of_previews(lcg, &table));
