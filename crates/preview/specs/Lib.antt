@@ -1,5 +1,6 @@
 pub mod CopyLaws
 pub mod PreviewCall
+pub mod PreviewCases
 pub mod PreviewRules
 pub mod PreviewRulesLaws
 pub mod PreviewCallLaws
