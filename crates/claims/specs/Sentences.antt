@@ -7,7 +7,7 @@ use lib.ListN.{getD}
 use Rattle.theory.specs.Game.{Player, even, odd, Game, edgeCount}
 use Rattle.theory.specs.Plan.{Won}
 use Rattle.theory.specs.Reduction.{reduced, classOf}
-use Rattle.table.specs.Table.{vertexCount, tableIn, gameOf}
+use Rattle.table.specs.Table.{vertexCount, tableEdges, tableIn, gameOf}
 use Rattle.table.specs.Verdict.{Answer, accepted, refused}
 use Rattle.table.specs.Reading.{readAnswer}
 use Rattle.table.specs.Acceptance.{acceptanceAnswer}
@@ -21,7 +21,7 @@ use Rattle.carry.specs.WrittenPlanLaws.{writtenPlan, PlanFrom}
 use Rattle.edges.specs.declared.Edit.{Edit}
 use Rattle.edit.specs.EditCall.{EditCall}
 use Rattle.preview.specs.PreviewCall.{PreviewCall}
-use Rattle.replay.specs.ReplayCall.{ReplayCall}
+use Rattle.replay.specs.ReplayCall.{replayed, ReplayCall}
 use Rattle.claims.specs.Written.{writtenTable}
 use Rattle.claims.specs.declared.Containment.{Containment}
 
@@ -135,8 +135,10 @@ AfterEntry k = (37 ≤ k) × (k ≤ 39)
 pub record Replays (buffer trace marks spare classes : List ℕ) (answer : Answer) (entries : ℕ)
     (buffer′ marks′ spare′ classes′ : List ℕ) : Type 0 where
   pub call : ReplayCall buffer trace marks spare classes answer entries buffer′ marks′ spare′ classes′
-  -- the reader accepts it, with the n and m of the verdict
-  pub read : (c v e : ℕ) → answer ≡ accepted (c ∷ v ∷ e ∷ []) → readAnswer (tableIn buffer′) ≡ accepted (v ∷ e ∷ edgeCount (gameOf (tableIn buffer′)) ∷ [])
+  -- the reader accepts it, with the n and m of the table that the entries done lead to: those of the verdict, where no entry is refused
+  pub read : OnceWritten AfterEntry answer
+      (let final = replayed buffer trace .table in
+      readAnswer (tableIn buffer′) ≡ accepted (vertexCount final ∷ tableEdges final ∷ edgeCount (gameOf (tableIn buffer′)) ∷ []))
   pub marks-order : OnceWritten AfterEntry answer (OrderSentences (tableIn buffer′) marks′)
   pub spare-order : OnceWritten AfterEntry answer (OrderSentences (tableIn buffer′) spare′)
   pub classes-words : OnceWritten AfterEntry answer (ClassSentence (tableIn buffer′) classes′)

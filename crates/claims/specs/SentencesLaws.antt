@@ -1,17 +1,19 @@
 -- The sentences follow from what the calls promise.
 use mathlib.Core.Path.{_≡_, refl, sym, _∙_, subst}
 use mathlib.Core.Logic.{_⊎_, inl, inr}
-use mathlib.Core.List.{List}
+use mathlib.Core.List.{List, [], _∷_}
 use Prim.Native.Nat.{ℕ, _≤_}
 use native.Mathlib.Omega.{arith}
 use lib.Dec.{ltb}
 use lib.ListN.{length}
-use Rattle.theory.specs.Game.{Game}
+use Rattle.theory.specs.Game.{Game, edgeCount}
 use Rattle.theory.specs.Reduction.{reduced}
-use Rattle.table.specs.Table.{tableIn}
+use Rattle.table.specs.Table.{vertexCount, tableEdges, tableIn, gameOf}
 use Rattle.table.specs.Verdict.{Row, Answer, accepted, judge, Clean}
 use Rattle.table.specs.VerdictLaws.{judge-clean, judge-accepted, clean-split}
+use Rattle.table.specs.Rules.{NoRule}
 use Rattle.table.specs.RulesLaws.{clean-none}
+use Rattle.table.specs.Reading.{readAnswer}
 use Rattle.table.specs.Acceptance.{acceptanceAnswer}
 use Rattle.order.specs.OrderCall.{orderRows, passesAnswer, orderingAnswer, OrderCall}
 use Rattle.relation.specs.RelationCall.{relationAnswer}
@@ -22,19 +24,22 @@ use Rattle.carry.specs.CarryCall.{judgedRows, carryRows, CarryCall, carryClassR
 use Rattle.carry.specs.CarryMemoryLaws.{carry-passed, carry-class-passed}
 use Rattle.carry.specs.WrittenPlanLaws.{carry-wins, carry-class-wins}
 use Rattle.edges.specs.Buffer.{bufferRows}
+use Rattle.edges.specs.BufferLaws.{in-vertices}
 use Rattle.edges.specs.Edges.{edited, changeRows, editRows}
 use Rattle.edges.specs.declared.Edit.{Edit}
 use Rattle.edges.specs.declared.Edit.the-variants.{Arrival, Leaving}
 use Rattle.trace.specs.Trace.{entriesIn, traceRows}
 use Rattle.trace.specs.Run.{toggle, Run}
 use Rattle.trace.specs.RunLaws.{RunView, ends, goes, stops, run-view}
+use Rattle.trace.specs.ParityLaws.{run-vertices}
 use Rattle.edit.specs.EditCall.{callRows, callCounts, EditCall}
 use Rattle.edit.specs.NewTableLaws.{call-table, call-read}
 use Rattle.preview.specs.PreviewCall.{PreviewCall}
 use Rattle.preview.specs.PreviewEditLaws.{preview-edit}
 use Rattle.replay.specs.ReplayCall.{startRows, replayed, ReplayCall}
+use Rattle.replay.specs.ReplayRules.{startRules}
 use Rattle.replay.specs.ReplayRulesLaws.{start-render, replay-passed}
-use Rattle.replay.specs.FinalTableLaws.{replay-table, replay-read}
+use Rattle.replay.specs.FinalTableLaws.{replay-table, replay-reads}
 use Rattle.claims.specs.Written.{LeavesOrder, Faithful}
 use Rattle.claims.specs.Demands as demands
 use Rattle.claims.specs.Sentences.{OnAcceptance, OrderSentences, ClassSentence, Orders, Classifies, Tabulates, Contains, OnceWritten, AfterOrder, AfterReduction, Carries, CarriesClass, EditSentences, Edits, Previews, AfterEntry, Replays}
@@ -226,13 +231,20 @@ module _ {buffer trace marks spare classes : List ℕ} {answer : Answer} {entrie
         passed-first Early begin (replayed buffer trace .stop) early entry-late (callCounts final) k p (sym (call .verdict) ∙ a) (late k (h .0) (h .1));
   }
 
+  abbrev unruled : Clean begin → NoRule (startRules buffer trace marks spare classes)
+  unruled = clean-none (start-render buffer trace marks spare classes)
+
   table-is : Clean begin → final ≡ tableIn buffer′
-  table-is c = sym (replay-table call (clean-none (start-render buffer trace marks spare classes) c))
+  table-is c = sym (replay-table call (unruled c))
+
+  -- no entry changes n
+  table-read : Clean begin → readAnswer (tableIn buffer′) ≡ accepted (vertexCount final ∷ tableEdges final ∷ edgeCount (gameOf (tableIn buffer′)) ∷ [])
+  table-read c = rw (run-vertices (length buffer) (entriesIn trace) (tableIn buffer) ∙ in-vertices buffer) (replay-reads call (unruled c))
 
   pub replays : Replays buffer trace marks spare classes answer entries buffer′ marks′ spare′ classes′
   replays = record {
     call = call;
-    read = λ k n m a. replay-read (rw a at call) refl;
+    read = once-map begun table-read;
     marks-order = once-map begun (λ c. subst (λ (g : List ℕ). OrderSentences g marks′) (table-is c) (order-sentences (record { buffer = call .marks-after }) c));
     spare-order = once-map begun (λ c. subst (λ (g : List ℕ). OrderSentences g spare′) (table-is c) (order-sentences (record { buffer = call .spare-after }) c));
     classes-words = once-map begun (λ c. subst (λ (g : List ℕ). ClassSentence g classes′) (table-is c) (demands.class-word (record { words = call .classes-after }) c));
