@@ -81,19 +81,19 @@ module _ {game : List ℕ} {rows : List Row} {old new : List ℕ} (left : Leaves
       rw (left .buffer, after-clean rows (orderBytes game) old passed) (orders.written-mark game old v w hv hw) in
       (λ m. sym e ∙ m, λ t. e ∙ t)
 
-  -- "The written order contains every relation that the acceptor passes."
+  -- the written order contains every relation that the acceptor passes
   pub contains : (relation : List ℕ) → relationAnswer game relation ≡ accepted []
       → (v w : ℕ) → v < vertexCount game → w < vertexCount game → Marked (vertexCount game) relation v w → Marked (vertexCount game) new v w
   unfolding gameOf
   contains relation passes v w hv hw m = written-mark v w hv hw .1 (order-in (gameOf game) hv hw (passed-below game relation passes v w m))
 
-  -- "Where v is below w: a winning plan for Even from v gives one from w .."
+  -- where v is below w, a winning plan for Even from v gives one from w ..
   pub even-up : (v w : ℕ) → v < vertexCount game → w < vertexCount game → Marked (vertexCount game) new v w
       → Won even (gameOf game) v → Won even (gameOf game) w
   unfolding gameOf
   even-up v w hv hw b = games.even-up (gameOf game) v w hv hw (written-mark v w hv hw .0 b)
 
-  -- ".. a winning plan for Odd from w gives one from v."
+  -- .. and a winning plan for Odd from w gives one from v
   pub odd-down : (v w : ℕ) → v < vertexCount game → w < vertexCount game → Marked (vertexCount game) new v w
       → Won odd (gameOf game) w → Won odd (gameOf game) v
   unfolding gameOf
@@ -209,7 +209,7 @@ module _ {K : Game → Game} (faithful : Faithful K)
       let k : i < length es = omega arith in
       rw (table-is, source-is (K G) es i k, target-is (K G) es i k, source-is (K G) es j m, target-is (K G) es j m) (edgesOf-ascend (K G) i j h m)
 
-  -- "Each player has a winning plan from a vertex exactly when that player has one from its class in the reduced game."
+  -- each player has a winning plan from a vertex exactly when that player has one from its class in the reduced game
   pub table-winner : (a : Player) (v : ℕ) → v < vertexCount game → Won a (gameOf game) v ↔ Won a (gameOf (writtenTable n e output′)) (getD classes′ v 0)
   table-winner a v h =
       let there = faithful .winner G a v (vertex v h) in

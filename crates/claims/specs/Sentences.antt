@@ -1,4 +1,4 @@
--- The sentences of demand 3, about slices after each call that leaves the order, as the promises of this crate's functions state them.
+-- The sentences of demand 3, about slices after each call that leaves the order, as the promises of the functions of `sentences` state them.
 use mathlib.Core.Path.{_≡_}
 use mathlib.Core.Logic.{_⊎_, _↔_}
 use mathlib.Core.List.{List, [], _∷_}
@@ -31,13 +31,13 @@ OnAcceptance answer P = (counts : List ℕ) → answer ≡ accepted counts → P
 
 -- of a buffer that holds the written order
 pub record OrderSentences (game buffer : List ℕ) : Type 0 where
-  -- "The written order contains every relation that the acceptor passes."
+  -- the written order contains every relation that the acceptor passes
   pub contains : (relation : List ℕ) → relationAnswer game relation ≡ accepted [] → (v w : ℕ) → v < vertexCount game → w < vertexCount game
       → Marked (vertexCount game) relation v w → Marked (vertexCount game) buffer v w
-  -- "Where v is below w: a winning plan for Even from v gives one from w, ..
+  -- where v is below w, a winning plan for Even from v gives one from w ..
   pub even-up : (v w : ℕ) → v < vertexCount game → w < vertexCount game → Marked (vertexCount game) buffer v w
       → Won even (gameOf game) v → Won even (gameOf game) w
-  -- .. a winning plan for Odd from w gives one from v."
+  -- .. and a winning plan for Odd from w gives one from v
   pub odd-down : (v w : ℕ) → v < vertexCount game → w < vertexCount game → Marked (vertexCount game) buffer v w
       → Won odd (gameOf game) w → Won odd (gameOf game) v
 
@@ -48,7 +48,7 @@ ClassSentence game classes = (v : ℕ) → v < vertexCount game → getD classes
 -- of class words and an output that holds the table of a game of classes, n vertices and e edges
 pub record TableSentences (game classes output : List ℕ) (n e : ℕ) : Type 0 where
   pub read : readAnswer (writtenTable n e output) ≡ accepted (n ∷ e ∷ e ∷ [])
-  -- "Each player has a winning plan from a vertex exactly when that player has one from its class in the reduced game."
+  -- each player has a winning plan from a vertex exactly when that player has one from its class in the reduced game
   pub winner : (a : Player) (v : ℕ) → v < vertexCount game
       → Won a (gameOf game) v ↔ Won a (gameOf (writtenTable n e output)) (getD classes v 0)
 

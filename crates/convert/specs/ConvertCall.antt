@@ -16,7 +16,7 @@ use Rattle.convert.specs.LowestTable.{highest, lowestTable}
 unfoldable pub oversize : List ℕ → ℕ → Bool
 oversize g k = eqb (highest g) 65535 & eqb (getD g k 0) 0
 
--- "place: the word of the first priority 0"
+-- "place: word of the first priority 0"
 unfoldable pub firstOversize : List ℕ → ℕ
 firstOversize g = first (oversize g) 2 (2 + vertexCount g)
 

@@ -97,7 +97,7 @@ module _ {game output₁ counts₁ output₁′ output₂ counts₂ output₂′
   falls : evenAbove middle ≤ evenAbove game
   falls = rw (written-table call₁) (lowest-falls game (convert-accepted call₁ counts₁ refl .0 .well .some))
 
-  -- "two accepted conversions in a row shift all priorities by one even number"
+  -- two accepted conversions in a row shift all priorities by one even number
   abbrev pub shift : ℕ
   shift = evenAbove game - evenAbove middle
 
@@ -111,7 +111,7 @@ module _ {game output₁ counts₁ output₁′ output₂ counts₂ output₂′
       let q : priorityAt last v ≡ lowered middle v = rw (written-table call₂) (lowest-priority middle v n) in
       omega (arith, falls, priority-le game v h, priority-le middle v n)
 
-  -- "so the first and the third table have the same winners by "lowest""
+  -- so the first and the third table have the same winners by "lowest"
   pub twice-wins : (a : Player) (P : Plan) (v : ℕ) → WinsBy min a (gameOf game) P v ↔ WinsBy min a (gameOf last) P v
   twice-wins a P v =
       let x = lowest-wins call₁ a P v in

@@ -42,7 +42,7 @@ editedEdges Leaving s t es = others s t es
 unfoldable pub edited : Edit → List ℕ → ℕ → ℕ → List ℕ
 edited e g s t = withEdges g (editedEdges e s t (edgesIn g))
 
--- "Words that a shorter table gives up become 0."
+-- "Words that a shorter table gives up become 0"
 unfoldable pub editedWords : Edit → List ℕ → ℕ → ℕ → List ℕ
 editedWords e g s t = let new = edited e g s t in new ++ tabulate (length g - length new) (λ i. 0)
 

@@ -46,7 +46,7 @@ module _ (e : Edit) (g : List ℕ) (s t : ℕ) where
   unfolding edited
   length-edited = rw edited-edges (length-with g (editedEdges e s t (edgesIn g)))
 
-  -- "no priority and no owner changes"
+  -- no priority and no owner changes
   pub edited-priority : (v : ℕ) → v < vertexCount g → priorityAt (edited e g s t) v ≡ priorityAt g v
   unfolding edited
   edited-priority = with-priority g (editedEdges e s t (edgesIn g))

@@ -12,7 +12,7 @@ use Rattle.classes.specs.ClassesCall.{totalOf, wordsOf, NumberedCall}
 abbrev pub GovernedCall : List ℕ → List ℕ → List ℕ → Answer → List ℕ → List ℕ → Type 0
 GovernedCall = MarksCall governedMarks governedPasses
 
--- 1 to 8, 21, 41, 10: "also 10 for a marked pair whose reverse is unmarked"
+-- 1 to 8, 21, 41, 10: the acceptor "also gives 10 for a marked pair whose reverse is unmarked"
 abbrev pub governedAnswer : List ℕ → List ℕ → Answer
 governedAnswer = acceptorAnswer governedPair
 

@@ -21,7 +21,7 @@ priorityLimit = 65535
 unfoldable pub outside : ℕ → ℕ → Bool
 outside x limit = eqb x 0 or ltb limit x
 
--- "n not 1 to 512, d or c out of range, or n × d above 4,096"
+-- 31's condition: n not 1 to 512, "d or c out of range, or n × d above 4,096"
 unfoldable pub unfit : ℕ → ℕ → ℕ → Bool
 unfit n d c = outside n vertexLimit or (outside d degreeLimit or (outside c priorityLimit or ltb edgeLimit (n * d)))
 

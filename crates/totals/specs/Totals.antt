@@ -7,7 +7,7 @@ use Rattle.theory.specs.Totals.{memberCount, outDegree}
 use Rattle.table.specs.Table.{gameOf}
 use Rattle.classes.specs.ClassesCall.{classTotal}
 
--- "One line for each class": how many members it has, and how many edges in the reduced game
+-- "one line for each class": how many members it has, and how many edges in the reduced game
 unfoldable pub memberWords : List ℕ → List ℕ
 memberWords game = tabulate (classTotal game) (memberCount (gameOf game))
 

@@ -38,7 +38,7 @@ pub record Run : Type 0 where
   pub done : ℕ
   pub stop : List Row
 
--- "At the first refused entry the run ends with that refusal and the number of entries done."
+-- "At the first refused entry the run ends with that refusal and the number of entries done"
 unfoldable pub runFrom : ℕ → List (ℕ × ℕ) → List ℕ → ℕ → ℕ → Run
 runFrom size [] g longest done = record { table = g; longest = longest; done = done; stop = [] }
 runFrom size (e ∷ es) g longest done =

@@ -19,7 +19,8 @@ traceRules trace =
 abbrev pub Present : List ℕ → ℕ × ℕ → Type 0
 Present g e = (j : ℕ) × Listed g (e .0) (e .1) j
 
--- "37 for an end not below n (place: the source); present: 38; absent: 39 (place: the current m)"
+-- CR 7's rules of an edit that arrives exactly if absent: "37 for an end not below n"; "38 for a leaving that would take a vertex's last edge";
+-- "39 for an arrival at m 4,096 or into a buffer without two more words"
 abbrev pub entryRules : List ℕ → ℕ → ℕ × ℕ → List Rule
 entryRules g size e =
     placed 37 ((vertexCount g ≤ e .0) ⊎ (vertexCount g ≤ e .1)) (e .0)

@@ -140,7 +140,7 @@ module _ {game : List ℕ} {vertex player : ℕ} {plan marks spare classes reduc
       let c = desk-fits game vertex marks spare classes reduction (f .tableFits) (f .vertexIn) in
       call .verdict ∙ judge-clean rows (verdictCounts game vertex plan) (clean-append front _ c (clean-plan c (f .accepts)))
 
-  -- ---- "After 1 to 8, 33 and 21 to 24 all memory is old; after 11 to 16 and after either answer .. order, classes and reduction"
+  -- ---- after 1 to 8, 33 and 21 to 24 all memory is old; "After 11 to 16 and after either answer, the working memory holds order, classes and reduction."
 
   desk-numbers : Numbers (λ k. ¬ OfPlan k) front
   unfolding deskRows
