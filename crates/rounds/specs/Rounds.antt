@@ -40,11 +40,12 @@ pub record Begun (G : Game) (related lost falls changed : List ℕ) : Type 0 whe
   pub fell : Fell G related lost falls changed
   pub after : (mirror : Bool) → AfterRound mirror G 0 (cell related) (struck changed lost)
 
--- what a round does to the rows of a game, and how many pairs it takes out
+-- what a round does to the rows of a game, and how many pairs it takes out, no more than there are
 pub record RoundOf (mirror : Bool) (G : Game) (related lost changed : List ℕ) (c : ℕ) (related′ lost′ falls′ changed′ : List ℕ) : Type 0 where
   pub fell : Fell G related′ lost′ falls′ changed′
   pub round : Round mirror G (cell related) (struck changed lost) (cell related′) (struck changed′ lost′)
   pub count : c ≡ cleared (G .n) (cell related) (cell related′)
+  pub few : c ≤ G .n * G .n
 
 abbrev pub RoundDone : Bool → List ℕ → List ℕ → List ℕ → List ℕ → List ℕ → ℕ → List ℕ → List ℕ → List ℕ → List ℕ → Type 0
 RoundDone mirror edges related lost falls changed c related′ lost′ falls′ changed′ =

@@ -13,7 +13,8 @@ use Rattle.theory.specs.BoolsLaws.{decide, clash, So-ext, eqb-flip, So-not, and
 use Rattle.theory.specs.Range.{anyBelow}
 use Rattle.theory.specs.RangeLaws.{any-in, any-ext}
 use Rattle.theory.specs.Passes.{Rel}
-use Rattle.theory.specs.RoundsLaws.{cleared-none, cleared-some}
+use Rattle.theory.specs.Rounds.{cleared}
+use Rattle.theory.specs.RoundsLaws.{cleared-none, cleared-some, cleared-le}
 use Rattle.theory.specs.Game.{Game, Total}
 use Rattle.theory.specs.Order.{anyNext, equalPriority}
 use Rattle.theory.specs.OrderLaws.{anyNext-in}
@@ -224,13 +225,18 @@ module _ (G : Game) (edges related lost falls changed before near next losing : 
             taken-left G edges next′ losing′ related c related′ lost′ falls′ s t v w kv kw
             ∙ ap (λ b. cell related v w & not b) (sym (struck-is G edges next′ losing′ related c related′ lost′ falls′ s t v w kv kw));
       };
-      count = t .size ∙ out-count (G .n) (cell related) (cell related′) (struck losing′ next′) (s .small)
-          (λ v w hv hw. taken-left G edges next′ losing′ related c related′ lost′ falls′ s t v w (omega (arith, hv, s .small)) (omega (arith, hw, s .small)))
-          (λ v w hv hw o.
-          taken-in G mirror (cell related) (struck changed lost) mirrored v w hv hw
-          (sym (out v w (omega (arith, hv, s .small)) (omega (arith, hw, s .small))) ∙ o))
-          out-vertices;
+      count = size;
+      few = omega (arith, size, cleared-le (G .n) (cell related) (cell related′));
     }
+      where
+        size : c ≡ cleared (G .n) (cell related) (cell related′)
+        size =
+            t .size ∙ out-count (G .n) (cell related) (cell related′) (struck losing′ next′) (s .small)
+            (λ v w hv hw. taken-left G edges next′ losing′ related c related′ lost′ falls′ s t v w (omega (arith, hv, s .small)) (omega (arith, hw, s .small)))
+            (λ v w hv hw o.
+            taken-in G mirror (cell related) (struck changed lost) mirrored v w hv hw
+            (sym (out v w (omega (arith, hv, s .small)) (omega (arith, hw, s .small))) ∙ o))
+            out-vertices
 
 -- ---- rounds are passes
 
