@@ -7,12 +7,12 @@ use Rattle.theory.specs.Game.{Player, parity, Game, own, Succ}
 
 -- ---- plays
 
--- "a play is an infinite path through the game graph": π t is the vertex at time t
+-- "A play π in a parity game is an infinite path .. through the game graph": π t is the vertex at time t
 pub record Play (G : Game) (π : ℕ → ℕ) : Type 0 where
   pub inside : (t : ℕ) → π t < G .n
   pub along : (t : ℕ) → So (G .edge (π t) (π (suc t)))
 
--- q "occurs infinitely often", where c t is the priority at time t: there is no time from which on it isn't seen
+-- q is one of the priorities "which occur infinitely often", where c t is the priority at time t: there is no time from which on it isn't seen
 abbrev pub InfinitelyOften : (ℕ → ℕ) → ℕ → Type 0
 InfinitelyOften c q = (s : ℕ) → ((t : ℕ) → s ≤ t → c t ≡ q → ⊥) → ⊥
 
@@ -21,7 +21,7 @@ pub record LowestForEver (c : ℕ → ℕ) (q : ℕ) : Type 0 where
   pub often : InfinitelyOften c q
   pub lowest : (r : ℕ) → InfinitelyOften c r → q ≤ r
 
--- "play π is won by player Even if and only if the lowest value in Inf(π) is even. Otherwise, player Odd wins."
+-- "Play π is won by player Even if and only if the lowest value in Inf(π) is even. Otherwise, player Odd wins."
 abbrev pub WonPlay : Player → Game → (ℕ → ℕ) → Type 0
 WonPlay a G π = (q : ℕ) → LowestForEver (λ t. G .priority (π t)) q → So (parity a q)
 

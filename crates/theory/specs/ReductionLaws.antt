@@ -1,6 +1,6 @@
 -- The quotient and the reduced game, once for both: a game of classes whose edges are quotient edges, with one above each successor of
 -- a representative's. The game and it simulate each other by "v is below the representative of c" and its converse. (Document 004's
--- lemma 4.6 takes "v is a member of c", which is no simulation where Odd owns c.)
+-- lemma 4.6 takes membership of v in c, which is no simulation where Odd owns c.)
 use mathlib.Core.Path.{_≡_, refl}
 use mathlib.Core.Bool.{Bool, true, false, So}
 use Prim.Native.Nat.{ℕ, _<_}

@@ -1,4 +1,4 @@
--- "The winner is the same": with determinacy, what a merge keeps is who wins, and along the order the winner changes in Even's favour only.
+-- The winner is the same: with determinacy, what a merge keeps is who wins, and along the order the winner changes in Even's favour only.
 use mathlib.Core.Path.{_≡_, refl}
 use mathlib.Core.Logic.{_↔_}
 use mathlib.Core.Bool.{So}
