@@ -24,12 +24,12 @@ impl Oracle {
         player: u32,
         words: &[u16],
     ) -> Result<Plan, Refusal> {
-        refuse_if(player > 1, 11, 0)?;
+        refuse_if(player > 1 && !self.falls_for(Trap::OthersAsOdd), 11, 0)?;
         let plan = self.plan(game, words)?;
         let along =
             |&(i, j): &(usize, usize)| game.successors[plan.vertex[i]].contains(&plan.vertex[j]);
         refuse_at(plan.links.iter().position(|link| !along(link)), 14)?;
-        let player = if self.falls_for(Trap::PlayerFixed) { 0 } else { player as u16 };
+        let player = if self.falls_for(Trap::PlayerFixed) { 0 } else { player.min(1) as u16 };
         let judged = self.judged_positions(&plan);
         let lacking = |i: &usize| judged[*i] && self.lacks_link(game, player, &plan, *i);
         refuse_at((0..plan.vertex.len()).find(lacking), 15)?;
@@ -42,15 +42,18 @@ impl Oracle {
     fn plan(&self, game: &Game, words: &[u16]) -> Result<Plan, Refusal> {
         refuse_if(words.len() < 2, 12, 0)?;
         let (p, l) = (words[0] as usize, words[1] as usize);
-        refuse_if(p == 0 || p > MOST_POSITIONS || l > MOST_LINKS, 12, 0)?;
+        let beyond = p > MOST_POSITIONS || l > MOST_LINKS;
+        refuse_if(p == 0 || (beyond && !self.falls_for(Trap::PlanUnlimited)), 12, 0)?;
         refuse_if(words.len() != 2 + p + 2 * l, 12, 0)?;
         let numbers: Vec<usize> = words[2..].iter().map(|&word| word as usize).collect();
         let (vertex, ends) = numbers.split_at(p);
         let (sources, targets) = ends.split_at(l);
         let links: Vec<(usize, usize)> =
             sources.iter().copied().zip(targets.iter().copied()).collect();
-        refuse_at(vertex.iter().position(|&v| v >= game.n()).map(|i| 2 + i), 13)?;
-        refuse_at(self.bad_link_end(ends, &links, p).map(|i| 2 + p + i), 13)?;
+        let bad_vertex = vertex.iter().position(|&v| v >= game.n()).map(|i| 2 + i);
+        let bad_end = self.bad_link_end(ends, &links, p).map(|i| 2 + p + i);
+        let ends_first = self.falls_for(Trap::LinkEndsFirst);
+        refuse_at(if ends_first { bad_end.or(bad_vertex) } else { bad_vertex.or(bad_end) }, 13)?;
         let mut next = vec![Vec::new(); p];
         links.iter().for_each(|&(i, j)| next[i].push(j));
         Ok(Plan { vertex: vertex.to_vec(), links, next })

@@ -96,6 +96,12 @@ pub enum Trap {
     OneAnswerEnough,
     /// A repeated edge of the opponent asks for as many links.
     RepeatAsksTwice,
+    /// A player above 1 counts as Odd where a plan is judged.
+    OthersAsOdd,
+    /// The positions and links of a plan have no upper limits.
+    PlanUnlimited,
+    /// Link ends are checked before the vertices of positions.
+    LinkEndsFirst,
     /// The first bad link end is searched link by link.
     LinkEndsTogether,
     /// The highest priority of a closed walk decides.
@@ -261,7 +267,7 @@ pub enum Trap {
 
 impl Trap {
     /// The traps of the calls, those of document 01 first.
-    pub const OF_CALLS: [Trap; 113] = [
+    pub const OF_CALLS: [Trap; 116] = [
         Trap::SomeMemberHasEdge,
         Trap::LittleBrothersByProse,
         Trap::MixedRowsExchanged,
@@ -306,6 +312,9 @@ impl Trap {
         Trap::ReachableOnly,
         Trap::OneAnswerEnough,
         Trap::RepeatAsksTwice,
+        Trap::OthersAsOdd,
+        Trap::PlanUnlimited,
+        Trap::LinkEndsFirst,
         Trap::LinkEndsTogether,
         Trap::HighestDecides,
         Trap::LowestOnWalk,
