@@ -1,5 +1,5 @@
 -- What the desk's answers mean: "wins" is given exactly where the plan passes and starts at the vertex's class, and is true of the original
--- game; it is never given for both players.
+-- game.
 use mathlib.Core.Path.{_≡_, refl, sym, ap, _∙_}
 use mathlib.Core.Logic.{_↔_, _≢_}
 use mathlib.Core.Bool.{Bool}
@@ -10,10 +10,8 @@ use lib.ListN.{getD}
 use borrow.Author.Tests.{eqb-true, eqb-false, eq-eqb, ne-eqb}
 use Rattle.theory.specs.Bools.{bit}
 use Rattle.theory.specs.BoolsLaws.{bit-in, bit-out, bit-clear}
-use Rattle.theory.specs.Game.{even, other}
 use Rattle.theory.specs.Plan.{Won}
 use Rattle.theory.specs.Reduction.{reduced, classOf}
-use Rattle.theory.specs.WinnerLaws.{one-winner}
 use Rattle.table.specs.Table.{playerOf, gameOf}
 use Rattle.table.specs.Verdict.{Answer, accepted}
 use Rattle.reduction.specs.TableCall.{tableCounts, classTable}
@@ -75,13 +73,3 @@ module _ {game : List ℕ} {vertex player : ℕ} {plan marks spare classes reduc
       let w : Won (playerOf player) (gameOf (classTable reduced game)) class = (planOf plan, rw s at (f .accepts .wins)) in
       table-winner reduced-faithful t _ _ _ refl (playerOf player) vertex (f .vertexIn) .1
       (rw (table-is reduced-faithful t _ _ _ refl, class-word (table-leaves-classes t) (passed reduced-faithful t _ _ _ refl) vertex (f .vertexIn)) w)
-
--- it never says "wins" for both players at one vertex, whatever plans it is given, and whatever memory
-module _ {game : List ℕ} {vertex : ℕ}
-    {plan marks spare classes reduction : List ℕ} {answer : Answer} {marks′ spare′ classes′ reduction′ : List ℕ}
-    (call : VerdictCall game vertex 0 plan marks spare classes reduction answer marks′ spare′ classes′ reduction′)
-    {plan₂ marks₂ spare₂ classes₂ reduction₂ : List ℕ} {answer₂ : Answer} {marks₂′ spare₂′ classes₂′ reduction₂′ : List ℕ}
-    (call₂ : VerdictCall game vertex 1 plan₂ marks₂ spare₂ classes₂ reduction₂ answer₂ marks₂′ spare₂′ classes₂′ reduction₂′) where
-  pub one-verdict : Wins game answer → Wins game answer₂ → ⊥
-  unfolding playerOf other
-  one-verdict e o = one-winner even (gameOf game) vertex (confirmed call e) (confirmed call₂ o)

@@ -1,24 +1,28 @@
 -- The class of the vertex is decided in the written table, for the same player, and the desk says "wins" exactly where such a plan is handed in.
+-- It never says so for both players.
 use mathlib.Core.Path.{_≡_, sym, ap, _∙_}
 use mathlib.Core.List.{List, []}
 use Prim.Native.Nat.{ℕ, _<_}
 use native.Mathlib.Omega.{arith}
-use Rattle.theory.specs.Game.{Game}
+use Rattle.theory.specs.Game.{even, other, Game}
 use Rattle.theory.specs.Reduction.{reduced, classOf}
 use Rattle.theory.specs.ReductionLaws.{reduced-total, classOf-reduced}
+use Rattle.theory.specs.WinnerLaws.{one-winner}
 use Rattle.theory.specs.SameWinner.{same-winner, winner-reduced}
 use Rattle.theory.specs.Agreement.{Agree}
 use Rattle.theory.specs.AgreementLaws.{agree-sym, agree-winner}
-use Rattle.table.specs.Table.{vertexCount, gameOf}
+use Rattle.table.specs.Table.{vertexCount, playerOf, gameOf}
 use Rattle.table.specs.TableLaws.{game-n, game-total}
 use Rattle.table.specs.TableWords.{ownerWord, edgesOf}
 use Rattle.table.specs.TableWordsLaws.{tableWords-agree, edgesOf-lists}
+use Rattle.table.specs.Verdict.{Answer}
 use Rattle.table.specs.WellFormed.{WellFormed}
 use Rattle.reduction.specs.TableCall.{classTable}
 use Rattle.reduction.specs.TableRules.{TableFits}
 use Rattle.plan.specs.WinningLaws.{plan-accepted, plan-accepts}
 use Rattle.carry.specs.CarryCallLaws.{reduced-well}
-use Rattle.verdict.specs.ConfirmedLaws.{wins-exactly}
+use Rattle.verdict.specs.VerdictCall.{VerdictCall}
+use Rattle.verdict.specs.ConfirmedLaws.{Wins, wins-exactly, confirmed}
 use Rattle.winners.specs.Winners.{winnerOf, Decided}
 use Rattle.winners.specs.WinnersLaws.{decided}
 use Rattle.winners.specs.Desk.{DeskDecided}
@@ -69,3 +73,13 @@ module _ {game marks spare classes reduction : List ℕ} (fits : TableFits game 
         let (f, s) = wins-exactly call .0 e in
         there .only player words (record { accepted = plan-accepts T player words (f .accepts); start = s }) ∙ sym same;
   }
+
+-- it never says "wins" for both players at one vertex, whatever plans it is given, and whatever memory
+module _ {game : List ℕ} {vertex : ℕ}
+    {plan marks spare classes reduction : List ℕ} {answer : Answer} {marks′ spare′ classes′ reduction′ : List ℕ}
+    (call : VerdictCall game vertex 0 plan marks spare classes reduction answer marks′ spare′ classes′ reduction′)
+    {plan₂ marks₂ spare₂ classes₂ reduction₂ : List ℕ} {answer₂ : Answer} {marks₂′ spare₂′ classes₂′ reduction₂′ : List ℕ}
+    (call₂ : VerdictCall game vertex 1 plan₂ marks₂ spare₂ classes₂ reduction₂ answer₂ marks₂′ spare₂′ classes₂′ reduction₂′) where
+  pub one-verdict : Wins game answer → Wins game answer₂ → ⊥
+  unfolding playerOf other
+  one-verdict e o = one-winner even (gameOf game) vertex (confirmed call e) (confirmed call₂ o)
