@@ -22,7 +22,7 @@ use Rattle.verdict.specs.Verdicts.{AnswerSentences, Verdicts}
 module _ {game : List ℕ} {vertex player : ℕ} {plan marks spare classes reduction : List ℕ} {answer : Answer} {marks′ spare′ classes′ reduction′ : List ℕ}
     (call : VerdictCall game vertex player plan marks spare classes reduction answer marks′ spare′ classes′ reduction′) where
   -- after either answer and after 11 to 16 the rows before 11 were passed
-  desk-passed : OnceWritten OfPlan answer (Clean (deskRows game vertex marks spare classes reduction))
+  pub desk-passed : OnceWritten OfPlan answer (Clean (deskRows game vertex marks spare classes reduction))
   unfolding verdictRows
   desk-passed = record {
     accepts = λ counts e. clean-split (deskRows game vertex marks spare classes reduction) _ (judge-accepted _ _ counts (sym (call .verdict) ∙ e) .0) .0;

@@ -17,6 +17,8 @@ use Rattle.carry.specs.CarryCall.{CarryClassCall}
 use Rattle.carry.specs.WrittenPlanLaws.{PlanFrom}
 use Rattle.claims.specs.Written.{writtenTable}
 use Rattle.claims.specs.Sentences.{OnAcceptance, OnceWritten, AfterReduction}
+use Rattle.verdict.specs.VerdictCall.{VerdictCall}
+use Rattle.verdict.specs.VerdictRules.{OfPlan}
 
 -- the winner's number as a player: 0 Even, 1 Odd
 abbrev pub winnerOf : List ℕ → ℕ → ℕ
@@ -69,3 +71,9 @@ pub record CarryDecides (game : List ℕ) (player : ℕ) (plan : List ℕ) (vert
   pub call : CarryClassCall game player plan vertex marks spare classes reduction output answer marks′ spare′ classes′ reduction′ output′
   pub winners : OnceWritten AfterReduction answer
       (TableWinners game marks′ spare′ classes′ reduction′ (reduced (gameOf game) .n) (edgeCount (reduced (gameOf game))))
+
+-- the verdict call: after either answer, and refused after the reduced game is written
+pub record VerdictDecides (game : List ℕ) (vertex player : ℕ) (plan marks spare classes reduction : List ℕ) (answer : Answer)
+    (marks′ spare′ classes′ reduction′ : List ℕ) : Type 0 where
+  pub call : VerdictCall game vertex player plan marks spare classes reduction answer marks′ spare′ classes′ reduction′
+  pub winners : OnceWritten OfPlan answer (TableWinners game marks′ spare′ classes′ reduction′ (reduced (gameOf game) .n) (edgeCount (reduced (gameOf game))))

@@ -28,7 +28,10 @@ use Rattle.claims.specs.Written.{writtenTable, Faithful}
 use Rattle.claims.specs.Demands.{reduced-faithful, counts}
 use Rattle.claims.specs.Sentences.{OnAcceptance, OrderSentences}
 use Rattle.claims.specs.SentencesLaws.{once-map, orders, tabulates, table-passed, reduced-call}
-use Rattle.winners.specs.Winners.{AllDecided, OrderWinners, TableWinners, OrderDecides, TableDecides, CarryDecides}
+use Rattle.verdict.specs.VerdictCall.{VerdictCall}
+use Rattle.verdict.specs.VerdictRulesLaws.{verdict-table}
+use Rattle.verdict.specs.VerdictsLaws.{desk-passed}
+use Rattle.winners.specs.Winners.{AllDecided, OrderWinners, TableWinners, OrderDecides, TableDecides, CarryDecides, VerdictDecides}
 
 -- ---- exactly one player
 
@@ -119,4 +122,13 @@ pub carry-decides : {game : List ℕ} {player : ℕ} {plan : List ℕ} {vertex :
 carry-decides call = record {
   call = call;
   winners = once-map (table-passed call) (λ c. table-winners reduced-faithful (reduced-call call c) _ _ _ refl);
+}
+
+pub verdict-decides : {game : List ℕ} {vertex player : ℕ} {plan marks spare classes reduction : List ℕ} {answer : Answer}
+    {marks′ spare′ classes′ reduction′ : List ℕ}
+    → VerdictCall game vertex player plan marks spare classes reduction answer marks′ spare′ classes′ reduction′
+    → VerdictDecides game vertex player plan marks spare classes reduction answer marks′ spare′ classes′ reduction′
+verdict-decides call = record {
+  call = call;
+  winners = once-map (desk-passed call) (λ c. table-winners reduced-faithful (verdict-table call c) _ _ _ refl);
 }

@@ -3,11 +3,13 @@
 use carry::ClassCarrying;
 use order::Ordering;
 use reduction::Tabulation;
+use verdict::Verdict;
 ghost use Rattle.theory.specs.Reduction.{quotient, reduced};
 ghost use Rattle.order.specs.OrderCall.{orderingAnswer};
 ghost use Rattle.reduction.specs.TableCall.{tabulationAnswer};
 ghost use Rattle.carry.specs.CarryCall.{classCarryingAnswer};
-ghost use Rattle.winners.specs.Winners.{OrderDecides, TableDecides, CarryDecides};
+ghost use Rattle.verdict.specs.VerdictCall.{verdictAnswer};
+ghost use Rattle.winners.specs.Winners.{OrderDecides, TableDecides, CarryDecides, VerdictDecides};
 ghost use Rattle.winners.specs.Twice.{ReducesTwice};
 
 // The verdicts of two calls in a row.
@@ -74,6 +76,22 @@ pub fn carries_class(
         reduction,
         output,
     )
+}
+
+// Gives a verdict.
+pub fn gives_verdict(
+    game: &[u16],
+    vertex: u32,
+    player: u32,
+    plan: &[u16],
+    marks: &mut [u8],
+    spare: &mut [u8],
+    classes: &mut [u16],
+    reduction: &mut [u16],
+) -> Verdict
+    ensures { λ r. ⌜ VerdictDecides (now (game .entry)) vertex player (now (plan .entry)) (now (marks .entry)) (now (spare .entry)) (now (classes .entry)) (now (reduction .entry)) (verdictAnswer r) (now (marks .exit)) (now (spare .exit)) (now (classes .exit)) (now (reduction .exit)) ⌝ }
+{
+    verdict::give_verdict(game, vertex, player, plan, marks, spare, classes, reduction)
 }
 
 // Writes the reduced game, and then the reduced game of what was written, in a second set of buffers.
