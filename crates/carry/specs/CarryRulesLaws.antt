@@ -112,7 +112,7 @@ module _ (game : List ℕ) (player x y : ℕ) (C : Plan) (output : List ℕ) (K 
 -- ---- the rows before them
 
 module _ (g : List ℕ) (player : ℕ) (plan : List ℕ) (well : WellFormed g) where
-  clean-accepts : Clean (planRows g player plan) → Accepts g player plan
+  pub clean-accepts : Clean (planRows g player plan) → Accepts g player plan
   unfolding planAnswer
   clean-accepts c = plan-accepted g player plan [] (judge-clean _ [] (clean-append (gameRows g) _ (well-clean g well) c)) .0
 

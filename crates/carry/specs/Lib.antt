@@ -5,3 +5,4 @@ pub mod CarryRules
 pub mod CarryRulesLaws
 pub mod WrittenPlanLaws
 pub mod CarryMemoryLaws
+pub mod SameCarryLaws

@@ -10,8 +10,8 @@ use Rattle.theory.specs.Bools.{_&_, imp}
 use Rattle.theory.specs.RangeLaws.{all-ext, first-ext}
 use Rattle.theory.specs.Game.{parity, same}
 use Rattle.table.specs.Table.{vertexCount, playerOf, gameOf}
-use Rattle.table.specs.Verdict.{Row, Answer, accepted, refused, judge}
-use Rattle.table.specs.VerdictLaws.{judge-accepted, judge-past, judge-stays}
+use Rattle.table.specs.Verdict.{Row, judge}
+use Rattle.table.specs.VerdictLaws.{judge-past, judge-parts}
 use Rattle.table.specs.Reading.{gameRows}
 use Rattle.table.specs.ReadingLaws.{well-clean}
 use Rattle.table.specs.WellFormed.{WellFormed}
@@ -79,20 +79,17 @@ module _ {g h : List ℕ} (one : SameGame g h) (player : ℕ) (w : List ℕ) whe
   unfolding planRows
   same-rows f = rw (one .vertices, same-firstStray one player w f, same-firstLacking one player w f, same-firstReturn one player w f)
 
+  -- 11 to 16
+  pub same-planRows : WellFormed g → judge (planRows g player w) [] ≡ judge (planRows h player w) []
+  unfolding planRows
+  same-planRows wg =
+      judge-parts (take 3 (planRows g player w)) (take 3 (planRows h player w)) (drop 3 (planRows g player w)) (drop 3 (planRows h player w)) [] [] [] []
+      (ap (λ (rs : List Row). judge rs []) same-words)
+      (λ c. ap (λ (rs : List Row). judge (drop 3 rs) []) (same-rows (clean-words g player w wg c .formed)))
+
   pub same-plan : WellFormed g → WellFormed h → planAnswer g player w ≡ planAnswer h player w
-  unfolding planAnswer planRows
+  unfolding planAnswer
   same-plan wg wh =
       judge-past (gameRows g) _ [] (well-clean g wg)
-      ∙ go (judge words []) refl
+      ∙ same-planRows wg
       ∙ sym (judge-past (gameRows h) _ [] (well-clean h wh))
-    where
-      words : List Row
-      words = take 3 (planRows g player w)
-
-      go : (a : Answer) → judge words [] ≡ a → judge (planRows g player w) [] ≡ judge (planRows h player w) []
-      go (accepted counts) e =
-          ap (λ (rs : List Row). judge rs [])
-          (same-rows (clean-words g player w wg (judge-accepted words [] counts e .0) .formed))
-      go (refused k p) e =
-          judge-stays words (drop 3 (planRows g player w)) [] [] k p e
-          ∙ sym (judge-stays (take 3 (planRows h player w)) (drop 3 (planRows h player w)) [] [] k p (rw same-words at e))

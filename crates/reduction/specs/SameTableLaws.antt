@@ -53,7 +53,7 @@ module _ {g h : List ℕ} (same : SameGame g h) (K : Game → Game) (agree : Agr
   same-classTable : classTable K g ≡ classTable K h
   same-classTable = tableWords-one agree (edgesOf (K (gameOf g))) ∙ ap (tableWords (K (gameOf h))) (agree-edges agree)
 
-  same-tableCounts : tableCounts K g ≡ tableCounts K h
+  pub same-tableCounts : tableCounts K g ≡ tableCounts K h
   same-tableCounts = rw (same-classTotal same, agree-edgeCount agree, agree .size)
 
   module _ (marks spare classes output : List ℕ) where

@@ -9,7 +9,7 @@ use lib.ListN.{length, drop, getD, set, length-append, length-drop, List·getD-a
 use lib.Seq.{getD-append-add, getD-drop, drop-cons, set-append-seam, drop-at}
 use Rattle.theory.specs.Range.{tabulate}
 use Rattle.theory.specs.ListLaws.{length-tabulate, tabulate-snoc}
-use Rattle.table.specs.Verdict.{Row, accepted, refused, judge, Clean, written, after}
+use Rattle.table.specs.Verdict.{Row, Answer, accepted, refused, judge, Clean, written, after}
 
 -- ---- answers
 
@@ -144,6 +144,30 @@ after-refused (r ∷ rs) counts {k} {p} new old e = go (r .condition) e (after-r
         → (judge rs counts ≡ refused k p → after rs new old ≡ old) → cond b old (after rs new old) ≡ old
     go true e ih = refl
     go false e ih = ih e
+
+-- ---- two calls that answer the same
+
+-- rows in two parts: the first parts answer the same, and where they are passed the second do
+pub judge-parts : (rs rs′ ss ss′ : List Row) (given given′ counts counts′ : List ℕ) → judge rs given ≡ judge rs′ given′
+    → (Clean rs → judge ss counts ≡ judge ss′ counts′) → judge (rs ++ ss) counts ≡ judge (rs′ ++ ss′) counts′
+judge-parts rs rs′ ss ss′ given given′ counts counts′ e rest = go (judge rs given) refl
+  where
+    go : (a : Answer) → judge rs given ≡ a → judge (rs ++ ss) counts ≡ judge (rs′ ++ ss′) counts′
+    go (accepted xs) q =
+        let c = judge-accepted rs given xs q .0 in
+        judge-past rs ss counts c ∙ rest c ∙ sym (judge-past rs′ ss′ counts′ (judge-accepted rs′ given′ xs (sym e ∙ q) .0))
+    go (refused k p) q = judge-stays rs ss given counts k p q ∙ sym (judge-stays rs′ ss′ given′ counts′ k p (sym e ∙ q))
+
+-- so a buffer is the same, if the stated words are
+pub after-judged : (rs rs′ : List Row) (counts counts′ : List ℕ) {new new′ : List ℕ} (old : List ℕ) → judge rs counts ≡ judge rs′ counts′
+    → (Clean rs → new ≡ new′) → after rs new old ≡ after rs′ new′ old
+after-judged rs rs′ counts counts′ {new} {new′} old e words = go (judge rs counts) refl
+  where
+    go : (a : Answer) → judge rs counts ≡ a → after rs new old ≡ after rs′ new′ old
+    go (accepted xs) q =
+        after-accepted rs counts new old q ∙ ap (λ (ys : List ℕ). written ys old) (words (judge-accepted rs counts xs q .0))
+        ∙ sym (after-accepted rs′ counts′ new′ old (sym e ∙ q))
+    go (refused k p) q = after-refused rs counts new old q ∙ sym (after-refused rs′ counts′ new′ old (sym e ∙ q))
 
 pub length-after : (rs : List Row) (new old : List ℕ) → length new ≤ length old → length (after rs new old) ≡ length old
 unfolding after

@@ -233,6 +233,22 @@ module _ (moves : ℕ × ℕ → List (ℕ × ℕ)) (P : ℕ × ℕ → Type 0) 
       go true e ih = subst (λ (k : ℕ). Ended k r) (omega arith) (ih (done-step k s (ltb-true k (size s) e) d))
       go false e ih = record { upto = k; done = d; why = inl (omega (arith, d .upto, ltb-false k (size s) e)) }
 
+  -- moves that are the same where P holds find the same pairs and links
+  pub search-ext : (moves′ : ℕ × ℕ → List (ℕ × ℕ)) → ((x : ℕ × ℕ) → P x → moves x ≡ moves′ x) → (f k : ℕ) (s : Found) → Done k s
+      → search moves f k s ≡ search moves′ f k s
+  unfolding search
+  search-ext moves′ same zero k s d = refl
+  search-ext moves′ same (suc f) k s d = go (ltb k (size s)) refl (search-ext moves′ same f (suc k) (visits k s (moves (pairAt s k))))
+    where
+      go : (b : Bool) → ltb k (size s) ≡ b
+          → (Done (suc k) (visits k s (moves (pairAt s k)))
+          → search moves f (suc k) (visits k s (moves (pairAt s k))) ≡ search moves′ f (suc k) (visits k s (moves (pairAt s k))))
+          → cond b (search moves f (suc k) (visits k s (moves (pairAt s k)))) s ≡ cond b (search moves′ f (suc k) (visits k s (moves′ (pairAt s k)))) s
+      go true e ih =
+          let l = ltb-true k (size s) e in
+          ih (done-step k s l d) ∙ ap (λ (xs : List (ℕ × ℕ)). search moves′ f (suc k) (visits k s xs)) (same (pairAt s k) (d .holds k l))
+      go false e ih = refl
+
   -- a number below `most` for each pair with P: so there are at most that many, and with that many steps all are done
   module _ (most : ℕ) (number : ℕ × ℕ → ℕ) (room : (x : ℕ × ℕ) → P x → number x < most)
       (one : (x y : ℕ × ℕ) → P x → P y → number x ≡ number y → x ≡ y) where

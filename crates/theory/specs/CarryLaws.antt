@@ -168,6 +168,10 @@ module _ (a : Player) (G₁ G₂ : Game) (K : Rel) (P : Plan) where
       go true t = movesBelow-out (x .0) (x .1) (G₂ .n) (omega arith) y (take-one-out l y t)
       go false t = movesBelow-out (x .0) (x .1) (G₂ .n) (omega arith) y t
 
+  -- along a link, to a vertex
+  pub moves-inside : (x y : ℕ × ℕ) → Among y (movesOf a G₁ G₂ K P x) → So (linked (P .links) (x .0) (y .0)) × (y .1 < G₂ .n)
+  moves-inside x y t = let m = moves-out x y t in (follow-over (x .0) (y .0) (m .link), m .next .inside)
+
   moves-own : (x : ℕ × ℕ) (j w : ℕ) → So (own G₂ a (x .1)) → Move (x .0) (x .1) j w → (y : ℕ × ℕ) × Among y (movesOf a G₁ G₂ K P x)
   unfolding movesOf
   moves-own x j w o m = let (j′, t) = movesBelow-in (x .0) (x .1) j w (G₂ .n) (m .next .inside) m in rw o (take-one-in _ (j′, w) t)

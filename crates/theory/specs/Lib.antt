@@ -55,6 +55,7 @@ pub mod ParityMap
 pub mod ParityMapLaws
 pub mod Agreement
 pub mod AgreementLaws
+pub mod CarryAgreementLaws
 pub mod Minimal
 pub mod MinimalLaws
 pub mod FixedPointLaws

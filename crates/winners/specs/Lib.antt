@@ -4,4 +4,5 @@ pub mod Twice
 pub mod TwiceLaws
 pub mod Desk
 pub mod DeskLaws
+pub mod SameVerdictLaws
 pub mod Applied
