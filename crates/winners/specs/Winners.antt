@@ -1,5 +1,5 @@
 -- Who wins, about slices: at each vertex of an accepted game exactly one player has a plan that passes, and at its class in a written table the
--- same player has. The functions of this crate promise it of the calls that leave the order, and of those that leave a game of classes.
+-- same player has. The functions of this crate promise it of the order call and of each call that leaves a game of classes.
 use mathlib.Core.Path.{_≡_}
 use mathlib.Core.List.{List, [], _∷_}
 use Prim.Native.Nat.{ℕ, _<_}
