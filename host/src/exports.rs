@@ -265,7 +265,7 @@ pub fn carry_class(
     )
 }
 
-/// The verdict desk.
+/// The verdict call.
 #[allow(clippy::too_many_arguments)]
 pub fn verdict(
     game: &[u16],

@@ -146,7 +146,7 @@ pub struct Replay {
     pub entries: usize,
 }
 
-/// What the verdict desk answers. The size is the reduced game's, whose vertices are the classes.
+/// What the verdict call answers. The size is the reduced game's, whose vertices are the classes.
 #[derive(Clone, Copy, Debug, PartialEq, Eq)]
 pub enum Verdict {
     /// The player wins at the vertex: there is a winning plan from it in the game.

@@ -1,4 +1,4 @@
--- The promise of the desk's export: the library's answer, its fields, and the library's promise.
+-- The promise of the verdict call's export: the library's answer, its fields, and the library's promise.
 use mathlib.Core.Path.{_≡_}
 use mathlib.Core.List.{List}
 use Prim.Native.Nat.{ℕ}

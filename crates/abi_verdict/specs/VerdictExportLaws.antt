@@ -1,4 +1,4 @@
--- The desk's counts are those of the reduced-game call, so they fit the answer's fields.
+-- The verdict call's counts are those of the reduced-game call, so they fit the answer's fields.
 use mathlib.Core.Path.{_≡_, refl, sym, ap, subst}
 use mathlib.Core.List.{List, [], _∷_}
 use Prim.Native.Nat.{ℕ}
@@ -12,7 +12,7 @@ use Rattle.reduction.specs.declared.Tabulation.{Tabulation}
 use Rattle.answer.specs.Fields.{SmallCounts}
 use Rattle.answer.specs.FieldsLaws.{tabulation-small}
 use Rattle.verdict.specs.VerdictCall.{verdictAnswer, VerdictCall}
-use Rattle.verdict.specs.VerdictRulesLaws.{desk-fits, verdict-accepted, verdict-table}
+use Rattle.verdict.specs.VerdictRulesLaws.{front-fits, verdict-accepted, verdict-table}
 use Rattle.verdict.specs.declared.Verdict.{Verdict}
 use Rattle.abi_verdict.specs.VerdictExport.{SmallVerdict}
 
@@ -26,7 +26,7 @@ module _ (game : List ℕ) (vertex player : ℕ) (plan marks spare classes reduc
       let e : tableCounts reduced game ≡ c .classes ∷ c .vertices ∷ c .edges ∷ [] = sym (ap (λ (xs : List ℕ). take 3 xs) q) in
       tabulation-small reduced reduced-size reduced-edges game marks spare classes reduction (Tabulation.Accepted c) marks′ spare′ classes′ reduction′
       (subst (λ (xs : List ℕ). TableCall reduced game marks spare classes reduction (accepted xs) marks′ spare′ classes′ reduction′) e
-      (verdict-table call (desk-fits game vertex marks spare classes reduction (f .tableFits) (f .vertexIn))))
+      (verdict-table call (front-fits game vertex marks spare classes reduction (f .tableFits) (f .vertexIn))))
 
   pub verdict-small : (r : Verdict) → Call (verdictAnswer r) → SmallVerdict r
   verdict-small (Verdict.Wins c) call = counts-small c 1 call

@@ -1,4 +1,4 @@
-// The verdict desk's export, in the form of those of `abi`.
+// The verdict call's export, in the form of those of `abi`.
 use answer::RaskjomiAnswer;
 use answer::of_tabulation;
 use reduction::Tabulation;

@@ -21,7 +21,7 @@ ghost use Rattle.carry.specs.CarryCall.{classCarryingAnswer};
 ghost use Rattle.answer.specs.Fields.{counted, turnedDown, readFields, orderFields, acceptFields, classesFields, tableFields, fillFields, carryFields, classCarryFields, replayFields, SmallSizes, SmallFilling, SmallCount, SmallCounts, SmallCarrying, SmallClassCarrying, SmallReplaying};
 
 // Number 0 for accepted, with the counts of the call; otherwise the refusal. All other fields are 0, but that a replay tells its entries with a
-// refusal too. `shown` is 1 where the desk says "wins".
+// refusal too. `shown` is 1 where the verdict call says "wins".
 #[repr(C)]
 pub struct RaskjomiAnswer {
     pub number: u32,

@@ -1,4 +1,4 @@
--- What the desk's answers mean: "wins" is given exactly where the plan passes and starts at the vertex's class, and is true of the original
+-- What the answers of the verdict call mean: "wins" is given exactly where the plan passes and starts at the vertex's class, and is true of the original
 -- game.
 use mathlib.Core.Path.{_≡_, refl, sym, ap, _∙_}
 use mathlib.Core.Logic.{_↔_, _≢_}
@@ -19,7 +19,7 @@ use Rattle.links.specs.PlanTable.{vertexAt, planOf}
 use Rattle.claims.specs.Demands.{reduced-faithful, class-word, table-leaves-classes, passed, table-is, table-winner}
 use Rattle.verdict.specs.VerdictCall.{shownFor, VerdictCall}
 use Rattle.verdict.specs.VerdictRules.{VerdictFits}
-use Rattle.verdict.specs.VerdictRulesLaws.{desk-fits, verdict-table, verdict-accepted, verdict-accepts}
+use Rattle.verdict.specs.VerdictRulesLaws.{front-fits, verdict-table, verdict-accepted, verdict-accepts}
 
 -- the answers: with the counts of the classes and of the reduction, 1 for "wins" and 0 for "not shown"
 abbrev pub Wins : List ℕ → Answer → Type 0
@@ -69,7 +69,7 @@ module _ {game : List ℕ} {vertex player : ℕ} {plan marks spare classes reduc
   pub confirmed : Wins game answer → Won (playerOf player) (gameOf game) vertex
   confirmed e =
       let (f, s) = wins-exactly .0 e in
-      let t = verdict-table call (desk-fits game vertex marks spare classes reduction (f .tableFits) (f .vertexIn)) in
+      let t = verdict-table call (front-fits game vertex marks spare classes reduction (f .tableFits) (f .vertexIn)) in
       let w : Won (playerOf player) (gameOf (classTable reduced game)) class = (planOf plan, rw s at (f .accepts .wins)) in
       table-winner reduced-faithful t _ _ _ refl (playerOf player) vertex (f .vertexIn) .1
       (rw (table-is reduced-faithful t _ _ _ refl, class-word (table-leaves-classes t) (passed reduced-faithful t _ _ _ refl) vertex (f .vertexIn)) w)

@@ -1,4 +1,4 @@
--- The verdict desk: document 02, CR 14, with its table of refusals. The plan is on the reduced game.
+-- The verdict call: document 02, CR 14, with its table of refusals. The plan is on the reduced game.
 use mathlib.Core.Path.{_≡_}
 use mathlib.Core.List.{List, [], _∷_, _++_}
 use Prim.Native.Nat.{ℕ}
@@ -24,8 +24,8 @@ verdictAnswer (Verdict.NotShown c) = accepted (c .classes ∷ c .vertices ∷ c 
 verdictAnswer (Verdict.Refused f) = refused (f .number) (f .place)
 
 -- 1 to 8; 33, "a vertex not below n"; 21 to 24: what is judged before order, classes and reduction are written
-unfoldable pub deskRows : List ℕ → ℕ → List ℕ → List ℕ → List ℕ → List ℕ → List Row
-deskRows game vertex marks spare classes reduction =
+unfoldable pub beforePlanRows : List ℕ → ℕ → List ℕ → List ℕ → List ℕ → List ℕ → List Row
+beforePlanRows game vertex marks spare classes reduction =
     gameRows game
     ++ ((row 33 (leb (vertexCount game) vertex) vertex ∷ [])
     ++ (memoryRows (vertexCount game) (length marks) (length spare) (length classes)
@@ -34,7 +34,7 @@ deskRows game vertex marks spare classes reduction =
 -- then 11 to 16 about the reduced game
 unfoldable pub verdictRows : List ℕ → ℕ → ℕ → List ℕ → List ℕ → List ℕ → List ℕ → List ℕ → List Row
 verdictRows game vertex player plan marks spare classes reduction =
-    deskRows game vertex marks spare classes reduction ++ planRows (classTable reduced game) player plan
+    beforePlanRows game vertex marks spare classes reduction ++ planRows (classTable reduced game) player plan
 
 -- "starts at the vertex's class": 1 if so, else 0
 unfoldable pub shownFor : List ℕ → ℕ → List ℕ → ℕ
@@ -48,10 +48,10 @@ verdictCounts game vertex plan = tableCounts reduced game ++ (shownFor game vert
 pub record VerdictCall (game : List ℕ) (vertex player : ℕ) (plan marks spare classes reduction : List ℕ) (answer : Answer)
     (marks′ spare′ classes′ reduction′ : List ℕ) : Type 0 where
   pub verdict : answer ≡ judge (verdictRows game vertex player plan marks spare classes reduction) (verdictCounts game vertex plan)
-  pub marks-after : marks′ ≡ after (deskRows game vertex marks spare classes reduction) (orderBytes game) marks
-  pub spare-after : spare′ ≡ after (deskRows game vertex marks spare classes reduction) (orderBytes game) spare
-  pub classes-after : classes′ ≡ after (deskRows game vertex marks spare classes reduction) (classWords game) classes
-  pub reduction-after : reduction′ ≡ after (deskRows game vertex marks spare classes reduction) (classTable reduced game) reduction
+  pub marks-after : marks′ ≡ after (beforePlanRows game vertex marks spare classes reduction) (orderBytes game) marks
+  pub spare-after : spare′ ≡ after (beforePlanRows game vertex marks spare classes reduction) (orderBytes game) spare
+  pub classes-after : classes′ ≡ after (beforePlanRows game vertex marks spare classes reduction) (classWords game) classes
+  pub reduction-after : reduction′ ≡ after (beforePlanRows game vertex marks spare classes reduction) (classTable reduced game) reduction
 
 -- The plan acceptor on any table, with these counts and whether the plan starts at the class. No public promise cites it.
 unfoldable pub startAnswer : List ℕ → ℕ → List ℕ → ℕ → TableCounts → Answer

@@ -1,4 +1,4 @@
--- The promise of the desk at each way out, from the promises of the reader, the reduced-game call and the plan acceptor.
+-- The promise of the verdict call at each way out, from the promises of the reader, the reduced-game call and the plan acceptor.
 use mathlib.Core.Path.{_≡_, sym, ap, ap₂, _∙_}
 use mathlib.Core.Logic.{_≢_}
 use mathlib.Core.List.{List, [], _∷_, _++_, append-assoc}
@@ -30,7 +30,7 @@ use Rattle.plan.specs.WinningLaws.{plan-accepted}
 use Rattle.plan.specs.NumbersLaws.{recount, judge-number, plan-numbers}
 use Rattle.claims.specs.Written.{writtenTable}
 use Rattle.claims.specs.Demands.{reduced-faithful, class-word, class-long, table-leaves-classes, passed, table-is, table-long, table-read}
-use Rattle.verdict.specs.VerdictCall.{deskRows, verdictRows, shownFor, verdictCounts, VerdictCall, startAnswer}
+use Rattle.verdict.specs.VerdictCall.{beforePlanRows, verdictRows, shownFor, verdictCounts, VerdictCall, startAnswer}
 
 -- ---- the plan acceptor on a table that the reader accepts
 
@@ -96,11 +96,11 @@ module _ {game marks spare classes reduction : List ℕ} {answer : Answer} {mark
   pub classes-long : vertexCount game ≤ length classes′
   classes-long = class-long (table-leaves-classes table) (passed reduced-faithful table _ _ _ accepts)
 
--- ---- the desk
+-- ---- the verdict call
 
 module _ (game : List ℕ) (vertex player : ℕ) (plan marks spare classes reduction : List ℕ) where
-  abbrev desk : List Row
-  desk = deskRows game vertex marks spare classes reduction
+  abbrev front : List Row
+  front = beforePlanRows game vertex marks spare classes reduction
 
   abbrev tabled : List Row
   tabled = tableRows game marks spare classes reduction
@@ -112,14 +112,14 @@ module _ (game : List ℕ) (vertex player : ℕ) (plan marks spare classes reduc
   Call = VerdictCall game vertex player plan marks spare classes reduction
 
   -- a refusal before anything is written
-  desk-old : (k p : ℕ) → judge desk [] ≡ refused k p → Call (refused k p) marks spare classes reduction
+  front-refused : (k p : ℕ) → judge front [] ≡ refused k p → Call (refused k p) marks spare classes reduction
   unfolding verdictRows
-  desk-old k p e = record {
-    verdict = sym (judge-stays desk _ [] counts k p e);
-    marks-after = sym (after-refused desk [] (orderBytes game) marks e);
-    spare-after = sym (after-refused desk [] (orderBytes game) spare e);
-    classes-after = sym (after-refused desk [] (classWords game) classes e);
-    reduction-after = sym (after-refused desk [] (classTable reduced game) reduction e);
+  front-refused k p e = record {
+    verdict = sym (judge-stays front _ [] counts k p e);
+    marks-after = sym (after-refused front [] (orderBytes game) marks e);
+    spare-after = sym (after-refused front [] (orderBytes game) spare e);
+    classes-after = sym (after-refused front [] (classWords game) classes e);
+    reduction-after = sym (after-refused front [] (classTable reduced game) reduction e);
   }
 
   abbrev beyond : Row
@@ -132,35 +132,35 @@ module _ (game : List ℕ) (vertex player : ℕ) (plan marks spare classes reduc
   room = memoryRow 24 (tableLength (vertexCount game) (tableEdges game)) reduction ∷ []
 
   -- the reader's refusal, taken out of its verdict
-  pub desk-handed : (reading : Reading) (f g : Refusal) → reading ≡ Refused f → readingAnswer reading ≡ readAnswer game → g ≡ refusalOf reading
+  pub verdict-handed : (reading : Reading) (f g : Refusal) → reading ≡ Refused f → readingAnswer reading ≡ readAnswer game → g ≡ refusalOf reading
       → Call (refused (g .number) (g .place)) marks spare classes reduction
-  unfolding deskRows readAnswer
-  desk-handed reading f g e a r =
+  unfolding beforePlanRows readAnswer
+  verdict-handed reading f g e a r =
       rw (r, e)
-      (desk-old (f .number) (f .place) (judge-stays (gameRows game) _ _ [] _ _ (sym (rw e at a))))
+      (front-refused (f .number) (f .place) (judge-stays (gameRows game) _ _ [] _ _ (sym (rw e at a))))
 
   module _ (well : Clean (gameRows game)) where
     -- 33, straight after them
-    pub desk-beyond : vertexCount game ≤ vertex → Call (refused 33 vertex) marks spare classes reduction
-    unfolding deskRows
-    desk-beyond h =
-        desk-old 33 vertex (judge-past (gameRows game) _ [] well ∙ judge-hit beyond _ [] (le-leb (vertexCount game) vertex h))
+    pub verdict-beyond : vertexCount game ≤ vertex → Call (refused 33 vertex) marks spare classes reduction
+    unfolding beforePlanRows
+    verdict-beyond h =
+        front-refused 33 vertex (judge-past (gameRows game) _ [] well ∙ judge-hit beyond _ [] (le-leb (vertexCount game) vertex h))
 
     module _ (below : vertex < vertexCount game) where
       inside : Clean (beyond ∷ [])
       inside = (lt-leb (vertexCount game) vertex below, tt)
 
       -- from there the rows are those of the reduced-game call
-      pub desk-judge : (given : List ℕ) → judge desk given ≡ judge tabled given
-      unfolding deskRows tableRows classRows
-      desk-judge given =
+      pub front-judge : (given : List ℕ) → judge front given ≡ judge tabled given
+      unfolding beforePlanRows tableRows classRows
+      front-judge given =
           judge-past (gameRows game) _ given well ∙ judge-past (beyond ∷ []) (memory ++ room) given inside
           ∙ sym (judge-past (gameRows game) (memory ++ room) given well)
           ∙ ap (λ (rs : List Row). judge rs given) (sym (append-assoc (gameRows game) memory room))
 
-      pub desk-after : (new old : List ℕ) → after desk new old ≡ after tabled new old
-      unfolding deskRows tableRows classRows
-      desk-after new old =
+      pub front-after : (new old : List ℕ) → after front new old ≡ after tabled new old
+      unfolding beforePlanRows tableRows classRows
+      front-after new old =
           after-past (gameRows game) _ new old well ∙ after-past (beyond ∷ []) (memory ++ room) new old inside
           ∙ sym (after-past (gameRows game) (memory ++ room) new old well)
           ∙ ap (λ (rs : List Row). after rs new old) (sym (append-assoc (gameRows game) memory room))
@@ -168,14 +168,14 @@ module _ (game : List ℕ) (vertex player : ℕ) (plan marks spare classes reduc
       module _ {answer : Answer} {marks′ spare′ classes′ reduction′ : List ℕ}
           (table : TableCall reduced game marks spare classes reduction answer marks′ spare′ classes′ reduction′) where
         -- a refusal of the memory
-        pub desk-short : (k p : ℕ) → answer ≡ refused k p → Call (refused k p) marks′ spare′ classes′ reduction′
+        pub verdict-short : (k p : ℕ) → answer ≡ refused k p → Call (refused k p) marks′ spare′ classes′ reduction′
         unfolding verdictRows
-        desk-short k p e = record {
-          verdict = sym (judge-stays desk _ (tableCounts reduced game) counts k p (desk-judge _ ∙ sym (table .verdict) ∙ e));
-          marks-after = table .marks-after ∙ sym (desk-after (orderBytes game) marks);
-          spare-after = table .spare-after ∙ sym (desk-after (orderBytes game) spare);
-          classes-after = table .classes-after ∙ sym (desk-after (classWords game) classes);
-          reduction-after = table .output-after ∙ sym (desk-after (classTable reduced game) reduction);
+        verdict-short k p e = record {
+          verdict = sym (judge-stays front _ (tableCounts reduced game) counts k p (front-judge _ ∙ sym (table .verdict) ∙ e));
+          marks-after = table .marks-after ∙ sym (front-after (orderBytes game) marks);
+          spare-after = table .spare-after ∙ sym (front-after (orderBytes game) spare);
+          classes-after = table .classes-after ∙ sym (front-after (classWords game) classes);
+          reduction-after = table .output-after ∙ sym (front-after (classTable reduced game) reduction);
         }
 
         module _ (c : TableCounts) (accepts : answer ≡ accepted (c .classes ∷ c .vertices ∷ c .edges ∷ [])) where
@@ -192,19 +192,20 @@ module _ (game : List ℕ) (vertex player : ℕ) (plan marks spare classes reduc
               ap₂ (λ (xs : List ℕ) (x : ℕ). xs ++ (bit (eqb (vertexAt plan 0) x) ∷ [])) (sym e)
               (class-word (table-leaves-classes table) (passed reduced-faithful table _ _ _ accepts) vertex below)
 
-          desk-clean : Clean desk
-          desk-clean = judge-accepted desk (tableCounts reduced game) _ (desk-judge _ ∙ sym (table .verdict) ∙ accepts) .0
+          front-clean : Clean front
+          front-clean = judge-accepted front (tableCounts reduced game) _ (front-judge _ ∙ sym (table .verdict) ∙ accepts) .0
 
           -- what the plan acceptor says of the written table, and where the plan starts
-          pub desk-judged : (answer₂ : Answer) → answer₂ ≡ startAnswer t player plan (getD classes′ vertex 0) c → Call answer₂ marks′ spare′ classes′ reduction′
+          pub verdict-judged : (answer₂ : Answer) → answer₂ ≡ startAnswer t player plan (getD classes′ vertex 0) c
+              → Call answer₂ marks′ spare′ classes′ reduction′
           unfolding verdictRows startAnswer
-          desk-judged answer₂ e = record {
+          verdict-judged answer₂ e = record {
             verdict =
                 e ∙ read-plan t player plan (table-read reduced-faithful table _ _ _ accepts) given
                 ∙ ap₂ (λ (w xs : List ℕ). judge (planRows w player plan) xs) (table-is reduced-faithful table _ _ _ accepts) counts-are
-                ∙ sym (judge-past desk _ counts desk-clean);
-            marks-after = table .marks-after ∙ sym (desk-after (orderBytes game) marks);
-            spare-after = table .spare-after ∙ sym (desk-after (orderBytes game) spare);
-            classes-after = table .classes-after ∙ sym (desk-after (classWords game) classes);
-            reduction-after = table .output-after ∙ sym (desk-after (classTable reduced game) reduction);
+                ∙ sym (judge-past front _ counts front-clean);
+            marks-after = table .marks-after ∙ sym (front-after (orderBytes game) marks);
+            spare-after = table .spare-after ∙ sym (front-after (orderBytes game) spare);
+            classes-after = table .classes-after ∙ sym (front-after (classWords game) classes);
+            reduction-after = table .output-after ∙ sym (front-after (classTable reduced game) reduction);
           }

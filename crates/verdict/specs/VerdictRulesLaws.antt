@@ -1,4 +1,4 @@
--- Laws of the desk: it refuses k at p exactly as its table says, gives an answer exactly otherwise, and leaves memory old after 1 to 8, 33 and
+-- Laws of the verdict call: it refuses k at p exactly as its table says, gives an answer exactly otherwise, and leaves memory old after 1 to 8, 33 and
 -- 21 to 24 alone.
 use mathlib.Core.Path.{_≡_, refl, sym, _∙_}
 use mathlib.Core.Logic.{_↔_}
@@ -28,42 +28,42 @@ use Rattle.plan.specs.AcceptanceLaws.{plan-decides}
 use Rattle.plan.specs.WinningLaws.{plan-accepted, plan-accepts}
 use Rattle.plan.specs.NumbersLaws.{Numbers, numbers-append, game-numbers, plan-numbers, refused-first, passed-first}
 use Rattle.claims.specs.Demands.{reduced-faithful, table-is, table-read}
-use Rattle.verdict.specs.VerdictCall.{deskRows, verdictRows, verdictCounts, VerdictCall}
-use Rattle.verdict.specs.VerdictCallLaws.{read-plan, desk-judge, desk-after}
-use Rattle.verdict.specs.VerdictRules.{deskRules, verdictRules, VerdictFits, OfPlan}
+use Rattle.verdict.specs.VerdictCall.{beforePlanRows, verdictRows, verdictCounts, VerdictCall}
+use Rattle.verdict.specs.VerdictCallLaws.{read-plan, front-judge, front-after}
+use Rattle.verdict.specs.VerdictRules.{beforePlanRules, verdictRules, VerdictFits, OfPlan}
 
 module _ (game : List ℕ) (vertex : ℕ) (marks spare classes reduction : List ℕ) where
-  abbrev desk : List Row
-  desk = deskRows game vertex marks spare classes reduction
+  abbrev before : List Row
+  before = beforePlanRows game vertex marks spare classes reduction
 
   abbrev tabled : List Row
   tabled = tableRows game marks spare classes reduction
 
-  desk-render : Rendered desk (deskRules game vertex marks spare classes reduction)
-  unfolding deskRows
-  desk-render =
+  front-render : Rendered before (beforePlanRules game vertex marks spare classes reduction)
+  unfolding beforePlanRows
+  front-render =
       rendered-append (rows-render game)
       (next (renders-placed 33 vertex _ _ (leb-true (vertexCount game) vertex, le-leb (vertexCount game) vertex))
       (rendered-append (memory-rows-render (vertexCount game) marks spare classes) (next (memory-renders 24 _ reduction) none)))
 
   -- the rows before 21 are passed
-  pub desk-front : Clean desk → WellFormed game × (vertex < vertexCount game)
-  unfolding deskRows
-  desk-front c =
+  pub front-vertex : Clean before → WellFormed game × (vertex < vertexCount game)
+  unfolding beforePlanRows
+  front-vertex c =
       let (g, (v, _)) = clean-split (gameRows game) _ c in
       (clean-well game g, leb-false (vertexCount game) vertex v)
 
   -- and with them those of the reduced-game call
-  pub desk-table : Clean desk → Clean tabled
-  desk-table c =
-      let (well, below) = desk-front c in
+  pub front-table : Clean before → Clean tabled
+  front-table c =
+      let (well, below) = front-vertex c in
       judge-accepted tabled [] []
-      (sym (desk-judge game vertex 0 [] marks spare classes reduction (well-clean game well) below []) ∙ judge-clean desk [] c) .0
+      (sym (front-judge game vertex 0 [] marks spare classes reduction (well-clean game well) below []) ∙ judge-clean before [] c) .0
 
-  pub desk-fits : TableFits game marks spare classes reduction → vertex < vertexCount game → Clean desk
-  desk-fits f below =
-      judge-accepted desk [] []
-      (desk-judge game vertex 0 [] marks spare classes reduction (well-clean game (f .classesFit .orderFits .game)) below []
+  pub front-fits : TableFits game marks spare classes reduction → vertex < vertexCount game → Clean before
+  front-fits f below =
+      judge-accepted before [] []
+      (front-judge game vertex 0 [] marks spare classes reduction (well-clean game (f .classesFit .orderFits .game)) below []
       ∙ judge-clean tabled [] (table-clean game marks spare classes reduction f)) .0
 
 -- ---- the call
@@ -74,7 +74,7 @@ module _ {game : List ℕ} {vertex player : ℕ} {plan marks spare classes reduc
   rows = verdictRows game vertex player plan marks spare classes reduction
 
   abbrev front : List Row
-  front = deskRows game vertex marks spare classes reduction
+  front = beforePlanRows game vertex marks spare classes reduction
 
   abbrev Fits : Type 0
   Fits = VerdictFits game vertex player plan marks spare classes reduction
@@ -82,9 +82,9 @@ module _ {game : List ℕ} {vertex player : ℕ} {plan marks spare classes reduc
   -- once the rows before 11 are passed, memory is as the reduced-game call leaves it
   pub verdict-table : Clean front → TableCall reduced game marks spare classes reduction (accepted (tableCounts reduced game)) marks′ spare′ classes′ reduction′
   verdict-table c =
-      let (well, below) = desk-front game vertex marks spare classes reduction c in
-      let same = desk-after game vertex player plan marks spare classes reduction (well-clean game well) below in record {
-        verdict = sym (judge-clean (tableRows game marks spare classes reduction) _ (desk-table game vertex marks spare classes reduction c));
+      let (well, below) = front-vertex game vertex marks spare classes reduction c in
+      let same = front-after game vertex player plan marks spare classes reduction (well-clean game well) below in record {
+        verdict = sym (judge-clean (tableRows game marks spare classes reduction) _ (front-table game vertex marks spare classes reduction c));
         marks-after = call .marks-after ∙ same (orderBytes game) marks;
         spare-after = call .spare-after ∙ same (orderBytes game) spare;
         classes-after = call .classes-after ∙ same (classWords game) classes;
@@ -116,7 +116,7 @@ module _ {game : List ℕ} {vertex player : ℕ} {plan marks spare classes reduc
   unfolding verdictRows
   verdict-refused k p =
       let d =
-      decides-append (rendered-decides (desk-render game vertex marks spare classes reduction))
+      decides-append (rendered-decides (front-render game vertex marks spare classes reduction))
       (λ c. plan-decides (classTable reduced game) player plan (reduced-well c)) in
       let r = d .refuses (verdictCounts game vertex plan) k p in
       (λ e. r .0 (sym (call .verdict) ∙ e), λ f. call .verdict ∙ r .1 f)
@@ -127,8 +127,8 @@ module _ {game : List ℕ} {vertex player : ℕ} {plan marks spare classes reduc
       let a = judge-accepted rows (verdictCounts game vertex plan) given (sym (call .verdict) ∙ e) in
       let s = clean-split front _ (a .0) in (
         record {
-          tableFits = clean-table game marks spare classes reduction (desk-table game vertex marks spare classes reduction (s .0));
-          vertexIn = desk-front game vertex marks spare classes reduction (s .0) .1;
+          tableFits = clean-table game marks spare classes reduction (front-table game vertex marks spare classes reduction (s .0));
+          vertexIn = front-vertex game vertex marks spare classes reduction (s .0) .1;
           accepts = plan-clean (s .0) (s .1);
         },
         sym (a .1),
@@ -137,14 +137,14 @@ module _ {game : List ℕ} {vertex player : ℕ} {plan marks spare classes reduc
   pub verdict-accepts : Fits → answer ≡ accepted (verdictCounts game vertex plan)
   unfolding verdictRows
   verdict-accepts f =
-      let c = desk-fits game vertex marks spare classes reduction (f .tableFits) (f .vertexIn) in
+      let c = front-fits game vertex marks spare classes reduction (f .tableFits) (f .vertexIn) in
       call .verdict ∙ judge-clean rows (verdictCounts game vertex plan) (clean-append front _ c (clean-plan c (f .accepts)))
 
   -- ---- after 1 to 8, 33 and 21 to 24 all memory is old; "After 11 to 16 and after either answer, the working memory holds order, classes and reduction."
 
-  desk-numbers : Numbers (λ k. ¬ OfPlan k) front
-  unfolding deskRows
-  desk-numbers =
+  front-numbers : Numbers (λ k. ¬ OfPlan k) front
+  unfolding beforePlanRows
+  front-numbers =
       numbers-append (λ k. ¬ OfPlan k) (gameRows game) _ (game-numbers (λ k. ¬ OfPlan k) (λ k h o. omega (arith, o .0)) _ game)
       (λ o. omega (arith, o .1), (λ o. omega (arith, o .1), (λ o. omega (arith, o .1), (λ o. omega (arith, o .1), (λ o. omega (arith, o .1), tt)))))
 
@@ -154,7 +154,7 @@ module _ {game : List ℕ} {vertex player : ℕ} {plan marks spare classes reduc
   pub verdict-old : (k p : ℕ) → answer ≡ refused k p → ¬ OfPlan k → (marks′ ≡ marks) × (spare′ ≡ spare) × (classes′ ≡ classes) × (reduction′ ≡ reduction)
   unfolding verdictRows
   verdict-old k p a h =
-      let e = refused-first (λ k. ¬ OfPlan k) front _ desk-numbers rest-numbers _ k p (sym (call .verdict) ∙ a) h in (
+      let e = refused-first (λ k. ¬ OfPlan k) front _ front-numbers rest-numbers _ k p (sym (call .verdict) ∙ a) h in (
         call .marks-after ∙ after-refused front _ (orderBytes game) marks e,
         call .spare-after ∙ after-refused front _ (orderBytes game) spare e,
         call .classes-after ∙ after-refused front _ (classWords game) classes e,
@@ -163,4 +163,4 @@ module _ {game : List ℕ} {vertex player : ℕ} {plan marks spare classes reduc
 
   pub verdict-passed : (k p : ℕ) → answer ≡ refused k p → OfPlan k → Clean front
   unfolding verdictRows
-  verdict-passed k p a h = passed-first (λ k. ¬ OfPlan k) front _ desk-numbers rest-numbers _ k p (sym (call .verdict) ∙ a) (λ n. n h)
+  verdict-passed k p a h = passed-first (λ k. ¬ OfPlan k) front _ front-numbers rest-numbers _ k p (sym (call .verdict) ∙ a) (λ n. n h)

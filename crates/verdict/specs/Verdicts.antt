@@ -1,4 +1,4 @@
--- What holds after the desk's call: the sentences of demand 3, and what its answers say, about the slices that it leaves.
+-- What holds after the verdict call: the sentences of demand 3, and what its answers say, about the slices that it leaves.
 use mathlib.Core.Path.{_≡_}
 use mathlib.Core.Logic.{_↔_}
 use mathlib.Core.List.{List, [], _∷_}

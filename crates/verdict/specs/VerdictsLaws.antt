@@ -1,4 +1,4 @@
--- The sentences follow from what the desk promises.
+-- The sentences follow from what the verdict call promises.
 use mathlib.Core.Path.{_≡_, refl, sym, ap, _∙_}
 use mathlib.Core.List.{List, [], _∷_, _++_}
 use Prim.Native.Nat.{ℕ}
@@ -13,7 +13,7 @@ use Rattle.plan.specs.WinningLaws.{plan-accepts}
 use Rattle.claims.specs.Demands.{reduced-faithful, class-word, table-leaves-classes, passed, table-is}
 use Rattle.claims.specs.Sentences.{OnceWritten, Tabulates}
 use Rattle.claims.specs.SentencesLaws.{once-map, tabulates}
-use Rattle.verdict.specs.VerdictCall.{deskRows, verdictRows, shownFor, VerdictCall}
+use Rattle.verdict.specs.VerdictCall.{beforePlanRows, verdictRows, shownFor, VerdictCall}
 use Rattle.verdict.specs.VerdictRules.{VerdictFits, OfPlan}
 use Rattle.verdict.specs.VerdictRulesLaws.{verdict-accepted, verdict-passed, verdict-table}
 use Rattle.verdict.specs.ConfirmedLaws.{Wins, wins-exactly, confirmed}
@@ -22,14 +22,14 @@ use Rattle.verdict.specs.Verdicts.{AnswerSentences, Verdicts}
 module _ {game : List ℕ} {vertex player : ℕ} {plan marks spare classes reduction : List ℕ} {answer : Answer} {marks′ spare′ classes′ reduction′ : List ℕ}
     (call : VerdictCall game vertex player plan marks spare classes reduction answer marks′ spare′ classes′ reduction′) where
   -- after either answer and after 11 to 16 the rows before 11 were passed
-  pub desk-passed : OnceWritten OfPlan answer (Clean (deskRows game vertex marks spare classes reduction))
+  pub front-passed : OnceWritten OfPlan answer (Clean (beforePlanRows game vertex marks spare classes reduction))
   unfolding verdictRows
-  desk-passed = record {
-    accepts = λ counts e. clean-split (deskRows game vertex marks spare classes reduction) _ (judge-accepted _ _ counts (sym (call .verdict) ∙ e) .0) .0;
+  front-passed = record {
+    accepts = λ counts e. clean-split (beforePlanRows game vertex marks spare classes reduction) _ (judge-accepted _ _ counts (sym (call .verdict) ∙ e) .0) .0;
     refuses = verdict-passed call;
   }
 
-  abbrev sentences : Clean (deskRows game vertex marks spare classes reduction)
+  abbrev sentences : Clean (beforePlanRows game vertex marks spare classes reduction)
       → Tabulates reduced game marks spare classes reduction (accepted (tableCounts reduced game)) marks′ spare′ classes′ reduction′
   sentences c = tabulates reduced-faithful (verdict-table call c)
 
@@ -41,7 +41,7 @@ module _ {game : List ℕ} {vertex player : ℕ} {plan marks spare classes reduc
     counts = verdict-accepted call _ says .1
 
     abbrev table : TableCall reduced game marks spare classes reduction (accepted (tableCounts reduced game)) marks′ spare′ classes′ reduction′
-    table = verdict-table call (desk-passed .accepts _ says)
+    table = verdict-table call (front-passed .accepts _ says)
 
     -- the written class of the vertex
     word : getD classes′ vertex 0 ≡ classOf (gameOf game) vertex
@@ -71,9 +71,9 @@ module _ {game : List ℕ} {vertex player : ℕ} {plan marks spare classes reduc
   pub verdicts : Verdicts game vertex player plan marks spare classes reduction answer marks′ spare′ classes′ reduction′
   verdicts = record {
     call = call;
-    marks-order = once-map desk-passed (λ c. sentences c .marks-order _ refl);
-    spare-order = once-map desk-passed (λ c. sentences c .spare-order _ refl);
-    classes-words = once-map desk-passed (λ c. sentences c .classes-words _ refl);
-    reduction-table = once-map desk-passed (λ c. sentences c .output-table _ _ _ refl);
+    marks-order = once-map front-passed (λ c. sentences c .marks-order _ refl);
+    spare-order = once-map front-passed (λ c. sentences c .spare-order _ refl);
+    classes-words = once-map front-passed (λ c. sentences c .classes-words _ refl);
+    reduction-table = once-map front-passed (λ c. sentences c .output-table _ _ _ refl);
     answers = answer-sentences;
   }

@@ -1,4 +1,4 @@
-// The verdict desk: whether a plan on the reduced game shows that a player wins at a vertex of the game. The crate calls the reduction and the
+// The verdict call: whether a plan on the reduced game shows that a player wins at a vertex of the game. The crate calls the reduction and the
 // plan acceptor, and concludes from their promises and the transfer of winners alone.
 use plan::accept_plan;
 use reduction::TableCounts;

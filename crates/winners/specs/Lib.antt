@@ -2,7 +2,7 @@ pub mod Winners
 pub mod WinnersLaws
 pub mod Twice
 pub mod TwiceLaws
-pub mod Desk
-pub mod DeskLaws
+pub mod VerdictWinners
+pub mod VerdictWinnersLaws
 pub mod SameVerdictLaws
 pub mod Applied

@@ -24,12 +24,12 @@ use Rattle.reduction.specs.TableCall.{tableCounts, classTable}
 use Rattle.reduction.specs.SameTableLaws.{same-tableCounts, same-reducedTable}
 use Rattle.links.specs.PlanTable.{vertexAt}
 use Rattle.plan.specs.Acceptance.{planRows}
-use Rattle.verdict.specs.VerdictCall.{deskRows, verdictRows, shownFor, verdictCounts, VerdictCall}
+use Rattle.verdict.specs.VerdictCall.{beforePlanRows, verdictRows, shownFor, verdictCounts, VerdictCall}
 
 module _ {g h : List ℕ} (same : SameGame g h) (wg : WellFormed g) (wh : WellFormed h) (vertex player : ℕ) (plan marks spare classes reduction : List ℕ)
     (longG : tableLength (vertexCount g) (tableEdges g) ≤ length reduction) (longH : tableLength (vertexCount h) (tableEdges h) ≤ length reduction) where
   abbrev front : List ℕ → List Row
-  front game = deskRows game vertex marks spare classes reduction
+  front game = beforePlanRows game vertex marks spare classes reduction
 
   -- 33 and 21 to 23 go by n
   abbrev sized : ℕ → List Row
@@ -42,7 +42,7 @@ module _ {g h : List ℕ} (same : SameGame g h) (wg : WellFormed g) (wh : WellFo
   long-clean game l = (le-ltb (length reduction) _ l, tt)
 
   same-front : judge (front g) [] ≡ judge (front h) []
-  unfolding deskRows
+  unfolding beforePlanRows
   same-front =
       judge-parts (gameRows g) (gameRows h) (sized (vertexCount g) ++ room g) (sized (vertexCount h) ++ room h) [] [] [] []
       (judge-clean (gameRows g) [] (well-clean g wg) ∙ sym (judge-clean (gameRows h) [] (well-clean h wh)))

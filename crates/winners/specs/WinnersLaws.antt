@@ -30,7 +30,7 @@ use Rattle.claims.specs.Sentences.{OnAcceptance, OrderSentences}
 use Rattle.claims.specs.SentencesLaws.{once-map, orders, tabulates, table-passed, reduced-call}
 use Rattle.verdict.specs.VerdictCall.{VerdictCall}
 use Rattle.verdict.specs.VerdictRulesLaws.{verdict-table}
-use Rattle.verdict.specs.VerdictsLaws.{desk-passed}
+use Rattle.verdict.specs.VerdictsLaws.{front-passed}
 use Rattle.winners.specs.Winners.{AllDecided, OrderWinners, TableWinners, OrderDecides, TableDecides, CarryDecides, VerdictDecides}
 
 -- ---- exactly one player
@@ -130,5 +130,5 @@ pub verdict-decides : {game : List ℕ} {vertex player : ℕ} {plan marks spare 
     → VerdictDecides game vertex player plan marks spare classes reduction answer marks′ spare′ classes′ reduction′
 verdict-decides call = record {
   call = call;
-  winners = once-map (desk-passed call) (λ c. table-winners reduced-faithful (verdict-table call c) _ _ _ refl);
+  winners = once-map (front-passed call) (λ c. table-winners reduced-faithful (verdict-table call c) _ _ _ refl);
 }

@@ -18,7 +18,7 @@ pub struct Answer {
     pub links: u32,
     pub entries: u32,
     pub place: usize,
-    /// 1 where the verdict desk confirms that the player wins.
+    /// 1 where the verdict call confirms that the player wins.
     pub shown: u32,
 }
 

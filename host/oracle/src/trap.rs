@@ -230,7 +230,7 @@ pub enum Trap {
     /// It names a pair whose reverse fails the test.
     ReverseTestedToo,
 
-    /// The verdict desk says "wins" for every plan that passes.
+    /// The verdict call says "wins" for every plan that passes.
     WinsByAnyPlan,
     /// It says "wins" where the start class is below the vertex's.
     WinsFromBelow,

@@ -1,4 +1,4 @@
-//! The verdict desk: whether a plan on the reduced game shows that a player wins at a vertex of the game.
+//! The verdict call: whether a plan on the reduced game shows that a player wins at a vertex of the game.
 
 use crate::calls::{refuse_if, Answer, Memory, Tabulated};
 use crate::{Oracle, Refusal, Trap};

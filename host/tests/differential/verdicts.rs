@@ -1,4 +1,4 @@
-//! The verdict desk: it confirms what the test solver finds, for both players and from every vertex, shows
+//! The verdict call: it confirms what the test solver finds, for both players and from every vertex, shows
 //! nothing by plans that start elsewhere, and leaves memory as it should be after every outcome.
 
 use crate::calls::{Call, Case};
@@ -13,7 +13,7 @@ use oracle::{mark_bytes, Answer, Memory, Oracle};
 use raskjomi::{EVEN, ODD};
 
 /// Memory of the exact lengths, with old content and no output.
-fn desk(table: &Table) -> Memory {
+fn lent(table: &Table) -> Memory {
     Memory { output: vec![], ..room(table) }
 }
 
@@ -45,7 +45,7 @@ fn wins_are_the_solvers_for_both_players_from_every_vertex() {
                 let plan = solution.plan(&origin.game, start).words();
                 for (v, &class) in classes.iter().enumerate() {
                     let words = table.words();
-                    let case = Case::of_verdict(&words, v as u32, player, &plan, desk(&table));
+                    let case = Case::of_verdict(&words, v as u32, player, &plan, lent(&table));
                     let same = class as usize == start;
                     assert_eq!(shown(&case), same, "{case:?}");
                     if same {
@@ -79,7 +79,7 @@ fn a_start_class_below_or_above_the_vertexs_shows_nothing() {
             for vertex in origin.reached(player, start) {
                 if classes[vertex as usize] as usize != start {
                     let case =
-                        Case::of_verdict(&table.words(), vertex, player, &plan, desk(&table));
+                        Case::of_verdict(&table.words(), vertex, player, &plan, lent(&table));
                     assert!(!shown(&case), "{case:?}");
                     apart[player as usize] += 1;
                 }
@@ -105,7 +105,7 @@ fn worked_verdicts() {
     ];
     for (game, vertex, player, plan, wins) in rows {
         let table = Table::from_words(game);
-        let case = Case::of_verdict(game, vertex, player, plan, desk(&table));
+        let case = Case::of_verdict(game, vertex, player, plan, lent(&table));
         assert_eq!(shown(&case), wins, "{case:?}");
         let Answer { classes, vertices, edges, shown, .. } = case.actual().answer;
         assert_eq!((classes, vertices, edges, shown), (5, 5, 6, wins as u32));
@@ -118,7 +118,7 @@ fn a_plan_is_judged_on_the_reduced_game() {
     let game = [2, 2, 0, 0, 0, 0, 0, 1, 1, 0];
     let table = Table::from_words(&game);
     for vertex in [0, 1] {
-        let loops = Case::of_verdict(&game, vertex, EVEN, &[1, 1, 0, 0, 0], desk(&table));
+        let loops = Case::of_verdict(&game, vertex, EVEN, &[1, 1, 0, 0, 0], lent(&table));
         assert!(shown(&loops));
         let around = [2, 2, 0, 1, 0, 1, 1, 0];
         let case = Case { plan: around.to_vec(), ..loops };
@@ -182,7 +182,7 @@ fn memory_after_a_plan_is_refused() {
         }
     }
     for number in 12..=16 {
-        assert!(numbers.contains(&number), "the desk never gives {number}");
+        assert!(numbers.contains(&number), "the verdict call never gives {number}");
     }
 }
 
@@ -214,7 +214,7 @@ pub fn at_the_limit() -> Case {
     let game = opponents(forced_ring(512, 8), 0);
     let next = |i: u16| (1..=4).map(move |step| (i, (i + step) % 4096));
     let plan = Plan { vertices: vec![0; 4096], links: (0..4096).flat_map(next).collect() };
-    Case::of_verdict(&game.words(), 511, EVEN, &plan.words(), desk(&game))
+    Case::of_verdict(&game.words(), 511, EVEN, &plan.words(), lent(&game))
 }
 
 #[test]
@@ -231,6 +231,6 @@ fn largest_plans() {
     // A plan on the game itself.
     let (table, plan) = largest_plan(&mut Lcg::new(146), 512);
     for player in [EVEN, ODD] {
-        agree(&Case::of_verdict(&table.words(), 0, player, &plan.words(), desk(&table)));
+        agree(&Case::of_verdict(&table.words(), 0, player, &plan.words(), lent(&table)));
     }
 }

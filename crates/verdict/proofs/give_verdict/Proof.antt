@@ -8,7 +8,7 @@ use Rattle.table.specs.Table.{vertexCount}
 use Rattle.table.specs.ReadingLaws.{well-clean}
 use Rattle.table.specs.WellFormed.{WellFormed}
 use Rattle.reduction.specs.TableCall.{tabulationAnswer}
-use Rattle.verdict.specs.VerdictCallLaws.{read-sized, reduced-small, reduced-long, classes-long, desk-handed, desk-beyond, desk-short, desk-judged}
+use Rattle.verdict.specs.VerdictCallLaws.{read-sized, reduced-small, reduced-long, classes-long, verdict-handed, verdict-beyond, verdict-short, verdict-judged}
 use borrow.Author.Needs.{needs}
 use Rattle.verdict.proofs.give_verdict.Statement.{statement}
 use Rattle.verdict.proofs.give_verdict.Tie as tie
@@ -64,12 +64,12 @@ refusal-of-requires c κs = search needs
 returns : tie.Need-returns
 returns c =
     let r = c .before .before .before in
-    desk-handed _ _ _ _ _ _ _ _ _ _ _ (c .before .enum-told .given .1) (r .read .ensures) (c .refusal-of .ensures)
+    verdict-handed _ _ _ _ _ _ _ _ _ _ _ (c .before .enum-told .given .1) (r .read .ensures) (c .refusal-of .ensures)
 
 returns-2 : tie.Need-returns-2
 returns-2 c =
     let r = c .before .before .before in
-    desk-beyond _ _ _ _ _ _ _ _ (well-clean _ (well r))
+    verdict-beyond _ _ _ _ _ _ _ _ (well-clean _ (well r))
     (omega (arith, c .if1 .taken, read-sized (r .reading .given .1) (reader r .read .ensures) .vertices))
 
 write-reduced-requires : tie.Need-write-reduced-requires
@@ -130,7 +130,7 @@ returns-3 c =
     let k = known (sliced (c .before .before)) in
     let w = there k in
     let e = else w in
-    desk-judged _ _ _ _ _ _ _ _ (well-clean _ (well (e .before .before .before))) (below e) (w .write-reduced .ensures) _
+    verdict-judged _ _ _ _ _ _ _ _ (well-clean _ (well (e .before .before .before))) (below e) (w .write-reduced .ensures) _
     (ap tabulationAnswer (k .written .given .1)) _ (c .judge-reduced .ensures)
 
 same-length-5 : tie.Need-same-length-5
@@ -150,7 +150,7 @@ returns-4 c =
     let k = c .before in
     let w = wrote (k .before .before) in
     let e = else w in
-    desk-short _ _ _ _ _ _ _ _ (well-clean _ (well (e .before .before .before))) (below e) (w .write-reduced .ensures) _ _
+    verdict-short _ _ _ _ _ _ _ _ (well-clean _ (well (e .before .before .before))) (below e) (w .write-reduced .ensures) _ _
     (ap tabulationAnswer (k .written2 .given .1))
 
 pub give-verdict-spec : {M : Type 1} → statement M

@@ -1,4 +1,4 @@
--- The class of the vertex is decided in the written table, for the same player, and the desk says "wins" exactly where such a plan is handed in.
+-- The class of the vertex is decided in the written table, for the same player, and the verdict call says "wins" exactly where such a plan is handed in.
 -- It never says so for both players.
 use mathlib.Core.Path.{_≡_, sym, ap, _∙_}
 use mathlib.Core.List.{List, []}
@@ -25,7 +25,7 @@ use Rattle.verdict.specs.VerdictCall.{VerdictCall}
 use Rattle.verdict.specs.ConfirmedLaws.{Wins, wins-exactly, confirmed}
 use Rattle.winners.specs.Winners.{winnerOf, Decided}
 use Rattle.winners.specs.WinnersLaws.{decided}
-use Rattle.winners.specs.Desk.{DeskDecided}
+use Rattle.winners.specs.VerdictWinners.{WinnerShown}
 
 module _ {game marks spare classes reduction : List ℕ} (fits : TableFits game marks spare classes reduction) (vertex : ℕ) (h : vertex < vertexCount game) where
   abbrev G : Game
@@ -61,8 +61,8 @@ module _ {game marks spare classes reduction : List ℕ} (fits : TableFits game 
   there : Decided T class
   there = decided T (reduced-well game well) class (omega (arith, class-inside, game-n T))
 
-  pub desk-decided : DeskDecided game vertex marks spare classes reduction
-  desk-decided = record {
+  pub winner-shown : WinnerShown game vertex marks spare classes reduction
+  winner-shown = record {
     plan = there .plan;
     shows = λ call.
         wins-exactly call .1 (
