@@ -3,6 +3,7 @@ pub mod Reduced
 pub mod CarryCallLaws
 pub mod CarryRules
 pub mod CarryRulesLaws
+pub mod WrittenPlan
 pub mod WrittenPlanLaws
 pub mod CarryMemoryLaws
 pub mod SameCarryLaws

@@ -4,7 +4,7 @@ use mathlib.Core.List.{List, [], _∷_, _++_, map}
 use Prim.Native.Nat.{ℕ, _+_, _≤_, _<_}
 use native.Mathlib.Nat.{add-assoc}
 use native.Mathlib.Omega.{arith}
-use lib.ListN.{length, getD, take, length-append, length-map, List·getD-append, List·getD-map}
+use lib.ListN.{length, getD, length-append, length-map, List·getD-append, List·getD-map}
 use lib.Seq.{getD-append-add, take-at}
 use Rattle.theory.specs.ListLaws.{tabulate-by}
 use Rattle.theory.specs.LinkLaws.{pair-is}
@@ -23,11 +23,11 @@ use Rattle.table.specs.WellFormed.{WellFormed}
 use Rattle.reduction.specs.TableCall.{classTable}
 use Rattle.links.specs.PlanTable.{vertexAt, linkSource, linkTarget, planLength, planOf}
 use Rattle.links.specs.PlanFormed.{PlanSized}
-use Rattle.plan.specs.Acceptance.{planAnswer}
 use Rattle.plan.specs.WinningLaws.{plan-accepts}
 use Rattle.arrival.specs.PlanWords.{planWords, planCounts}
 use Rattle.carry.specs.CarryCall.{carriedTo, carryRows, CarryCall, carriedFromClass, carryClassRows, CarryClassCall}
 use Rattle.carry.specs.CarryRulesLaws.{carry-accepted, carry-class-accepted}
+use Rattle.carry.specs.WrittenPlan.{writtenPlan, PlanFrom}
 
 -- ---- the plan of its words
 
@@ -78,15 +78,6 @@ module _ (P : Plan) where
       (λ k h. pair-is (sym (source-word k h)) (sym (target-word k)))))
 
 -- ---- the words that the calls leave
-
--- the written plan: as many words of the output as the verdict's counts, p positions and l links, tell
-abbrev pub writtenPlan : ℕ → ℕ → List ℕ → List ℕ
-writtenPlan p l output = take (planLength p l) output
-
--- a plan for the player on the game, within the limits, that starts at y
-pub record PlanFrom (game : List ℕ) (player y : ℕ) (words : List ℕ) : Type 0 where
-  pub accepted : planAnswer game player words ≡ accepted []
-  pub start : vertexAt words 0 ≡ y
 
 -- the words of a plan C that wins from y and is within the limits
 module _ {game : List ℕ} {player y : ℕ} (C : Plan) (well : WellFormed game) (number : player ≤ 1)

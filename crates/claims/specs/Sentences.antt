@@ -17,7 +17,7 @@ use Rattle.relation.specs.RelationCall.{relationAnswer}
 use Rattle.classes.specs.ClassesCall.{ClassesCall}
 use Rattle.reduction.specs.TableCall.{TableCall}
 use Rattle.carry.specs.CarryCall.{CarryCall, CarryClassCall}
-use Rattle.carry.specs.WrittenPlanLaws.{writtenPlan, PlanFrom}
+use Rattle.carry.specs.WrittenPlan.{writtenPlan, PlanFrom}
 use Rattle.edges.specs.declared.Edit.{Edit}
 use Rattle.edit.specs.EditCall.{EditCall}
 use Rattle.preview.specs.PreviewCall.{PreviewCall}

@@ -14,7 +14,7 @@ use Rattle.pairs.specs.Marks.{Marked}
 use Rattle.order.specs.OrderCall.{OrderCall}
 use Rattle.reduction.specs.TableCall.{TableCall}
 use Rattle.carry.specs.CarryCall.{CarryClassCall}
-use Rattle.carry.specs.WrittenPlanLaws.{PlanFrom}
+use Rattle.carry.specs.WrittenPlan.{PlanFrom}
 use Rattle.claims.specs.Written.{writtenTable}
 use Rattle.claims.specs.Sentences.{OnAcceptance, OnceWritten, AfterReduction}
 use Rattle.verdict.specs.VerdictCall.{VerdictCall}
