@@ -1,3 +1,4 @@
+-- Without `mirror`, the marks, the number of classes and the class words are by definition those of the order.
 use Rattle.theory.specs.Governed.{marksBy, relationBy}
 use Rattle.theory.specs.Reduction.{classOf}
 use Rattle.table.specs.Table.{gameOf}

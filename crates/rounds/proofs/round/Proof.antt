@@ -1,3 +1,5 @@
+-- Only a vertex with a successor whose row changed can lose something, so the losses of `near` are all of them;
+-- with the reverses that `mirror` asks, they are what the round takes out and counts.
 use mathlib.Core.Path.{sym, _∙_}
 use native.Mathlib.Omega.{arith}
 use Rattle.bits.specs.MatrixLaws.{cell-row}

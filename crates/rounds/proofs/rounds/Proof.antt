@@ -1,3 +1,4 @@
+-- The zeroed `changed` is empty, as pass 0 needs; the later passes go on from what pass 0 leaves.
 use native.Mathlib.Omega.{arith}
 use Rattle.bits.specs.Bits.{rowWords}
 use Rattle.bits.specs.MatrixLaws.{cell-zero}

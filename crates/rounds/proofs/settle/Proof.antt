@@ -1,3 +1,5 @@
+-- The rows are the relation after pass `passes` and what that pass took out. A round that takes a pair out is the next pass;
+-- there are at most as many such passes as pairs, which gives the measure. A round that takes nothing out is the last pass.
 use mathlib.Core.Path.{_≡_, refl, _∙_}
 use Prim.Native.Nat.{_+_, _-_, _≤_}
 use native.Mathlib.Nat.{mul-le-mul}

@@ -1,3 +1,4 @@
+-- Bit t of the word shifted by k is bit k + t of the word, so its lowest set bit gives the first from k on; if it is 0, there is none.
 use Prim.Native.Nat.{_+_, _/_, _^_, _<_}
 use lib.Count.{trailingZeros}
 use Rattle.word.specs.Word.{wordBits, digit}

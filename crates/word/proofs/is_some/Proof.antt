@@ -1,3 +1,4 @@
+-- A word is below 2^64, so if it is not 0, one of its 64 bits is set; 0 has none.
 use Rattle.word.specs.WordLaws.{word-some}
 use Rattle.word.proofs.is_some.Statement.{statement}
 use Rattle.word.proofs.is_some.Tie as tie

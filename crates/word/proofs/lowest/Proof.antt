@@ -1,3 +1,4 @@
+-- A word other than 0 has a set bit at the number of its trailing zeros, and none below it.
 use native.Mathlib.Omega.{arith}
 use Rattle.word.specs.WordLaws.{lowest-is}
 use Rattle.word.proofs.lowest.Statement.{statement}

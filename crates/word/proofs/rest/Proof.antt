@@ -1,3 +1,4 @@
+-- Taking 1 away changes the lowest set bit and the zeros below it alone, so the `and` clears that bit alone, and the word gets smaller.
 use Rattle.word.specs.WordLaws.{rest-is}
 use borrow.Author.Needs.{needs}
 use Rattle.word.proofs.rest.Statement.{statement}

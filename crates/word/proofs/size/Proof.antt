@@ -1,3 +1,4 @@
+-- A word has as many ones as its half, and one more if its lowest bit is set; the count of its set bits goes by the same step.
 use Rattle.word.specs.WordLaws.{word-size}
 use Rattle.word.proofs.size.Statement.{statement}
 use Rattle.word.proofs.size.Tie as tie

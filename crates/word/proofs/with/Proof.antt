@@ -1,3 +1,4 @@
+-- The shifted 1 has bit k alone, so the `or` sets that bit and keeps the others; without `yes` the word is as it was.
 use Rattle.word.specs.WordLaws.{with-bit, with-none}
 use borrow.Author.Needs.{needs}
 use Rattle.word.proofs.with.Statement.{statement}

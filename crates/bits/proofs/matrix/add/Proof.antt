@@ -1,3 +1,4 @@
+-- A word is of one row alone, so setting bit x mod 64 of word x / 64 in row v changes the bit of no other number or row.
 use native.Mathlib.Omega.{arith}
 use Rattle.bits.specs.MatrixLaws.{add-is}
 use borrow.Author.Needs.{needs}

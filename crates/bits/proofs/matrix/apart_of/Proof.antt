@@ -1,3 +1,4 @@
+-- The first j words of `out` are done. Word j gets the bits k of word j of `which` for which row 64 × j + k does not meet x.
 use mathlib.Core.Path.{refl, sym, ap, _∙_}
 use Prim.Native.Nat.{_+_, _-_, _*_, _≤_}
 use Rattle.theory.specs.Bools.{_&_}

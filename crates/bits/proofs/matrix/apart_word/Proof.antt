@@ -1,3 +1,4 @@
+-- `out` holds the bits that are no longer left and whose rows do not meet x. The word that is left is the measure: it loses its lowest bit.
 use mathlib.Core.Path.{_≡_, sym, ap, ap₂, _∙_}
 use mathlib.Core.Bool.{not}
 use Prim.Native.Nat.{ℕ, _+_, _-_, _<_}

@@ -1,3 +1,4 @@
+-- The shift moves the bit of x to the lowest place of its word, and the mask keeps only that bit.
 use Rattle.bits.specs.Bits.{cell}
 use Rattle.word.specs.WordLaws.{digit-read}
 use borrow.Author.Needs.{needs}

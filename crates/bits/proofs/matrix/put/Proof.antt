@@ -1,3 +1,4 @@
+-- The first k words of row v are those of r, and the words written are of row v alone, so every other row is as before.
 use mathlib.Core.Path.{_≡_, refl}
 use Prim.Native.Nat.{_-_, _≤_}
 use native.Mathlib.Omega.{arith}

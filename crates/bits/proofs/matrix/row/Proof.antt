@@ -1,3 +1,4 @@
+-- The first k words of `out` are those of row v, since word k of the row is the word at v × WORDS + k.
 use mathlib.Core.Path.{refl, sym}
 use Prim.Native.Nat.{_-_, _≤_}
 use Rattle.bits.specs.Bits.{rowWords, cell}

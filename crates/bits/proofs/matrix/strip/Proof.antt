@@ -1,3 +1,4 @@
+-- `out` is `from` without the rows of the numbers in the first j words of `which`; to take out one union and then another is to take out both.
 use mathlib.Core.Path.{_≡_, sym, ap, _∙_}
 use mathlib.Core.Bool.{not}
 use Prim.Native.Nat.{_-_, _≤_}

@@ -1,3 +1,5 @@
+-- `out` is `from` without the rows of the bits that are no longer left; the word that is left is the measure.
+-- An `out` with nothing in it stays so whatever else is taken out, so the early end is right.
 use mathlib.Core.Path.{_≡_, sym, ap₂, _∙_}
 use mathlib.Core.Bool.{not, false}
 use Prim.Native.Nat.{_+_, _-_}

@@ -1,3 +1,4 @@
+-- `out` is the union of the rows of the numbers in the first j words of `which`, and word j adds those of its bits.
 use mathlib.Core.Path.{_≡_, ap, _∙_}
 use Prim.Native.Nat.{_-_, _≤_}
 use native.Mathlib.Omega.{arith}

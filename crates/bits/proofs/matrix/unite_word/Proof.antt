@@ -1,3 +1,4 @@
+-- `out` is `into` and the rows of the bits that are no longer left. The word that is left is the measure: it loses its lowest bit.
 use mathlib.Core.Path.{ap₂, _∙_}
 use Prim.Native.Nat.{_+_, _-_}
 use Rattle.theory.specs.Bools.{_or_}

@@ -1,3 +1,4 @@
+-- The first k words of `out` are done: each bit of an `and` of two words is the `and` of their bits.
 use mathlib.Core.Path.{refl, sym, ap₂, _∙_}
 use Prim.Native.Nat.{_-_, _≤_}
 use Rattle.theory.specs.Bools.{_&_}

@@ -1,3 +1,4 @@
+-- The first number from `at` on is the first from k on: it is in the word of `at`, or that word has none and the next one is searched.
 use mathlib.Core.Path.{_≡_, sym, _∙_}
 use Prim.Native.Nat.{_≤_, _-_}
 use native.Mathlib.Omega.{arith}

@@ -1,3 +1,4 @@
+-- The `or` of the first k words has a bit exactly if one of them has, so exactly if a number below 64 × k is in the row.
 use mathlib.Core.Path.{_≡_, sym, ap, _∙_}
 use Prim.Native.Nat.{ℕ, _-_, _*_, _≤_}
 use native.Mathlib.Omega.{arith}

@@ -1,3 +1,4 @@
+-- `common` holds what is in both rows, so they meet exactly if something is in it.
 use Rattle.theory.specs.RangeLaws.{any-ext}
 use mathlib.Core.Path.{_∙_}
 use borrow.Author.Needs.{needs}

@@ -1,3 +1,4 @@
+-- The total counts the numbers below 64 × k in the row, at most 64 × k, so it fits 32 bits.
 use mathlib.Core.Path.{_≡_, refl, sym, ap, ap₂, _∙_}
 use Prim.Native.Nat.{ℕ, _+_, _-_, _*_, _≤_}
 use native.Mathlib.Omega.{arith}

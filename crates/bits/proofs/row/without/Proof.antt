@@ -1,3 +1,4 @@
+-- The first k words of `out` are done: a bit of a ^ (a & b) is set exactly if it is set in a and not in b.
 use mathlib.Core.Path.{refl, sym, ap₂, _∙_}
 use mathlib.Core.Bool.{not}
 use Prim.Native.Nat.{_-_, _≤_}

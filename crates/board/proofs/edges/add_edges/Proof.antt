@@ -1,3 +1,4 @@
+-- The first j edges are in the rows, both ways. Their ends are below the limit, so the rows of successors and of predecessors do not overlap.
 use Rattle.table.specs.Table.{tableEdges, sourceAt, targetAt}
 use Rattle.bits.specs.Bits.{rowBits}
 use mathlib.Core.Path.{_≡_, refl, _∙_}

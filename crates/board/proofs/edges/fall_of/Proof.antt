@@ -1,3 +1,4 @@
+-- `near` has the vertices with a successor in l; of these an Odd vertex falls, and an Even one if it has no successor in x, as defined.
 use mathlib.Core.Path.{ap, ap₂, _∙_}
 use mathlib.Core.Bool.{not}
 use Rattle.theory.specs.Bools.{_&_, _or_}

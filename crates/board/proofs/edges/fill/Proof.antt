@@ -1,3 +1,4 @@
+-- Odd's vertices are those whose owner word isn't 0; their row is put behind the rows of the edges, which stay as they were.
 use Rattle.board.specs.EdgesLaws.{edges-end}
 use borrow.Author.Needs.{needs}
 use Rattle.board.proofs.edges.fill.Statement.{statement}

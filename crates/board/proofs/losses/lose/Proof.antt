@@ -1,3 +1,5 @@
+-- A successor whose row did not change lost nothing and has no fall. So of its row an Even vertex loses the falls of the others,
+-- and an Odd vertex what falls by the union of their losses, which `lose_odd` works out.
 use mathlib.Core.Path.{sym, ap, ap₂, _∙_}
 use Rattle.theory.specs.Bools.{_&_}
 use Rattle.word.specs.Words.{has}

@@ -1,3 +1,4 @@
+-- Before word j, the losses of the vertices of `near` below 64 × j are written; each word adds those of its 64 vertices.
 use mathlib.Core.Path.{_≡_, refl, _∙_}
 use Prim.Native.Nat.{_+_, _-_, _*_, _≤_}
 use native.Mathlib.Omega.{arith}

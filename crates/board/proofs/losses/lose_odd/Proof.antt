@@ -1,3 +1,4 @@
+-- `less` is what the union of the successors' rows lost, and `left` what it still has. Where `less` is empty nothing falls.
 use mathlib.Core.Path.{_≡_, sym, ap, ap₂, _∙_}
 use mathlib.Core.Bool.{not}
 use Prim.Native.Nat.{ℕ, _<_}

@@ -1,3 +1,4 @@
+-- The vertices of `near` before the lowest bit left are done, since none lies between one bit and the next; the word left is the measure.
 use mathlib.Core.Path.{_≡_, refl, sym, _∙_}
 use mathlib.Core.Bool.{So}
 use Prim.Native.Nat.{_+_, _*_}

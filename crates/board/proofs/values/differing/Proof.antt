@@ -1,3 +1,4 @@
+-- The first j words of `out` are done; word j gets the bits of the 64 vertices from 64 × j on.
 use mathlib.Core.Path.{refl}
 use Prim.Native.Nat.{_-_, _≤_}
 use Rattle.bits.specs.Bits.{rowWords}

@@ -1,3 +1,4 @@
+-- The bits of the vertices from `base` to w are done and those from w on are 0; the word has no vertex from `end` on.
 use mathlib.Core.Path.{_≡_, sym, ap, _∙_}
 use mathlib.Core.Bool.{not}
 use Prim.Native.Nat.{ℕ, _+_, _-_, _≤_, _<_}

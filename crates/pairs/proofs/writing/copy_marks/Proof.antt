@@ -1,3 +1,4 @@
+-- The first i bytes are copied, and the rest of the buffer is as before.
 use mathlib.Core.Path.{_≡_, refl}
 use Prim.Native.Nat.{_-_, _≤_}
 use native.Mathlib.Omega.{arith}

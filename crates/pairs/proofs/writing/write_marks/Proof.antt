@@ -1,3 +1,4 @@
+-- Before v, the marks of the v × n pairs of the rows before v are written; a row adds the n marks that follow them.
 use mathlib.Core.Path.{_≡_, refl, _∙_}
 use Prim.Native.Nat.{_-_, _*_, _≤_}
 use native.Mathlib.Nat.{zero-mul}

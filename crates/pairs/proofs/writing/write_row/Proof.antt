@@ -1,3 +1,4 @@
+-- The marks of row v before w are written. Below n, w is a multiple of 64, so the bits of a word are the marks from (v, w) on.
 use mathlib.Core.Path.{_≡_, refl, _∙_}
 use Prim.Native.Nat.{_+_, _-_, _*_, _%_, _≤_, _<_}
 use native.Mathlib.Nat.{mul-le-mul}

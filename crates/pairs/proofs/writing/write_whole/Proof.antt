@@ -1,3 +1,4 @@
+-- k bytes of the word are written, and `rest` is the word shifted by 8 × k, so its lowest byte is the next one.
 use mathlib.Core.Path.{_≡_, refl, sym, ap, _∙_}
 use Prim.Native.Nat.{ℕ, _-_, _*_, _/_, _^_, _≤_}
 use native.Mathlib.Nat.{div-one}

@@ -1,3 +1,5 @@
+-- The reverses of the losses in the rows before v are losses too. A loss that row v gained meanwhile is the reverse of one at the start,
+-- so its own reverse is a loss already.
 use mathlib.Core.Path.{_≡_, refl, _∙_}
 use Prim.Native.Nat.{_+_, _-_}
 use native.Mathlib.Omega.{arith}

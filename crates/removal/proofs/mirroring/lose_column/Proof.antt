@@ -1,3 +1,4 @@
+-- The pairs with v of the numbers in the first j words of `which` are losses, and word j adds those of its bits.
 use mathlib.Core.Path.{_≡_, refl, _∙_}
 use Prim.Native.Nat.{_-_, _≤_}
 use native.Mathlib.Omega.{arith}

@@ -1,3 +1,4 @@
+-- A row of `losing` gains the pair. The words of another row don't count, so it is emptied first, and holds this pair alone.
 use mathlib.Core.Path.{sym, _∙_}
 use Rattle.bits.specs.Bits.{rowWords}
 use Rattle.word.specs.WordsLaws.{has-zero}

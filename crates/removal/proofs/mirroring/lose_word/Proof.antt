@@ -1,3 +1,4 @@
+-- The pairs of the bits that are no longer left are losses. The word that is left is the measure: it loses its lowest bit.
 use mathlib.Core.Path.{_≡_, refl, _∙_}
 use native.Mathlib.Omega.{arith}
 use lib.ListN.{length}

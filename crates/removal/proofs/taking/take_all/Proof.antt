@@ -1,3 +1,4 @@
+-- The rows of `losing` before a are taken out, and a is in `losing` or the limit. There are at most limit × limit pairs, which fit 32 bits.
 use mathlib.Core.Path.{_≡_, refl, _∙_}
 use Prim.Native.Nat.{_+_, _-_}
 use native.Mathlib.Omega.{arith}

@@ -1,3 +1,4 @@
+-- Each `put` changes row a alone, and the fall is that of what is taken out with what is left.
 use Rattle.removal.specs.TakingLaws.{row-taken}
 use borrow.Author.Needs.{needs}
 use Rattle.removal.proofs.taking.take_row.Statement.{statement}

@@ -1,3 +1,4 @@
+-- Invariant: the page goes on at `end`, and keeps its length. In the loop c is below k, so its two words are within their arrays.
 use mathlib.Core.Path.{_≡_}
 use lib.ListN.{length}
 use Prim.Native.Nat.{_≤_, _-_}

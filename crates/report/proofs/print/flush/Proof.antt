@@ -1,3 +1,4 @@
+-- The page has at least `at` bytes, so the part that is written has that length.
 use lib.Seq.{length-take-le}
 use mathlib.Core.Path.{sym}
 use borrow.Author.Needs.{needs}

@@ -1,3 +1,4 @@
+-- Invariant: the page goes on at k, and keeps its length. In the loop v is below n, so its class word is within the array.
 use mathlib.Core.Path.{_≡_}
 use lib.ListN.{length}
 use Prim.Native.Nat.{_≤_, _-_}

@@ -1,3 +1,5 @@
+-- The rows before v are those of pass 0, and `changed` holds those that lost something.
+-- Each vertex has a successor, so under all pairs every pair passes, which the state after pass 0 asks.
 use mathlib.Core.Path.{_≡_, refl, _∙_}
 use Prim.Native.Nat.{_-_, _≤_}
 use native.Mathlib.Omega.{arith}

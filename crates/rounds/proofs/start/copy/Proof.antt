@@ -1,3 +1,4 @@
+-- Vertices of equal priority differ in priority from the same vertices, so they lose the same, with the same fall.
 use Rattle.rounds.specs.RoundsLaws.{parted-copy}
 use borrow.Author.Needs.{needs}
 use Rattle.rounds.proofs.start.copy.Statement.{statement}

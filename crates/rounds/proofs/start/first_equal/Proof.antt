@@ -1,3 +1,4 @@
+-- The search from u on finds what the whole search finds, since no vertex before u has the priority of v.
 use mathlib.Core.Path.{_≡_, sym, _∙_}
 use Prim.Native.Nat.{_≤_, _-_}
 use borrow.Author.Tests.{eq-eqb, ne-eqb}

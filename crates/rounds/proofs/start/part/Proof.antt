@@ -1,3 +1,4 @@
+-- The vertices of other priorities are taken out of a full row, and the fall is that of what is taken out with what is left.
 use mathlib.Core.Path.{_∙_}
 use Rattle.table.specs.Table.{gameOf}
 use Rattle.bits.specs.RowLaws.{row-full}

@@ -1,3 +1,4 @@
+-- A vertex found before v has the priority of v, so its row can be copied; otherwise the row is worked out.
 use native.Mathlib.Omega.{arith}
 use Rattle.theory.specs.RangeLaws.{first-passes}
 use Rattle.theory.specs.Order.{equalPriority}

@@ -1,3 +1,4 @@
+-- The shift moves flag i to the lowest place of its word, and the mask keeps only that bit.
 use Rattle.word.specs.Words.{has}
 use Rattle.word.specs.WordLaws.{digit-read}
 use borrow.Author.Needs.{needs}

@@ -1,3 +1,4 @@
+-- One bit of one word is set, and flag i alone is at that bit.
 use Rattle.word.specs.WordsLaws.{has-set}
 use borrow.Author.Needs.{needs}
 use Rattle.table.proofs.flags.raise.Statement.{statement}
