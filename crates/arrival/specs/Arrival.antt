@@ -19,7 +19,8 @@ use Rattle.links.specs.PlanTable.{positionCount, vertexAt, planOf}
 use Rattle.links.specs.PlanFormed.{PlanFormed}
 use Rattle.replies.specs.Replies.{seated, needed}
 use Rattle.pair_search.specs.Chains.{pairsIn}
-use Rattle.arrival.specs.PlanWords.{carriedRows}
+use Rattle.pair_search.specs.Work.{pairRoom, linkRoom, verticesAt, sourcesAt, targetsAt, part}
+use Rattle.arrival.specs.PlanWords.{planWords, planCounts, sizeRows, carriedRows}
 
 -- ---- whether the plan is on the game itself or, by class, on the reduced game
 
@@ -47,12 +48,20 @@ arrivalRows byClass game player plan y output =
 
 -- ---- what is written
 
+-- the first words of a list
+abbrev pub firstWords : ℕ → List ℕ → List ℕ
+firstWords count xs = tabulate count (λ i. getD xs i 0)
+
 -- a plan by the first p vertices and the first l sources and targets
 unfoldable pub planBy : List ℕ → List ℕ → List ℕ → ℕ → ℕ → Plan
 planBy vertices sources targets p l = record {
-  vertices = tabulate p (λ i. getD vertices i 0);
+  vertices = firstWords p vertices;
   links = pairsIn sources targets l;
 }
+
+-- the same in the work memory of the search
+abbrev pub planIn : List ℕ → ℕ → ℕ → Plan
+planIn work p l = planBy (part work verticesAt pairRoom) (part work sourcesAt linkRoom) (part work targetsAt linkRoom) p l
 
 -- the plan that the search finds
 abbrev pub carriedSeated : List ℕ → ℕ → List ℕ → List ℕ → ℕ → Plan
@@ -63,6 +72,10 @@ carriedSeated game player plan seats y =
 pub record Arrived (rows : List Row) (counts words output : List ℕ) (answer : Answer) (output′ : List ℕ) : Type 0 where
   pub verdict : answer ≡ judge rows counts
   pub output-after : output′ ≡ after rows words output
+
+-- 34 and 35 of a plan, and its words
+abbrev pub PlanArrived : Plan → List ℕ → Answer → List ℕ → Type 0
+PlanArrived P output answer output′ = Arrived (sizeRows P output) (planCounts P) (planWords P) output answer output′
 
 -- ---- what is known once 11 to 16 are passed
 

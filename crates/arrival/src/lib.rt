@@ -6,6 +6,7 @@ mod seats;
 use output::write_found;
 use pair_search::Counts;
 use pair_search::find_pairs;
+use pair_search::places::WORK_LENGTH;
 use replies::chain_links;
 use replies::no_better;
 use seats::seat_positions;
@@ -15,14 +16,13 @@ use table::limits::LINKS;
 use table::limits::PAIR_WORDS;
 use table::limits::POSITIONS;
 ghost use Prim.Native.Nat.{_≤_, _<_};
-ghost use Rattle.theory.specs.Carry.{foundFrom};
-ghost use Rattle.table.specs.Table.{vertexCount, playerOf, gameOf};
+ghost use Rattle.table.specs.Table.{vertexCount};
 ghost use Rattle.links.specs.PlanTable.{positionCount};
-ghost use Rattle.replies.specs.Replies.{seated, Seated, needed};
-ghost use Rattle.pair_search.specs.Memory.{memory};
-ghost use Rattle.pair_search.specs.Search.{Fresh, Ran};
-ghost use Rattle.arrival.specs.PlanWords.{planWords, planCounts, carryingAnswer, sizeRows};
-ghost use Rattle.arrival.specs.Arrival.{carriedBy, arrivalRows, carriedSeated, Arrived, Carriable};
+ghost use Rattle.replies.specs.Replies.{Seated};
+ghost use Rattle.pair_search.specs.Work.{memoryIn};
+ghost use Rattle.pair_search.specs.Search.{tableFound, Fresh, Ran};
+ghost use Rattle.arrival.specs.PlanWords.{planWords, planCounts, carryingAnswer};
+ghost use Rattle.arrival.specs.Arrival.{carriedBy, arrivalRows, carriedSeated, Arrived, PlanArrived, Carriable};
 
 // The positions and links of the plan that is written.
 pub struct PlanCounts {
@@ -42,17 +42,12 @@ fn search(
     plan: &[u16],
     seats: &[u16],
     marks: &[u8],
-    olds: &mut [u16],
-    vertices: &mut [u16],
-    heads: &mut [u16],
-    nexts: &mut [u16],
-    sources: &mut [u16],
-    targets: &mut [u16],
+    work: &mut [u16],
     y: usize,
 ) -> Counts
     requires { ⌜ Seated (now game) player (now plan) (now seats) (now marks) ⌝ }
-    requires { ⌜ (y < vertexCount (now game)) × Fresh (positionCount (now plan)) (now olds) (now vertices) (now heads) (now nexts) (now sources) (now targets) ⌝ }
-    ensures { λ r. ⌜ Ran (foundFrom (playerOf player) (gameOf (now (game .entry))) (gameOf (now (game .entry))) (needed (now (game .entry)) player) (seated (now (plan .entry)) (now (seats .entry))) y) (memory (now (olds .exit)) (now (vertices .exit)) (now (heads .exit)) (now (nexts .exit)) (now (sources .exit)) (now (targets .exit)) (r .pairs) (r .links)) ⌝ }
+    requires { ⌜ (y < vertexCount (now game)) × Fresh (positionCount (now plan)) (now work) ⌝ }
+    ensures { λ r. ⌜ Ran (tableFound (now (game .entry)) player (now (plan .entry)) (now (seats .entry)) y) (memoryIn (now (work .exit)) r) ⌝ }
 {
     let mut edges = [0u64; PAIR_WORDS];
     flag_edges(game, game[0] as usize, game[1] as usize, &mut edges);
@@ -68,17 +63,12 @@ fn search(
         &edges,
         &firsts,
         &follow,
-        olds,
-        vertices,
-        heads,
-        nexts,
-        sources,
-        targets,
+        work,
         y,
     )
 }
 
-// 34 and 35, and the plan's words. What is found is in local arrays of 98,314 bytes.
+// 34 and 35, and the plan's words. What is found is in a local array of 98,314 bytes.
 fn carry_seated(
     game: &[u16],
     player: u32,
@@ -90,36 +80,11 @@ fn carry_seated(
 ) -> Carrying
     requires { ⌜ Seated (now game) player (now plan) (now seats) (now marks) ⌝ }
     requires { ⌜ y < vertexCount (now game) ⌝ }
-    ensures { λ r. ⌜ Arrived (sizeRows (carriedSeated (now (game .entry)) player (now (plan .entry)) (now (seats .entry)) y) (now (output .entry))) (planCounts (carriedSeated (now (game .entry)) player (now (plan .entry)) (now (seats .entry)) y)) (planWords (carriedSeated (now (game .entry)) player (now (plan .entry)) (now (seats .entry)) y)) (now (output .entry)) (carryingAnswer r) (now (output .exit)) ⌝ }
+    ensures { λ r. ⌜ PlanArrived (carriedSeated (now (game .entry)) player (now (plan .entry)) (now (seats .entry)) y) (now (output .entry)) (carryingAnswer r) (now (output .exit)) ⌝ }
 {
-    let mut olds = [0u16; POSITIONS + 1];
-    let mut vertices = [0u16; POSITIONS + 1];
-    let mut heads = [0u16; POSITIONS];
-    let mut nexts = [0u16; POSITIONS + 1];
-    let mut sources = [0u16; LINKS + 1];
-    let mut targets = [0u16; LINKS + 1];
-    let found = search(
-        game,
-        player,
-        plan,
-        seats,
-        marks,
-        &mut olds,
-        &mut vertices,
-        &mut heads,
-        &mut nexts,
-        &mut sources,
-        &mut targets,
-        y,
-    );
-    write_found(
-        &vertices,
-        &sources,
-        &targets,
-        found.pairs,
-        found.links,
-        output,
-    )
+    let mut work = [0u16; WORK_LENGTH];
+    let found = search(game, player, plan, seats, marks, &mut work, y);
+    write_found(&work, found.pairs, found.links, output)
 }
 
 // 33 to 35, and the plan's words, for a plan on the game itself or, by class, on the reduced game. The seats are in a local array of 8,192

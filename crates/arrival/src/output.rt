@@ -2,50 +2,51 @@
 // The plan that was found, as words of the output.
 use crate::Carrying;
 use crate::PlanCounts;
+use pair_search::places::HEADS_AT;
+use pair_search::places::SOURCES_AT;
+use pair_search::places::TARGETS_AT;
+use pair_search::places::VERTICES_AT;
+use pair_search::places::WORK_LENGTH;
 use table::Refusal;
 use table::limits::LINKS;
 use table::limits::POSITIONS;
 use table::words;
 ghost use mathlib.Core.Path.{_≡_};
-ghost use Prim.Native.Nat.{_+_, _≤_};
+ghost use Prim.Native.Nat.{_+_, _-_, _≤_};
 ghost use lib.ListN.{length};
 ghost use Rattle.table.specs.Limits.{positionLimit, linkLimit};
+ghost use Rattle.table.specs.Placing.{placed};
 ghost use Rattle.table.specs.Verdict.{written};
 ghost use Rattle.links.specs.PlanTable.{planLength};
-ghost use Rattle.arrival.specs.PlanWords.{planWords, planCounts, carryingAnswer, sizeRows};
-ghost use Rattle.arrival.specs.Arrival.{planBy, Arrived};
+ghost use Rattle.pair_search.specs.Work.{workLength, part};
+ghost use Rattle.arrival.specs.PlanWords.{planWords, carryingAnswer};
+ghost use Rattle.arrival.specs.Arrival.{firstWords, planIn, PlanArrived};
+
+// Puts the first `count` words of a part of the work memory.
+fn copy_part(output: &mut [u16], at: usize, work: &[u16], start: usize, end: usize, count: usize)
+    requires { ⌜ (at + count ≤ length (now output)) × (start + count ≤ end) × (end ≤ length (now work)) ⌝ }
+    ensures { λ r. ⌜ now (output .exit) ≡ placed at (firstWords count (part (now (work .entry)) start (end - start))) (now (output .entry)) ⌝ }
+{
+    words::copy(output, at, &work[start..end], count);
+}
 
 // Writes the plan: sizes, vertices, sources and targets of links.
-fn write_plan(
-    vertices: &[u16],
-    sources: &[u16],
-    targets: &[u16],
-    p: usize,
-    l: usize,
-    output: &mut [u16],
-)
-    requires { ⌜ (p ≤ positionLimit) × (l ≤ linkLimit) × (p ≤ length (now vertices)) × (l ≤ length (now sources)) × (l ≤ length (now targets)) ⌝ }
+fn write_plan(work: &[u16], p: usize, l: usize, output: &mut [u16])
+    requires { ⌜ (p ≤ positionLimit) × (l ≤ linkLimit) × (workLength ≤ length (now work)) ⌝ }
     requires { ⌜ planLength p l ≤ length (now output) ⌝ }
-    ensures { λ r. ⌜ now (output .exit) ≡ written (planWords (planBy (now (vertices .entry)) (now (sources .entry)) (now (targets .entry)) p l)) (now (output .entry)) ⌝ }
+    ensures { λ r. ⌜ now (output .exit) ≡ written (planWords (planIn (now (work .entry)) p l)) (now (output .entry)) ⌝ }
 {
     output[0] = p as u16;
     output[1] = l as u16;
-    words::copy(output, 2, vertices, p);
-    words::copy(output, 2 + p, sources, l);
-    words::copy(output, 2 + p + l, targets, l);
+    copy_part(output, 2, work, VERTICES_AT, HEADS_AT, p);
+    copy_part(output, 2 + p, work, SOURCES_AT, TARGETS_AT, l);
+    copy_part(output, 2 + p + l, work, TARGETS_AT, WORK_LENGTH, l);
 }
 
 // Judges 34 and 35 of the first p vertices and l links, and writes the plan.
-pub fn write_found(
-    vertices: &[u16],
-    sources: &[u16],
-    targets: &[u16],
-    p: usize,
-    l: usize,
-    output: &mut [u16],
-) -> Carrying
-    requires { ⌜ (p ≤ length (now vertices)) × (l ≤ length (now sources)) × (l ≤ length (now targets)) ⌝ }
-    ensures { λ r. ⌜ Arrived (sizeRows (planBy (now (vertices .entry)) (now (sources .entry)) (now (targets .entry)) p l) (now (output .entry))) (planCounts (planBy (now (vertices .entry)) (now (sources .entry)) (now (targets .entry)) p l)) (planWords (planBy (now (vertices .entry)) (now (sources .entry)) (now (targets .entry)) p l)) (now (output .entry)) (carryingAnswer r) (now (output .exit)) ⌝ }
+pub fn write_found(work: &[u16], p: usize, l: usize, output: &mut [u16]) -> Carrying
+    requires { ⌜ workLength ≤ length (now work) ⌝ }
+    ensures { λ r. ⌜ PlanArrived (planIn (now (work .entry)) p l) (now (output .entry)) (carryingAnswer r) (now (output .exit)) ⌝ }
 {
     if POSITIONS < p {
         return Carrying::Refused(Refusal {
@@ -66,7 +67,7 @@ pub fn write_found(
             place: needed,
         });
     }
-    write_plan(vertices, sources, targets, p, l, output);
+    write_plan(work, p, l, output);
     Carrying::Accepted(PlanCounts {
         positions: p,
         links: l,

@@ -3,18 +3,27 @@ use mathlib.Core.Path.{_≡_, refl}
 use mathlib.Core.Logic.{_⊎_, inl, inr}
 use mathlib.Core.Bool.{true, false}
 use mathlib.Core.List.{List, [], append-nil}
-use Prim.Native.Nat.{ℕ, _≤_, _<_}
+use Prim.Native.Nat.{ℕ, _+_, _≤_, _<_}
 use native.Mathlib.Omega.{arith}
-use lib.ListN.{take}
+use lib.ListN.{length, take}
 use Rattle.theory.specs.Range.{first}
 use Rattle.theory.specs.Game.{own}
 use Rattle.theory.specs.Carry.{movesOf}
 use Rattle.table.specs.Table.{vertexCount, playerOf, gameOf}
 use Rattle.table.specs.Flags.{flagged, EdgeFlags}
-use Rattle.replies.specs.RepliesLaws.{movesBelow-prefix}
+use Rattle.replies.specs.Replies.{moveTo}
+use Rattle.replies.specs.RepliesLaws.{movesBelow-more, movesBelow-prefix}
 use Rattle.replies.specs.SuccessorLaws.{successor-moves}
+use Rattle.pair_search.specs.declared.Counts.{Counts}
 use Rattle.pair_search.specs.Memory.{Memory, Moved}
-use Rattle.pair_search.specs.Search.{tableMovesBelow, tableMoves, Over, Expanded}
+use Rattle.pair_search.specs.MemoryLaws.{moved-append}
+use Rattle.pair_search.specs.Work.{verticesAt}
+use Rattle.pair_search.specs.WorkLaws.{ready-long}
+use Rattle.pair_search.specs.Search.{tableMovesBelow, tableMoves, Expandable, Over, Expanded}
+
+-- pair k stands in work memory
+pub expandable-long : {p n k : ℕ} {work : List ℕ} {counts : Counts} → Expandable p n k work counts → verticesAt + k < length work
+expandable-long {p} {n} {k} {work} {counts} x = omega (arith, ready-long p work counts (x .ready), x .within .few-pairs, x .found)
 
 pub expanded-all : (k p : ℕ) (xs : List (ℕ × ℕ)) (m m′ : Memory) → Moved k xs p m m′ → Expanded k xs p m m′
 expanded-all k p xs m m′ v = record { did = xs; left = []; whole = append-nil xs; moved = v; why = inl refl }
@@ -35,6 +44,16 @@ module _ (game : List ℕ) (player : ℕ) (plan seats : List ℕ) (i u : ℕ) wh
       → w ≡ first (flagged (vertexCount game) edges u) a (vertexCount game)
       → Moved k (tableMovesBelow game player plan seats i u a) p m m′ → Moved k (tableMovesBelow game player plan seats i u w) p m m′
   moved-on k p m m′ edges flags a w hu ha e v = rw (successor-moves game edges flags u a w hu ha e player plan seats i) v
+
+  -- the same after the move to the vertex w
+  pub moved-more : (k p : ℕ) (m m′ m″ : Memory) (edges : List ℕ) → EdgeFlags game edges → (w w′ : ℕ) → u < vertexCount game → w < vertexCount game
+      → w′ ≡ first (flagged (vertexCount game) edges u) (w + 1) (vertexCount game)
+      → Moved k (tableMovesBelow game player plan seats i u w) p m m′ → Moved k (moveTo game player plan seats i u w) p m′ m″
+      → Moved k (tableMovesBelow game player plan seats i u w′) p m m″
+  moved-more k p m m′ m″ edges flags w w′ hu hw e v x =
+      moved-on k p m m″ edges flags (w + 1) w′ hu (omega arith) e
+      (rw (movesBelow-more game player plan seats i u w)
+      (moved-append k p (tableMovesBelow game player plan seats i u w) (moveTo game player plan seats i u w) m m′ m″ v x))
 
 module _ (game : List ℕ) (player : ℕ) (plan seats : List ℕ) (x : ℕ × ℕ) (k p : ℕ) (m m′ : Memory) where
   -- the player's moves, and the opponent's

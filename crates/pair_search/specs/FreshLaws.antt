@@ -1,48 +1,69 @@
 -- The first pair, in fresh memory.
-use mathlib.Core.Path.{_≡_}
+use mathlib.Core.Path.{_≡_, refl, sym, ap, _∙_, subst}
 use mathlib.Core.List.{List}
 use Prim.Native.Nat.{ℕ, _+_, _≤_, _<_, zero-le}
 use native.Mathlib.Nat.{not-suc-le-zero}
 use native.Mathlib.Omega.{arith}
-use lib.ListN.{getD, length-set}
+use lib.ListN.{length, getD, length-set}
 use lib.Seq.{getD-set-same}
 use Rattle.theory.specs.Range.{tabulate}
 use Rattle.table.specs.Limits.{positionLimit}
 use Rattle.pair_search.specs.Last.{last}
-use Rattle.pair_search.specs.Chains.{pairsIn, Added}
+use Rattle.pair_search.specs.Chains.{pairsIn}
 use Rattle.pair_search.specs.ChainsLaws.{added-held}
-use Rattle.pair_search.specs.Memory.{memory, Ready}
-use Rattle.pair_search.specs.Search.{Fresh}
+use Rattle.pair_search.specs.Memory.{Memory}
+use Rattle.pair_search.specs.Work.{pairRoom, linkRoom, oldsAt, verticesAt, headsAt, nextsAt, sourcesAt, targetsAt, memoryIn, pairStored, withPair}
+use Rattle.pair_search.specs.WorkLaws.{length-part, getD-part, pair-stored}
+use Rattle.pair_search.specs.Search.{Fresh, onePair, Started}
 
-module _ (p w : ℕ) (olds vertices heads nexts sources targets olds′ vertices′ heads′ nexts′ : List ℕ) where
-  -- memory with the first pair
-  pub record First : Type 0 where
-    pub ready : Ready p (memory olds′ vertices′ heads′ nexts′ sources targets 1 0)
-    pub old : getD olds′ 0 0 ≡ 0
-    pub vertex : getD vertices′ 0 0 ≡ w
+module _ (p w : ℕ) (work : List ℕ) (some : 0 < p) (few : p ≤ positionLimit) (fresh : Fresh p work) where
+  abbrev m : Memory
+  m = memoryIn work onePair
 
-  pub first-pair : 0 < p → p ≤ positionLimit → Fresh p olds vertices heads nexts sources targets
-      → Added 0 0 w olds vertices heads nexts olds′ vertices′ heads′ nexts′ → First
+  olds-long : length (m .olds) ≡ pairRoom
+  olds-long = length-part work oldsAt pairRoom (omega (arith, fresh .long))
+
+  vertices-long : length (m .vertices) ≡ pairRoom
+  vertices-long = length-part work verticesAt pairRoom (omega (arith, fresh .long))
+
+  heads-long : length (m .heads) ≡ positionLimit
+  heads-long = length-part work headsAt positionLimit (omega (arith, fresh .long))
+
+  nexts-long : length (m .nexts) ≡ pairRoom
+  nexts-long = length-part work nextsAt pairRoom (omega (arith, fresh .long))
+
+  started : Started p w (withPair m 0 0 w)
   unfolding last pairsIn tabulate
-  first-pair hp few fresh added = record {
+  started = record {
     ready = record {
       few = few;
-      olds = rw (added .old, length-set olds 0 0) (fresh .olds-long);
-      vertices = rw (added .vertex, length-set vertices 0 w) (fresh .vertices-long);
-      heads = rw (added .head, length-set heads 0 (0 + 1)) (fresh .heads-long);
-      nexts = rw (added .next, length-set nexts 0 (getD heads 0 0)) (fresh .nexts-long);
-      sources = fresh .sources-long;
-      targets = fresh .targets-long;
+      olds = omega (arith, length-set (m .olds) 0 0, olds-long);
+      vertices = omega (arith, length-set (m .vertices) 0 w, vertices-long);
+      heads = omega (arith, length-set (m .heads) 0 (0 + 1), heads-long);
+      nexts = omega (arith, length-set (m .nexts) 0 (getD (m .heads) 0 0), nexts-long);
+      sources = omega (arith, length-part work sourcesAt linkRoom (omega (arith, fresh .long)));
+      targets = omega (arith, length-part work targetsAt linkRoom (omega (arith, fresh .long)));
       pairs = omega arith;
       links = omega arith;
       held =
-          added-held p 0 0 w olds vertices heads nexts olds′ vertices′ heads′ nexts′
+          added-held p 0 0 w (m .olds) (m .vertices) (m .heads) (m .nexts) _ _ _ _
           (record {
-            chains = record { head = λ i h. fresh .unchained i h; next = λ k h. absurd (not-suc-le-zero h) };
+            chains = record {
+              head = λ i h. getD-part work headsAt positionLimit i (omega arith) ∙ fresh .unchained i h;
+              next = λ k h. absurd (not-suc-le-zero h);
+            };
             single = λ i j h l. absurd (not-suc-le-zero l);
           })
-          added hp (omega (arith, fresh .olds-long)) (omega (arith, fresh .vertices-long)) (fresh .heads-long) (omega (arith, fresh .nexts-long)) zero-le;
+          (record { old = refl; vertex = refl; head = refl; next = refl })
+          some (omega (arith, olds-long)) (omega (arith, vertices-long)) (omega (arith, heads-long)) (omega (arith, nexts-long)) zero-le;
     };
-    old = rw (added .old) (getD-set-same olds 0 0 0 (omega (arith, fresh .olds-long)));
-    vertex = rw (added .vertex) (getD-set-same vertices 0 w 0 (omega (arith, fresh .vertices-long)));
+    one = refl;
+    none = refl;
+    old = getD-set-same (m .olds) 0 0 0 (omega (arith, olds-long));
+    vertex = getD-set-same (m .vertices) 0 w 0 (omega (arith, vertices-long));
   }
+
+  pub first-pair : (work′ : List ℕ) → work′ ≡ pairStored work 0 0 w → Started p w (memoryIn work′ onePair)
+  first-pair work′ e =
+      subst (λ (m : Memory). Started p w m)
+      (sym (ap (λ (l : List ℕ). memoryIn l onePair) e ∙ pair-stored work onePair 0 0 w (omega arith) (omega arith))) started

@@ -5,6 +5,9 @@ pub mod PairsInLaws
 pub mod ChainsLaws
 pub mod Memory
 pub mod MemoryLaws
+pub mod Work
+pub mod WorkLaws
+pub mod WalkLaws
 pub mod Search
 pub mod ExpandLaws
 pub mod FreshLaws

@@ -15,9 +15,12 @@ use Rattle.table.specs.Table.{vertexCount, playerOf, gameOf}
 use Rattle.links.specs.PlanTable.{positionCount}
 use Rattle.replies.specs.Replies.{Readable, seated}
 use Rattle.replies.specs.RepliesLaws.{moves-inside}
+use Rattle.pair_search.specs.declared.Counts.{Counts}
 use Rattle.pair_search.specs.Memory.{Memory, foundIn, Ready, Within}
-use Rattle.pair_search.specs.Search.{tableMovesBelow, tableMoves, tableFound, Over, Expanded, Ran}
-use Rattle.pair_search.specs.SearchLaws.{Inside, Running, running-start, running-inside, running-end, running-next, running-over}
+use Rattle.pair_search.specs.Work.{memoryIn, storedPair}
+use Rattle.pair_search.specs.WorkLaws.{stored-pair}
+use Rattle.pair_search.specs.Search.{tableMovesBelow, tableMoves, tableFound, onePair, Started, Inside, Expandable, Over, Expanded, PairExpanded, Ran}
+use Rattle.pair_search.specs.SearchLaws.{Running, running-start, running-inside, running-end, running-next, running-over}
 
 lone-among : (xs : List (ℕ × ℕ)) (x : ℕ × ℕ) → Among x (take 1 xs) → Among x xs
 lone-among [] x t = t
@@ -49,37 +52,54 @@ module _ (game : List ℕ) (player : ℕ) (plan seats marks edges firsts follow 
   whole-is w = rw (length-tabulate (positionCount plan) (λ i. getD seats i 0))
 
   -- all that the loop knows: the pairs below k are done
-  pub record Runs (w k : ℕ) (m : Memory) : Type 0 where
+  pub record Runs (w k : ℕ) (work : List ℕ) (counts : Counts) : Type 0 where
     pub readable : Readable game player plan seats marks edges firsts follow
-    pub ready : Ready (positionCount plan) m
-    pub within : Within (m .pairs) (m .links)
-    pub running : Running (tableMoves game player plan seats) (positionCount plan) (vertexCount game) (closed readable) w k (foundIn m)
+    pub ready : Ready (positionCount plan) (memoryIn work counts)
+    pub within : Within (counts .pairs) (counts .links)
+    pub running :
+        Running (tableMoves game player plan seats) (positionCount plan) (vertexCount game) (closed readable) w k (foundIn (memoryIn work counts))
 
-  pub runs-start : Readable game player plan seats marks edges firsts follow → (w : ℕ) → w < vertexCount game → (m : Memory) → Ready (positionCount plan) m
-      → m .pairs ≡ 1 → m .links ≡ 0 → getD (m .olds) 0 0 ≡ 0 → getD (m .vertices) 0 0 ≡ w → Runs w 0 m
-  runs-start readable w l m ready e f g h = record {
+  pub runs-start : Readable game player plan seats marks edges firsts follow → (w : ℕ) → w < vertexCount game → (work : List ℕ)
+      → Started (positionCount plan) w (memoryIn work onePair) → Runs w 0 work onePair
+  runs-start readable w l work s = record {
     readable = readable;
-    ready = ready;
+    ready = s .ready;
     within = record { few-pairs = omega arith; few-links = omega arith };
-    running = running-start _ _ _ (closed readable) w m e f g h (readable .links .board .formed .sized .some) l;
+    running = running-start _ _ _ (closed readable) w (memoryIn work onePair) s (readable .links .board .formed .sized .some) l;
   }
 
-  module _ (w k : ℕ) (m : Memory) (r : Runs w k m) where
-    pub runs-inside : k < m .pairs → Inside (positionCount plan) (vertexCount game) (getD (m .olds) k 0, getD (m .vertices) k 0)
-    runs-inside h = running-inside _ _ _ _ _ k m (r .running) h
+  module _ (w k : ℕ) (work : List ℕ) (counts : Counts) (r : Runs w k work counts) where
+    abbrev m : Memory
+    m = memoryIn work counts
 
-    pub runs-end : m .pairs ≤ k → Ran (tableFound game player plan seats w) m
+    stored : (j : ℕ) → j < counts .pairs → storedPair work j ≡ (getD (m .olds) j 0, getD (m .vertices) j 0)
+    stored j h = stored-pair work counts j (omega (arith, r .within .few-pairs))
+
+    pub runs-expandable : (j : ℕ) → j < counts .pairs → Expandable (positionCount plan) (vertexCount game) j work counts
+    runs-expandable j h = record {
+      ready = r .ready;
+      within = r .within;
+      found = h;
+      inside = rw (stored j h) (running-inside _ _ _ _ _ k m (r .running) j h);
+    }
+
+    pub runs-end : counts .pairs ≤ k → Ran (tableFound game player plan seats w) m
     runs-end h = rw (← (whole-is w)) (running-end _ _ _ _ _ k m (r .running) (r .ready) (r .within) h)
 
-    module _ (m′ : Memory) (h : k < m .pairs)
-        (x : Expanded k (tableMoves game player plan seats (getD (m .olds) k 0, getD (m .vertices) k 0)) (positionCount plan) m m′) where
-      pub runs-next : Within (m′ .pairs) (m′ .links) → Runs w (k + 1) m′
+    module _ (work′ : List ℕ) (counts′ : Counts) (h : k < counts .pairs) (x : PairExpanded game player plan seats k work counts work′ counts′) where
+      abbrev m′ : Memory
+      m′ = memoryIn work′ counts′
+
+      moves : Expanded k (tableMoves game player plan seats (getD (m .olds) k 0, getD (m .vertices) k 0)) (positionCount plan) m m′
+      moves = rw (stored k h) at x
+
+      pub runs-next : Within (counts′ .pairs) (counts′ .links) → Runs w (k + 1) work′ counts′
       runs-next i = record {
         readable = r .readable;
         ready = x .moved .ready;
         within = i;
-        running = running-next _ _ _ _ _ k m (r .running) m′ h x i;
+        running = running-next _ _ _ _ _ k m (r .running) m′ h moves i;
       }
 
-      pub runs-over : Over (m′ .pairs) (m′ .links) → Ran (tableFound game player plan seats w) m′
-      runs-over q = rw (← (whole-is w)) (running-over _ _ _ _ _ k m (r .running) m′ h x q)
+      pub runs-over : Over (counts′ .pairs) (counts′ .links) → Ran (tableFound game player plan seats w) m′
+      runs-over q = rw (← (whole-is w)) (running-over _ _ _ _ _ k m (r .running) m′ h moves q)

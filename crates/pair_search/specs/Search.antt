@@ -3,13 +3,16 @@ use mathlib.Core.Path.{_≡_}
 use mathlib.Core.Logic.{_⊎_}
 use mathlib.Core.List.{List, [], _++_}
 use Prim.Native.Nat.{ℕ, _+_, _≤_, _<_}
-use lib.ListN.{length, getD}
+use lib.ListN.{length, getD, take}
 use Rattle.theory.specs.Carry.{movesBelow, movesOf, foundFrom}
 use Rattle.theory.specs.BreadthFirst.{Found}
 use Rattle.table.specs.Limits.{positionLimit, linkLimit}
-use Rattle.table.specs.Table.{playerOf, gameOf}
-use Rattle.replies.specs.Replies.{seated, needed}
-use Rattle.pair_search.specs.Memory.{Memory, foundIn, Within, Moved}
+use Rattle.table.specs.Table.{vertexCount, playerOf, gameOf}
+use Rattle.links.specs.PlanTable.{positionCount}
+use Rattle.replies.specs.Replies.{seated, needed, moveTo}
+use Rattle.pair_search.specs.declared.Counts.{Counts}
+use Rattle.pair_search.specs.Memory.{Memory, foundIn, Ready, Within, Moved}
+use Rattle.pair_search.specs.Work.{headsAt, workLength, memoryIn, storedPair}
 
 -- ---- the moves and the search of the definition, at a game table and a plan table
 
@@ -25,15 +28,33 @@ module _ (game : List ℕ) (player : ℕ) (plan seats : List ℕ) where
 
 -- ---- in work memory
 
--- no pair is chained yet, and there is room for one pair and one link more than a plan may have
-pub record Fresh (p : ℕ) (olds vertices heads nexts sources targets : List ℕ) : Type 0 where
-  pub olds-long : positionLimit + 1 ≤ length olds
-  pub vertices-long : positionLimit + 1 ≤ length vertices
-  pub heads-long : p ≤ length heads
-  pub nexts-long : positionLimit + 1 ≤ length nexts
-  pub sources-long : linkLimit + 1 ≤ length sources
-  pub targets-long : linkLimit + 1 ≤ length targets
-  pub unchained : (i : ℕ) → i < p → getD heads i 0 ≡ 0
+-- no pair is chained yet, and there is room for all
+pub record Fresh (p : ℕ) (work : List ℕ) : Type 0 where
+  pub long : workLength ≤ length work
+  pub unchained : (i : ℕ) → i < p → getD work (headsAt + i) 0 ≡ 0
+
+-- one pair and no link, and that pair is (0, w)
+abbrev pub onePair : Counts
+onePair = record { pairs = 1; links = 0 }
+
+pub record Started (p w : ℕ) (m : Memory) : Type 0 where
+  pub ready : Ready p m
+  pub one : m .pairs ≡ 1
+  pub none : m .links ≡ 0
+  pub old : getD (m .olds) 0 0 ≡ 0
+  pub vertex : getD (m .vertices) 0 0 ≡ w
+
+-- a pair of a position and a vertex
+pub record Inside (p n : ℕ) (x : ℕ × ℕ) : Type 0 where
+  pub old-lt : x .0 < p
+  pub new-lt : x .1 < n
+
+-- pair k is found and is one of a position and a vertex, and what is found is within the limits of a plan
+pub record Expandable (p n k : ℕ) (work : List ℕ) (counts : Counts) : Type 0 where
+  pub ready : Ready p (memoryIn work counts)
+  pub within : Within (counts .pairs) (counts .links)
+  pub found : k < counts .pairs
+  pub inside : Inside p n (storedPair work k)
 
 -- more than a plan may have
 abbrev pub Over : ℕ → ℕ → Type 0
@@ -53,3 +74,28 @@ pub record Ran (whole : Found) (m : Memory) : Type 0 where
   pub over : Over (m .pairs) (m .links) → Over (length (whole .pairs)) (length (whole .links))
   pub pairs : m .pairs ≤ positionLimit + 1
   pub links : m .links ≤ linkLimit + 1
+
+-- ---- what the moves of pair k leave in work memory
+
+module _ (game : List ℕ) (player : ℕ) (plan seats : List ℕ) (k : ℕ) where
+  -- the move to w of the pair (i, u), if there is one
+  abbrev pub MovedTo : ℕ → ℕ → ℕ → List ℕ → Counts → List ℕ → Counts → Type 0
+  MovedTo i u w work counts work′ counts′ =
+      Moved k (moveTo game player plan seats i u w) (positionCount plan) (memoryIn work counts) (memoryIn work′ counts′)
+
+  module _ (work : List ℕ) (counts : Counts) (work′ : List ℕ) (counts′ : Counts) where
+    abbrev MadeOf : List (ℕ × ℕ) → Type 0
+    MadeOf xs = Expanded k xs (positionCount plan) (memoryIn work counts) (memoryIn work′ counts′)
+
+    abbrev answered : List (ℕ × ℕ)
+    answered = tableMovesBelow game player plan seats (storedPair work k .0) (storedPair work k .1) (vertexCount game)
+
+    -- its moves; the one to the lowest vertex that is answered; those to all vertices that are
+    abbrev pub PairExpanded : Type 0
+    PairExpanded = MadeOf (tableMoves game player plan seats (storedPair work k))
+
+    abbrev pub OwnExpanded : Type 0
+    OwnExpanded = MadeOf (take 1 answered)
+
+    abbrev pub AllExpanded : Type 0
+    AllExpanded = MadeOf answered

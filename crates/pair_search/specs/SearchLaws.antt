@@ -17,16 +17,11 @@ use Rattle.theory.specs.BreadthFirstLaws.{NoFewer, visits-no-fewer, no-fewer-tr
 use Rattle.pair_search.specs.Chains.{pairsIn}
 use Rattle.pair_search.specs.PairsInLaws.{length-pairsIn, getD-pairsIn}
 use Rattle.pair_search.specs.Memory.{Memory, foundIn, Ready, Within}
-use Rattle.pair_search.specs.Search.{Over, Expanded, Ran}
+use Rattle.pair_search.specs.Search.{Started, Inside, Over, Expanded, Ran}
 
 over-none : {A : Type 0} {pairs links : ℕ} → Within pairs links → Over pairs links → A
 over-none i (inl p) = absurd (not-suc-le-zero {n = 0} (omega (arith, i .few-pairs)))
 over-none i (inr p) = absurd (not-suc-le-zero {n = 0} (omega (arith, i .few-links)))
-
--- a pair of a position and a vertex
-pub record Inside (p n : ℕ) (x : ℕ × ℕ) : Type 0 where
-  pub old-lt : x .0 < p
-  pub new-lt : x .1 < n
 
 module _ (moves : ℕ × ℕ → List (ℕ × ℕ)) (p n : ℕ) (closed : (x y : ℕ × ℕ) → Inside p n x → Among y (moves x) → Inside p n y) (w : ℕ) where
   abbrev pub whole : Found
@@ -70,16 +65,15 @@ module _ (moves : ℕ × ℕ → List (ℕ × ℕ)) (p n : ℕ) (closed : (x y :
 
   -- ---- in work memory
 
-  pub running-start : (m : Memory) → m .pairs ≡ 1 → m .links ≡ 0 → getD (m .olds) 0 0 ≡ 0 → getD (m .vertices) 0 0 ≡ w → 0 < p → w < n
-      → Running 0 (foundIn m)
+  pub running-start : (m : Memory) → Started p w m → 0 < p → w < n → Running 0 (foundIn m)
   unfolding pairsIn tabulate
-  running-start m e f g h l o = rw (e, f, g, h) (run-start l o)
+  running-start m s l o = rw (s .one, s .none, s .old, s .vertex) (run-start l o)
 
   module _ (k : ℕ) (m : Memory) (r : Running k (foundIn m)) where
-    -- the pair to do next is one of a position and a vertex
-    pub running-inside : k < m .pairs → Inside p n (getD (m .olds) k 0, getD (m .vertices) k 0)
-    running-inside h =
-        rw (getD-pairsIn (m .olds) (m .vertices) (m .pairs) k h) at (r .done .holds k (rw (length-pairsIn (m .olds) (m .vertices) (m .pairs)) h))
+    -- each pair is one of a position and a vertex
+    pub running-inside : (j : ℕ) → j < m .pairs → Inside p n (getD (m .olds) j 0, getD (m .vertices) j 0)
+    running-inside j h =
+        rw (getD-pairsIn (m .olds) (m .vertices) (m .pairs) j h) at (r .done .holds j (rw (length-pairsIn (m .olds) (m .vertices) (m .pairs)) h))
 
     pub running-end : Ready p m → Within (m .pairs) (m .links) → m .pairs ≤ k → Ran whole m
     running-end ready i h = record {

@@ -1,90 +1,67 @@
 // A part of the search over pairs; no host calls it.
 // The pairs found, numbered as found, and the links between their numbers.
 use crate::Counts;
+use crate::places::HEADS_AT;
+use crate::places::NEXTS_AT;
+use crate::places::OLDS_AT;
+use crate::places::SOURCES_AT;
+use crate::places::TARGETS_AT;
+use crate::places::VERTICES_AT;
 ghost use mathlib.Core.Path.{_≡_};
 ghost use mathlib.Core.List.{[], _∷_};
 ghost use Prim.Native.Nat.{_≤_, _<_};
 ghost use lib.ListN.{length};
 ghost use Rattle.theory.specs.BreadthFirst.{numberOf};
 ghost use Rattle.table.specs.Limits.{positionLimit};
-ghost use Rattle.pair_search.specs.Chains.{pairsIn, Held, Added};
-ghost use Rattle.pair_search.specs.Memory.{memory, Ready, Within, Moved};
+ghost use Rattle.pair_search.specs.Memory.{foundIn, Ready, Within, Moved};
+ghost use Rattle.pair_search.specs.Work.{workLength, memoryIn, pairStored};
 
-// The number of the pair (i, u); `pairs` where it isn't found yet. It walks along the chain of i alone.
-fn number_of(
-    olds: &[u16],
-    vertices: &[u16],
-    heads: &[u16],
-    nexts: &[u16],
-    pairs: usize,
-    p: usize,
-    i: usize,
-    u: u16,
-) -> usize
-    requires { ⌜ Held p (now olds) (now vertices) (now heads) (now nexts) pairs × (i < p) × (p ≤ length (now heads)) ⌝ }
-    requires { ⌜ (pairs ≤ length (now vertices)) × (pairs ≤ length (now nexts)) ⌝ }
-    ensures { λ r. ⌜ r ≡ numberOf (pairsIn (now (olds .entry)) (now (vertices .entry)) pairs) i u ⌝ }
+// The number of the pair (i, u), or how many there are where it isn't found yet. It walks along the chain of i alone.
+fn number_of(work: &[u16], counts: Counts, p: usize, i: usize, u: u16) -> usize
+    requires { ⌜ Ready p (memoryIn (now work) counts) × (i < p) ⌝ }
+    ensures { λ r. ⌜ r ≡ numberOf (foundIn (memoryIn (now (work .entry)) counts) .pairs) i u ⌝ }
 {
-    let mut c = heads[i] as usize;
+    let mut c = work[HEADS_AT + i] as usize;
     while 0 < c {
-        if vertices[c - 1] == u {
-            return c - 1;
+        let k = c - 1;
+        if work[VERTICES_AT + k] == u {
+            return k;
         }
-        c = nexts[c - 1] as usize;
+        c = work[NEXTS_AT + k] as usize;
     }
-    pairs
+    counts.pairs
 }
 
 // A new pair, at the head of its chain.
-pub fn add_pair(
-    olds: &mut [u16],
-    vertices: &mut [u16],
-    heads: &mut [u16],
-    nexts: &mut [u16],
-    pairs: usize,
-    i: usize,
-    u: u16,
-)
-    requires { ⌜ (pairs ≤ positionLimit) × (i < length (now heads)) × (i ≤ 65535) ⌝ }
-    requires { ⌜ (pairs < length (now olds)) × (pairs < length (now vertices)) × (pairs < length (now nexts)) ⌝ }
-    ensures { λ r. ⌜ Added pairs i u (now (olds .entry)) (now (vertices .entry)) (now (heads .entry)) (now (nexts .entry)) (now (olds .exit)) (now (vertices .exit)) (now (heads .exit)) (now (nexts .exit)) ⌝ }
+pub fn add_pair(work: &mut [u16], pairs: usize, i: usize, u: u16)
+    requires { ⌜ (pairs ≤ positionLimit) × (i < positionLimit) × (workLength ≤ length (now work)) ⌝ }
+    ensures { λ r. ⌜ now (work .exit) ≡ pairStored (now (work .entry)) pairs i u ⌝ }
 {
-    olds[pairs] = i as u16;
-    vertices[pairs] = u;
-    nexts[pairs] = heads[i];
-    heads[i] = (pairs + 1) as u16;
+    let head = work[HEADS_AT + i];
+    work[OLDS_AT + pairs] = i as u16;
+    work[VERTICES_AT + pairs] = u;
+    work[NEXTS_AT + pairs] = head;
+    work[HEADS_AT + i] = (pairs + 1) as u16;
 }
 
 // A move from pair k to the pair (j, w): a link to its number, which it gets now where it is new.
-pub fn visit(
-    olds: &mut [u16],
-    vertices: &mut [u16],
-    heads: &mut [u16],
-    nexts: &mut [u16],
-    sources: &mut [u16],
-    targets: &mut [u16],
-    counts: Counts,
-    p: usize,
-    k: usize,
-    j: usize,
-    w: u16,
-) -> Counts
-    requires { ⌜ Ready p (memory (now olds) (now vertices) (now heads) (now nexts) (now sources) (now targets) (counts .pairs) (counts .links)) ⌝ }
-    requires { ⌜ Within (counts .pairs) (counts .links) × (k ≤ positionLimit) × (j < p) ⌝ }
-    ensures { λ r. ⌜ Moved k ((j, w) ∷ []) p (memory (now (olds .entry)) (now (vertices .entry)) (now (heads .entry)) (now (nexts .entry)) (now (sources .entry)) (now (targets .entry)) (counts .pairs) (counts .links)) (memory (now (olds .exit)) (now (vertices .exit)) (now (heads .exit)) (now (nexts .exit)) (now (sources .exit)) (now (targets .exit)) (r .pairs) (r .links)) ⌝ }
+pub fn visit(work: &mut [u16], counts: Counts, p: usize, k: usize, j: usize, w: u16) -> Counts
+    requires { ⌜ Ready p (memoryIn (now work) counts) × Within (counts .pairs) (counts .links) ⌝ }
+    requires { ⌜ (k ≤ positionLimit) × (j < p) ⌝ }
+    ensures { λ r. ⌜ Moved k ((j, w) ∷ []) p (memoryIn (now (work .entry)) counts) (memoryIn (now (work .exit)) r) ⌝ }
 {
     let pairs = counts.pairs;
     let links = counts.links;
-    let number = number_of(olds, vertices, heads, nexts, pairs, p, j, w);
-    sources[links] = k as u16;
-    targets[links] = number as u16;
+    let number = number_of(work, counts, p, j, w);
+    work[SOURCES_AT + links] = k as u16;
+    work[TARGETS_AT + links] = number as u16;
     if number < pairs {
         return Counts {
             pairs,
             links: links + 1,
         };
     }
-    add_pair(olds, vertices, heads, nexts, pairs, j, w);
+    add_pair(work, pairs, j, w);
     Counts {
         pairs: pairs + 1,
         links: links + 1,

@@ -1,24 +1,26 @@
 // Breadth-first search over pairs of an old position and a vertex, in work memory. A part of the calls that carry a plan; no host calls it.
 mod found;
+pub mod places;
 
 use crate::found::add_pair;
 use crate::found::visit;
+use crate::places::OLDS_AT;
+use crate::places::VERTICES_AT;
 use replies::lowest_reply;
 use replies::next_successor;
 use replies::owns;
 use replies::reply;
 use table::limits::LINKS;
 use table::limits::POSITIONS;
-ghost use mathlib.Core.Path.{_≡_};
 ghost use Prim.Native.Nat.{_≤_, _<_};
-ghost use lib.ListN.{getD, take};
-ghost use Rattle.theory.specs.Carry.{movesBelow, movesOf, foundFrom};
 ghost use Rattle.table.specs.Limits.{positionLimit};
-ghost use Rattle.table.specs.Table.{vertexCount, playerOf, gameOf};
+ghost use Rattle.table.specs.Table.{vertexCount};
 ghost use Rattle.links.specs.PlanTable.{positionCount};
-ghost use Rattle.replies.specs.Replies.{seated, Readable, needed, moveTo};
-ghost use Rattle.pair_search.specs.Memory.{memory, Ready, Within, Moved};
-ghost use Rattle.pair_search.specs.Search.{Fresh, Expanded, Ran};
+ghost use Rattle.replies.specs.Replies.{Readable};
+ghost use Rattle.pair_search.specs.Memory.{Ready, Within};
+ghost use Rattle.pair_search.specs.Work.{memoryIn};
+ghost use Rattle.pair_search.specs.Search.{tableFound, Fresh, onePair, Started, Expandable, Ran};
+ghost use Rattle.pair_search.specs.Search.{PairExpanded, OwnExpanded, AllExpanded, MovedTo};
 
 // How many pairs and links are found.
 pub struct Counts {
@@ -36,19 +38,14 @@ pub fn find_pairs(
     edges: &[u64],
     firsts: &[u16],
     follow: &[u16],
-    olds: &mut [u16],
-    vertices: &mut [u16],
-    heads: &mut [u16],
-    nexts: &mut [u16],
-    sources: &mut [u16],
-    targets: &mut [u16],
+    work: &mut [u16],
     w: usize,
 ) -> Counts
     requires { ⌜ Readable (now game) player (now plan) (now seats) (now marks) (now edges) (now firsts) (now follow) ⌝ }
-    requires { ⌜ (w < vertexCount (now game)) × Fresh (positionCount (now plan)) (now olds) (now vertices) (now heads) (now nexts) (now sources) (now targets) ⌝ }
-    ensures { λ r. ⌜ Ran (foundFrom (playerOf player) (gameOf (now (game .entry))) (gameOf (now (game .entry))) (needed (now (game .entry)) player) (seated (now (plan .entry)) (now (seats .entry))) w) (memory (now (olds .exit)) (now (vertices .exit)) (now (heads .exit)) (now (nexts .exit)) (now (sources .exit)) (now (targets .exit)) (r .pairs) (r .links)) ⌝ }
+    requires { ⌜ (w < vertexCount (now game)) × Fresh (positionCount (now plan)) (now work) ⌝ }
+    ensures { λ r. ⌜ Ran (tableFound (now (game .entry)) player (now (plan .entry)) (now (seats .entry)) w) (memoryIn (now (work .exit)) r) ⌝ }
 {
-    add_pair(olds, vertices, heads, nexts, 0, 0, w as u16);
+    add_pair(work, 0, 0, w as u16);
     run(
         game,
         player,
@@ -58,12 +55,7 @@ pub fn find_pairs(
         edges,
         firsts,
         follow,
-        olds,
-        vertices,
-        heads,
-        nexts,
-        sources,
-        targets,
+        work,
         w,
     )
 }
@@ -78,18 +70,12 @@ fn run(
     edges: &[u64],
     firsts: &[u16],
     follow: &[u16],
-    olds: &mut [u16],
-    vertices: &mut [u16],
-    heads: &mut [u16],
-    nexts: &mut [u16],
-    sources: &mut [u16],
-    targets: &mut [u16],
+    work: &mut [u16],
     w: usize,
 ) -> Counts
     requires { ⌜ Readable (now game) player (now plan) (now seats) (now marks) (now edges) (now firsts) (now follow) ⌝ }
-    requires { ⌜ Ready (positionCount (now plan)) (memory (now olds) (now vertices) (now heads) (now nexts) (now sources) (now targets) 1 0) ⌝ }
-    requires { ⌜ (w < vertexCount (now game)) × (getD (now olds) 0 0 ≡ 0) × (getD (now vertices) 0 0 ≡ w) ⌝ }
-    ensures { λ r. ⌜ Ran (foundFrom (playerOf player) (gameOf (now (game .entry))) (gameOf (now (game .entry))) (needed (now (game .entry)) player) (seated (now (plan .entry)) (now (seats .entry))) w) (memory (now (olds .exit)) (now (vertices .exit)) (now (heads .exit)) (now (nexts .exit)) (now (sources .exit)) (now (targets .exit)) (r .pairs) (r .links)) ⌝ }
+    requires { ⌜ (w < vertexCount (now game)) × Started (positionCount (now plan)) w (memoryIn (now work) onePair) ⌝ }
+    ensures { λ r. ⌜ Ran (tableFound (now (game .entry)) player (now (plan .entry)) (now (seats .entry)) w) (memoryIn (now (work .exit)) r) ⌝ }
 {
     let mut pairs = 1;
     let mut links = 0;
@@ -104,12 +90,7 @@ fn run(
             edges,
             firsts,
             follow,
-            olds,
-            vertices,
-            heads,
-            nexts,
-            sources,
-            targets,
+            work,
             Counts { pairs, links },
             k,
         );
@@ -136,21 +117,15 @@ fn expand(
     edges: &[u64],
     firsts: &[u16],
     follow: &[u16],
-    olds: &mut [u16],
-    vertices: &mut [u16],
-    heads: &mut [u16],
-    nexts: &mut [u16],
-    sources: &mut [u16],
-    targets: &mut [u16],
+    work: &mut [u16],
     counts: Counts,
     k: usize,
 ) -> Counts
     requires { ⌜ Readable (now game) player (now plan) (now seats) (now marks) (now edges) (now firsts) (now follow) ⌝ }
-    requires { ⌜ Ready (positionCount (now plan)) (memory (now olds) (now vertices) (now heads) (now nexts) (now sources) (now targets) (counts .pairs) (counts .links)) ⌝ }
-    requires { ⌜ Within (counts .pairs) (counts .links) × (k < counts .pairs) × (getD (now olds) k 0 < positionCount (now plan)) × (getD (now vertices) k 0 < vertexCount (now game)) ⌝ }
-    ensures { λ r. ⌜ Expanded k (movesOf (playerOf player) (gameOf (now (game .entry))) (gameOf (now (game .entry))) (needed (now (game .entry)) player) (seated (now (plan .entry)) (now (seats .entry))) (getD (now (olds .entry)) k 0, getD (now (vertices .entry)) k 0)) (positionCount (now (plan .entry))) (memory (now (olds .entry)) (now (vertices .entry)) (now (heads .entry)) (now (nexts .entry)) (now (sources .entry)) (now (targets .entry)) (counts .pairs) (counts .links)) (memory (now (olds .exit)) (now (vertices .exit)) (now (heads .exit)) (now (nexts .exit)) (now (sources .exit)) (now (targets .exit)) (r .pairs) (r .links)) ⌝ }
+    requires { ⌜ Expandable (positionCount (now plan)) (vertexCount (now game)) k (now work) counts ⌝ }
+    ensures { λ r. ⌜ PairExpanded (now (game .entry)) player (now (plan .entry)) (now (seats .entry)) k (now (work .entry)) counts (now (work .exit)) r ⌝ }
 {
-    let u = vertices[k] as usize;
+    let u = work[VERTICES_AT + k] as usize;
     if owns(game, player, u) {
         return expand_own(
             game,
@@ -161,12 +136,7 @@ fn expand(
             edges,
             firsts,
             follow,
-            olds,
-            vertices,
-            heads,
-            nexts,
-            sources,
-            targets,
+            work,
             counts,
             k,
         );
@@ -180,12 +150,7 @@ fn expand(
         edges,
         firsts,
         follow,
-        olds,
-        vertices,
-        heads,
-        nexts,
-        sources,
-        targets,
+        work,
         counts,
         k,
     )
@@ -201,23 +166,17 @@ fn expand_own(
     edges: &[u64],
     firsts: &[u16],
     follow: &[u16],
-    olds: &mut [u16],
-    vertices: &mut [u16],
-    heads: &mut [u16],
-    nexts: &mut [u16],
-    sources: &mut [u16],
-    targets: &mut [u16],
+    work: &mut [u16],
     counts: Counts,
     k: usize,
 ) -> Counts
     requires { ⌜ Readable (now game) player (now plan) (now seats) (now marks) (now edges) (now firsts) (now follow) ⌝ }
-    requires { ⌜ Ready (positionCount (now plan)) (memory (now olds) (now vertices) (now heads) (now nexts) (now sources) (now targets) (counts .pairs) (counts .links)) ⌝ }
-    requires { ⌜ Within (counts .pairs) (counts .links) × (k < counts .pairs) × (getD (now olds) k 0 < positionCount (now plan)) × (getD (now vertices) k 0 < vertexCount (now game)) ⌝ }
-    ensures { λ r. ⌜ Expanded k (take 1 (movesBelow (playerOf player) (gameOf (now (game .entry))) (gameOf (now (game .entry))) (needed (now (game .entry)) player) (seated (now (plan .entry)) (now (seats .entry))) (getD (now (olds .entry)) k 0) (getD (now (vertices .entry)) k 0) (vertexCount (now (game .entry))))) (positionCount (now (plan .entry))) (memory (now (olds .entry)) (now (vertices .entry)) (now (heads .entry)) (now (nexts .entry)) (now (sources .entry)) (now (targets .entry)) (counts .pairs) (counts .links)) (memory (now (olds .exit)) (now (vertices .exit)) (now (heads .exit)) (now (nexts .exit)) (now (sources .exit)) (now (targets .exit)) (r .pairs) (r .links)) ⌝ }
+    requires { ⌜ Expandable (positionCount (now plan)) (vertexCount (now game)) k (now work) counts ⌝ }
+    ensures { λ r. ⌜ OwnExpanded (now (game .entry)) player (now (plan .entry)) (now (seats .entry)) k (now (work .entry)) counts (now (work .exit)) r ⌝ }
 {
     let n = game[0] as usize;
-    let i = olds[k] as usize;
-    let u = vertices[k] as usize;
+    let i = work[OLDS_AT + k] as usize;
+    let u = work[VERTICES_AT + k] as usize;
     let w = lowest_reply(
         game,
         player,
@@ -240,12 +199,7 @@ fn expand_own(
             edges,
             firsts,
             follow,
-            olds,
-            vertices,
-            heads,
-            nexts,
-            sources,
-            targets,
+            work,
             counts,
             k,
             i,
@@ -266,23 +220,17 @@ fn expand_all(
     edges: &[u64],
     firsts: &[u16],
     follow: &[u16],
-    olds: &mut [u16],
-    vertices: &mut [u16],
-    heads: &mut [u16],
-    nexts: &mut [u16],
-    sources: &mut [u16],
-    targets: &mut [u16],
+    work: &mut [u16],
     counts: Counts,
     k: usize,
 ) -> Counts
     requires { ⌜ Readable (now game) player (now plan) (now seats) (now marks) (now edges) (now firsts) (now follow) ⌝ }
-    requires { ⌜ Ready (positionCount (now plan)) (memory (now olds) (now vertices) (now heads) (now nexts) (now sources) (now targets) (counts .pairs) (counts .links)) ⌝ }
-    requires { ⌜ Within (counts .pairs) (counts .links) × (k < counts .pairs) × (getD (now olds) k 0 < positionCount (now plan)) × (getD (now vertices) k 0 < vertexCount (now game)) ⌝ }
-    ensures { λ r. ⌜ Expanded k (movesBelow (playerOf player) (gameOf (now (game .entry))) (gameOf (now (game .entry))) (needed (now (game .entry)) player) (seated (now (plan .entry)) (now (seats .entry))) (getD (now (olds .entry)) k 0) (getD (now (vertices .entry)) k 0) (vertexCount (now (game .entry)))) (positionCount (now (plan .entry))) (memory (now (olds .entry)) (now (vertices .entry)) (now (heads .entry)) (now (nexts .entry)) (now (sources .entry)) (now (targets .entry)) (counts .pairs) (counts .links)) (memory (now (olds .exit)) (now (vertices .exit)) (now (heads .exit)) (now (nexts .exit)) (now (sources .exit)) (now (targets .exit)) (r .pairs) (r .links)) ⌝ }
+    requires { ⌜ Expandable (positionCount (now plan)) (vertexCount (now game)) k (now work) counts ⌝ }
+    ensures { λ r. ⌜ AllExpanded (now (game .entry)) player (now (plan .entry)) (now (seats .entry)) k (now (work .entry)) counts (now (work .exit)) r ⌝ }
 {
     let n = game[0] as usize;
-    let i = olds[k] as usize;
-    let u = vertices[k] as usize;
+    let i = work[OLDS_AT + k] as usize;
+    let u = work[VERTICES_AT + k] as usize;
     let mut pairs = counts.pairs;
     let mut links = counts.links;
     let mut w = next_successor(edges, n, u, 0);
@@ -302,12 +250,7 @@ fn expand_all(
             edges,
             firsts,
             follow,
-            olds,
-            vertices,
-            heads,
-            nexts,
-            sources,
-            targets,
+            work,
             Counts { pairs, links },
             k,
             i,
@@ -331,12 +274,7 @@ fn step(
     edges: &[u64],
     firsts: &[u16],
     follow: &[u16],
-    olds: &mut [u16],
-    vertices: &mut [u16],
-    heads: &mut [u16],
-    nexts: &mut [u16],
-    sources: &mut [u16],
-    targets: &mut [u16],
+    work: &mut [u16],
     counts: Counts,
     k: usize,
     i: usize,
@@ -344,9 +282,9 @@ fn step(
     w: usize,
 ) -> Counts
     requires { ⌜ Readable (now game) player (now plan) (now seats) (now marks) (now edges) (now firsts) (now follow) ⌝ }
-    requires { ⌜ Ready (positionCount (now plan)) (memory (now olds) (now vertices) (now heads) (now nexts) (now sources) (now targets) (counts .pairs) (counts .links)) ⌝ }
-    requires { ⌜ Within (counts .pairs) (counts .links) × (k ≤ positionLimit) × (i < positionCount (now plan)) × (u < vertexCount (now game)) × (w < vertexCount (now game)) ⌝ }
-    ensures { λ r. ⌜ Moved k (moveTo (now (game .entry)) player (now (plan .entry)) (now (seats .entry)) i u w) (positionCount (now (plan .entry))) (memory (now (olds .entry)) (now (vertices .entry)) (now (heads .entry)) (now (nexts .entry)) (now (sources .entry)) (now (targets .entry)) (counts .pairs) (counts .links)) (memory (now (olds .exit)) (now (vertices .exit)) (now (heads .exit)) (now (nexts .exit)) (now (sources .exit)) (now (targets .exit)) (r .pairs) (r .links)) ⌝ }
+    requires { ⌜ Ready (positionCount (now plan)) (memoryIn (now work) counts) × Within (counts .pairs) (counts .links) × (k ≤ positionLimit) ⌝ }
+    requires { ⌜ (i < positionCount (now plan)) × (u < vertexCount (now game)) × (w < vertexCount (now game)) ⌝ }
+    ensures { λ r. ⌜ MovedTo (now (game .entry)) player (now (plan .entry)) (now (seats .entry)) k i u w (now (work .entry)) counts (now (work .exit)) r ⌝ }
 {
     let p = plan[0] as usize;
     let j = reply(
@@ -363,19 +301,7 @@ fn step(
         w,
     );
     if j < p {
-        return visit(
-            olds,
-            vertices,
-            heads,
-            nexts,
-            sources,
-            targets,
-            counts,
-            p,
-            k,
-            j,
-            w as u16,
-        );
+        return visit(work, counts, p, k, j, w as u16);
     }
     counts
 }

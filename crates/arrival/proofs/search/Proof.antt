@@ -10,7 +10,7 @@ use Rattle.arrival.proofs.search.Statement.{statement}
 use Rattle.arrival.proofs.search.Tie as tie
 
 abbrev start : tie.After-flag-edges → tie.Start
-start c = c .before .before .before .before .before .before .before .before .before .before .before .before .before .before
+start c = c .before .before .before .before .before .before .before .before .before
 
 abbrev flagged : tie.After-chain-links → tie.After-flag-edges
 flagged c = c .before .before .before .before
@@ -50,7 +50,7 @@ slice-aggregate-flag-edges c = search needs
 
 flag-edges-requires : tie.Need-flag-edges-requires
 flag-edges-requires c κs =
-    let s = c .before .before .before .before .before .before .before .before .before .before .before .before .before in
+    let s = c .before .before .before .before .before .before .before .before in
     let w = s .pre .0 .well in
     ((well-sized w, well-inside w), (omega (arith, length-replicate {A = ℕ} pairWords 0), filled pairWords 0))
 
@@ -74,27 +74,12 @@ slice-aggregate-find-pairs-3 c = search needs
 
 find-pairs-requires : tie.Need-find-pairs-requires
 find-pairs-requires c κs =
-    let k = c .before .before .before .before .before .before .before .before .before .before .before in
+    let k = c .before .before .before .before .before .before in
     let s = start (flagged k) in
     (readable k, (s .pre .1 .0, s .pre .1 .1))
 
 same-length : tie.Need-same-length
 same-length c = search needs
-
-same-length-2 : tie.Need-same-length-2
-same-length-2 c = search needs
-
-same-length-3 : tie.Need-same-length-3
-same-length-3 c = search needs
-
-same-length-4 : tie.Need-same-length-4
-same-length-4 c = search needs
-
-same-length-5 : tie.Need-same-length-5
-same-length-5 c = search needs
-
-same-length-6 : tie.Need-same-length-6
-same-length-6 c = search needs
 
 returns : tie.Need-returns
 returns c = search needs
@@ -117,9 +102,4 @@ search-spec =
     slice-aggregate-find-pairs-3
     find-pairs-requires
     same-length
-    same-length-2
-    same-length-3
-    same-length-4
-    same-length-5
-    same-length-6
     returns)

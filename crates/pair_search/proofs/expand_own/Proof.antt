@@ -1,14 +1,14 @@
 -- The lowest reply is the first of all.
 use native.Mathlib.Omega.{arith}
-use borrow.Author.Needs.{needs}
 use Rattle.replies.specs.RepliesLaws.{lone-some, lone-none}
 use Rattle.pair_search.specs.MemoryLaws.{moved-none}
-use Rattle.pair_search.specs.ExpandLaws.{expanded-all}
+use Rattle.pair_search.specs.ExpandLaws.{expandable-long, expanded-all}
+use borrow.Author.Needs.{needs}
 use Rattle.pair_search.proofs.expand_own.Statement.{statement}
 use Rattle.pair_search.proofs.expand_own.Tie as tie
 
 abbrev start : tie.After-lowest-reply → tie.Start
-start c = c .before .before .before .before .before .before .before .before .before .before .before .before .before .before .before .before .before
+start c = c .before .before .before .before .before .before .before .before .before .before .before .before
 
 shared-slice-read-n : tie.Need-shared-slice-read-n
 shared-slice-read-n c = search needs
@@ -16,20 +16,26 @@ shared-slice-read-n c = search needs
 cast-n : tie.Need-cast-n
 cast-n c = search needs
 
+add-i : tie.Need-add-i
+add-i c = search needs
+
 mul-i : tie.Need-mul-i
 mul-i c = search needs
 
 slice-read-i : tie.Need-slice-read-i
-slice-read-i c = search needs
+slice-read-i c = omega (arith, expandable-long (c .before .before .before .before .before .before .before .before .before .before .pre .1))
 
 cast-i : tie.Need-cast-i
 cast-i c = search needs
+
+add-u : tie.Need-add-u
+add-u c = search needs
 
 mul-u : tie.Need-mul-u
 mul-u c = search needs
 
 slice-read-u : tie.Need-slice-read-u
-slice-read-u c = search needs
+slice-read-u c = expandable-long (c .before .before .before .before .before .before .before .before .before .before .before .pre .1)
 
 cast-u : tie.Need-cast-u
 cast-u c = search needs
@@ -39,39 +45,24 @@ lowest-reply-requires c κs = search needs
 
 step-requires : tie.Need-step-requires
 step-requires c κs =
-    let t = c .before .before .before .before .before .before in
+    let t = c .before in
     let e = start (t .before) in
-    let q = e .pre .1 .1 in
-    (e .pre .0, (e .pre .1 .0, (q .0, omega (arith, q .0 .few-pairs, q .1), q .2, q .3, t .if1 .taken)))
+    let x = e .pre .1 in
+    (e .pre .0, ((x .ready, x .within, omega (arith, x .within .few-pairs, x .found)), (x .inside .old-lt, x .inside .new-lt, t .if1 .taken)))
 
 same-length : tie.Need-same-length
 same-length c = search needs
 
-same-length-2 : tie.Need-same-length-2
-same-length-2 c = search needs
-
-same-length-3 : tie.Need-same-length-3
-same-length-3 c = search needs
-
-same-length-4 : tie.Need-same-length-4
-same-length-4 c = search needs
-
-same-length-5 : tie.Need-same-length-5
-same-length-5 c = search needs
-
-same-length-6 : tie.Need-same-length-6
-same-length-6 c = search needs
-
 returns : tie.Need-returns
 returns c =
-    let s = c .before .before .before .before .before .before .before .before .before .before .before .before in
-    let t = s .before .before .before .before .before .before .before in
+    let s = c .before .before in
+    let t = s .before .before in
     rw (lone-some _ _ _ _ _ _ _ _ (t .before .lowest-reply .ensures) (t .if1 .taken)) (expanded-all _ _ _ _ _ (s .step .ensures))
 
 returns-2 : tie.Need-returns-2
 returns-2 c =
     let e = start (c .before) in
-    rw (lone-none _ _ _ _ _ _ _ _ (c .before .lowest-reply .ensures) (c .if1 .left)) (expanded-all _ _ _ _ _ (moved-none _ _ _ (e .pre .1 .0)))
+    rw (lone-none _ _ _ _ _ _ _ _ (c .before .lowest-reply .ensures) (c .if1 .left)) (expanded-all _ _ _ _ _ (moved-none _ _ _ (e .pre .1 .ready)))
 
 pub expand-own-spec : {M : Type 1} → statement M
 expand-own-spec =
@@ -79,19 +70,16 @@ expand-own-spec =
     (tie.spec
     shared-slice-read-n
     cast-n
+    add-i
     mul-i
     slice-read-i
     cast-i
+    add-u
     mul-u
     slice-read-u
     cast-u
     lowest-reply-requires
     step-requires
     same-length
-    same-length-2
-    same-length-3
-    same-length-4
-    same-length-5
-    same-length-6
     returns
     returns-2)

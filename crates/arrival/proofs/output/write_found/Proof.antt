@@ -26,8 +26,7 @@ returns-3 c = found-short _ _ _ _ _ _ (c .before .before .if1 .left) (c .before 
 write-plan-requires : tie.Need-write-plan-requires
 write-plan-requires c κs =
     let e = c .before in
-    let s = e .before .before .before .before .before .before .before in
-    ((e .before .before .if1 .left, e .before .if2 .left, s .pre .0, s .pre .1, s .pre .2), e .if3 .left)
+    ((e .before .before .if1 .left, e .before .if2 .left, e .before .before .before .before .before .pre), e .if3 .left)
 
 same-length : tie.Need-same-length
 same-length c = search needs
