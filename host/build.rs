@@ -1,8 +1,10 @@
-//! Links the proved archives, and builds them first where they are missing or older than the crates.
+//! Links the proved archives, and makes them first where they are missing or made from other sources.
 
 mod rattle;
 
 use rattle::Product;
+use std::fs::File;
+use std::io;
 use std::path::Path;
 use std::process::ExitCode;
 
@@ -27,7 +29,10 @@ fn link() -> Result<(), String> {
         if !root.join(source).exists() {
             return Err(format!("no {source} beside the folder host; take the whole repository"));
         }
-        println!("cargo:rerun-if-changed={}", root.join(source).display());
+    }
+    println!("cargo:rerun-if-changed={}", root.join("crates.txt").display());
+    for folder in rattle::watched(root, &ARCHIVES)? {
+        println!("cargo:rerun-if-changed={}", folder.display());
     }
     let file = |name: &str| format!("staticlib/lib{name}.a");
     rattle::built(
@@ -36,8 +41,15 @@ fn link() -> Result<(), String> {
     )?;
     println!("cargo:rustc-link-search=native={}", root.join("target/staticlib").display());
     for name in ARCHIVES {
+        let archive = root.join("target").join(file(name));
+        let _ = date_back(&archive, &root.join("crates.txt"));
         println!("cargo:rustc-link-lib=static={name}");
-        println!("cargo:rerun-if-changed={}", root.join("target").join(file(name)).display());
+        println!("cargo:rerun-if-changed={}", archive.display());
     }
     Ok(())
+}
+
+/// Makes a file as old as another. Cargo runs this script again, and compiles all, where a file is newer than the script's start.
+fn date_back(file: &Path, other: &Path) -> io::Result<()> {
+    File::options().append(true).open(file)?.set_modified(other.metadata()?.modified()?)
 }

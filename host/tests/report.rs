@@ -1,7 +1,7 @@
 //! The report program, run on many inputs, prints what the oracle says.
 
 #[allow(dead_code)]
-#[path = "../rattle.rs"]
+#[path = "../rattle/mod.rs"]
 mod rattle;
 
 mod common;
