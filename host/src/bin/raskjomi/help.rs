@@ -91,7 +91,7 @@ const OPTIONS: &str =
 const MORE: &str =
     "docs/CONTRACT.md has the definitions, the formats and every refusal; docs/WORKFLOW.md shows the way \
      from a model through a solver to a plan. ./raskjomi proves and builds what has changed; all of it \
-     takes 8 to 10 minutes on two idle cores.";
+     takes about 5 minutes on two idle cores.";
 
 /// The output of the commands that write a game.
 const TABLES: &str = "Text and words are game tables, which every command reads. The edges are \
