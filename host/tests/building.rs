@@ -177,7 +177,7 @@ fn the_longest_way_of_work_is_first() {
     let usual = "check theory,check table,check order,check edit,check seed,staticlib abi,staticlib abi_edit";
     assert_eq!(made(&folder).join(","), usual);
     let folder = repository("building-large", "");
-    write(&folder.join("crates/seed/specs/Large.antt"), &"more ".repeat(100));
+    write(&folder.join("crates/table_seed/specs/Large.antt"), &"more ".repeat(100));
     let large = "check theory,check table,check seed,check order,check edit,staticlib abi,staticlib abi_edit";
     assert_eq!(made(&folder).join(","), large);
 }
@@ -306,7 +306,7 @@ fn a_change_is_proved_with_what_builds_on_it_alone() {
     fs::rename(folder.join("crates/order/proofs/more"), folder.join("crates/order/proofs/most"))
         .expect("renamed");
     assert_eq!(sorted(&folder), above_order);
-    write(&folder.join("crates/seed/src/lib.rt"), "other text");
+    write(&folder.join("crates/table_seed/src/lib.rt"), "other text");
     assert_eq!(sorted(&folder), "check seed,staticlib abi");
     write(&folder.join("crates.txt"), &CRATES.replace("edit: order", "edit: order table"));
     assert_eq!(sorted(&folder), "check edit,staticlib abi_edit");
@@ -457,7 +457,7 @@ fn temporary_files_are_in_memory_and_removed() {
 fn all_crates_below_the_archives_are_counted() {
     let root = Path::new(env!("CARGO_MANIFEST_DIR")).parent().expect("the repository");
     let crates = List::read(root).expect("the list").all_below(["abi"].into_iter());
-    for name in ["theory", "word", "bits", "board", "removal", "rounds", "reader", "abi"] {
+    for name in ["theory", "words", "table", "table_reader", "order_rows", "order_rounds", "abi"] {
         assert!(crates.contains(name), "{name} in {crates:?}");
     }
     assert!(!crates.contains("abi_verdict") && !crates.contains("io"));

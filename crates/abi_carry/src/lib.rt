@@ -1,8 +1,9 @@
 // The exports that carry a plan to another vertex, in the form of those of `abi`.
-use answer::RaskjomiAnswer;
-use answer::of_carrying;
-use answer::of_class_carrying;
-ghost use Rattle.answer.specs.Exports.{CarryExport, CarryClassExport};
+use abi_answer::RaskjomiAnswer;
+use abi_answer::of_carrying;
+use abi_answer::of_class_carrying;
+ghost use Rattle.table.specs.Lent.{old, new};
+ghost use Rattle.abi_answer.specs.Exports.{CarryExport, CarryClassExport};
 
 // A plan on the game, carried to the vertex, into output; and the order.
 #[no_mangle]
@@ -15,7 +16,7 @@ pub extern "C" fn raskjomi_carry(
     spare: &mut [u8],
     output: &mut [u16],
 ) -> RaskjomiAnswer
-    ensures { λ r. ⌜ CarryExport (now (game .entry)) player (now (plan .entry)) vertex (now (marks .entry)) (now (spare .entry)) (now (output .entry)) r (now (marks .exit)) (now (spare .exit)) (now (output .exit)) ⌝ }
+    ensures { λ r. ⌜ CarryExport (old game) player (old plan) vertex (old marks) (old spare) (old output) r (new marks) (new spare) (new output) ⌝ }
 {
     of_carrying(carry::carry_plan(game, player, plan, vertex, marks, spare, output))
 }
@@ -33,7 +34,10 @@ pub extern "C" fn raskjomi_carry_class(
     reduction: &mut [u16],
     output: &mut [u16],
 ) -> RaskjomiAnswer
-    ensures { λ r. ⌜ CarryClassExport (now (game .entry)) player (now (plan .entry)) vertex (now (marks .entry)) (now (spare .entry)) (now (classes .entry)) (now (reduction .entry)) (now (output .entry)) r (now (marks .exit)) (now (spare .exit)) (now (classes .exit)) (now (reduction .exit)) (now (output .exit)) ⌝ }
+    ensures { λ r. ⌜
+        CarryClassExport (old game) player (old plan) vertex (old marks) (old spare) (old classes) (old reduction) (old output) r
+        (new marks) (new spare) (new classes) (new reduction) (new output)
+        ⌝ }
 {
     of_class_carrying(carry::carry_class_plan(
         game,

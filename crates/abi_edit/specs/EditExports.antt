@@ -2,13 +2,13 @@
 use mathlib.Core.Path.{_≡_}
 use mathlib.Core.List.{List}
 use Prim.Native.Nat.{ℕ}
-use Rattle.table.specs.Verdict.{Answer}
-use Rattle.edges.specs.declared.Edit.{Edit}
+use Rattle.table.specs.Answers.{Answer}
+use Rattle.edit_rules.specs.declared.Edit.{Edit}
 use Rattle.edit.specs.EditCall.{EditCall}
-use Rattle.preview.specs.PreviewCall.{PreviewCall}
-use Rattle.replay.specs.ReplayCall.{ReplayCall}
-use Rattle.answer.specs.Fields.{tableFields, replayFields}
-use Rattle.answer.specs.declared.RaskjomiAnswer.{RaskjomiAnswer}
+use Rattle.edit_preview.specs.PreviewCall.{PreviewCall}
+use Rattle.edit_replay.specs.ReplayCall.{ReplayCall}
+use Rattle.abi_answer.specs.Fields.{tableFields, replayFields}
+use Rattle.abi_answer.specs.declared.RaskjomiAnswer.{RaskjomiAnswer}
 
 pub record EditExport (e : Edit) (table : List ℕ) (source target : ℕ) (marks spare classes : List ℕ) (r : RaskjomiAnswer)
     (table′ marks′ spare′ classes′ : List ℕ) : Type 0 where

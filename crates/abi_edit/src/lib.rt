@@ -1,8 +1,9 @@
 // The exports that edit a table or preview an edit, in the form of those of `abi`.
-use answer::RaskjomiAnswer;
-use answer::of_replaying;
-use answer::of_tabulation;
-ghost use Rattle.edges.specs.declared.Edit.the-variants.{Arrival, Leaving};
+use abi_answer::RaskjomiAnswer;
+use abi_answer::of_replaying;
+use abi_answer::of_tabulation;
+ghost use Rattle.table.specs.Lent.{old, new};
+ghost use Rattle.edit_rules.specs.declared.Edit.the-variants.{Arrival, Leaving};
 ghost use Rattle.abi_edit.specs.EditExports.{EditExport, PreviewExport, ReplayExport};
 
 // An edge added to the table that begins `table`; the classes and the order of the new table.
@@ -15,7 +16,7 @@ pub extern "C" fn raskjomi_add_edge(
     spare: &mut [u8],
     classes: &mut [u16],
 ) -> RaskjomiAnswer
-    ensures { λ r. ⌜ EditExport Arrival (now (table .entry)) source target (now (marks .entry)) (now (spare .entry)) (now (classes .entry)) r (now (table .exit)) (now (marks .exit)) (now (spare .exit)) (now (classes .exit)) ⌝ }
+    ensures { λ r. ⌜ EditExport Arrival (old table) source target (old marks) (old spare) (old classes) r (new table) (new marks) (new spare) (new classes) ⌝ }
 {
     of_tabulation(edit::add_edge(table, source, target, marks, spare, classes))
 }
@@ -30,7 +31,7 @@ pub extern "C" fn raskjomi_remove_edge(
     spare: &mut [u8],
     classes: &mut [u16],
 ) -> RaskjomiAnswer
-    ensures { λ r. ⌜ EditExport Leaving (now (table .entry)) source target (now (marks .entry)) (now (spare .entry)) (now (classes .entry)) r (now (table .exit)) (now (marks .exit)) (now (spare .exit)) (now (classes .exit)) ⌝ }
+    ensures { λ r. ⌜ EditExport Leaving (old table) source target (old marks) (old spare) (old classes) r (new table) (new marks) (new spare) (new classes) ⌝ }
 {
     of_tabulation(edit::remove_edge(table, source, target, marks, spare, classes))
 }
@@ -46,9 +47,12 @@ pub extern "C" fn raskjomi_preview_add(
     spare: &mut [u8],
     classes: &mut [u16],
 ) -> RaskjomiAnswer
-    ensures { λ r. ⌜ PreviewExport Arrival (now (game .entry)) source target (now (table .entry)) (now (marks .entry)) (now (spare .entry)) (now (classes .entry)) r (now (table .exit)) (now (marks .exit)) (now (spare .exit)) (now (classes .exit)) ⌝ }
+    ensures { λ r. ⌜
+        PreviewExport Arrival (old game) source target (old table) (old marks) (old spare) (old classes) r
+        (new table) (new marks) (new spare) (new classes)
+        ⌝ }
 {
-    of_tabulation(preview::preview_add(game, source, target, table, marks, spare, classes))
+    of_tabulation(edit_preview::preview_add(game, source, target, table, marks, spare, classes))
 }
 
 // Every copy of an edge removed from a copy, in `table`, of the table that begins `game`; the classes and the order of the new table.
@@ -62,9 +66,12 @@ pub extern "C" fn raskjomi_preview_remove(
     spare: &mut [u8],
     classes: &mut [u16],
 ) -> RaskjomiAnswer
-    ensures { λ r. ⌜ PreviewExport Leaving (now (game .entry)) source target (now (table .entry)) (now (marks .entry)) (now (spare .entry)) (now (classes .entry)) r (now (table .exit)) (now (marks .exit)) (now (spare .exit)) (now (classes .exit)) ⌝ }
+    ensures { λ r. ⌜
+        PreviewExport Leaving (old game) source target (old table) (old marks) (old spare) (old classes) r
+        (new table) (new marks) (new spare) (new classes)
+        ⌝ }
 {
-    of_tabulation(preview::preview_remove(game, source, target, table, marks, spare, classes))
+    of_tabulation(edit_preview::preview_remove(game, source, target, table, marks, spare, classes))
 }
 
 // A trace of edits replayed in the table that begins `table`; the entries done, and the classes and the order of the final table.
@@ -76,7 +83,7 @@ pub extern "C" fn raskjomi_replay(
     spare: &mut [u8],
     classes: &mut [u16],
 ) -> RaskjomiAnswer
-    ensures { λ r. ⌜ ReplayExport (now (table .entry)) (now (trace .entry)) (now (marks .entry)) (now (spare .entry)) (now (classes .entry)) r (now (table .exit)) (now (marks .exit)) (now (spare .exit)) (now (classes .exit)) ⌝ }
+    ensures { λ r. ⌜ ReplayExport (old table) (old trace) (old marks) (old spare) (old classes) r (new table) (new marks) (new spare) (new classes) ⌝ }
 {
-    of_replaying(replay::replay(table, trace, marks, spare, classes))
+    of_replaying(edit_replay::replay(table, trace, marks, spare, classes))
 }

@@ -1,12 +1,13 @@
 // The exports about governed bisimulations, in the form of those of `abi`.
-use answer::RaskjomiAnswer;
-use answer::of_acceptance;
-use answer::of_classification;
-use answer::of_ordering;
+use abi_answer::RaskjomiAnswer;
+use abi_answer::of_acceptance;
+use abi_answer::of_classification;
+use abi_answer::of_ordering;
 ghost use mathlib.Core.Path.{_≡_};
+ghost use Rattle.table.specs.Lent.{old, new};
 ghost use Rattle.governed.specs.GovernedCall.{governedAnswer};
-ghost use Rattle.answer.specs.Fields.{acceptFields};
-ghost use Rattle.answer.specs.Exports.{GovernedExport, GovernedClassesExport};
+ghost use Rattle.abi_answer.specs.Fields.{acceptFields};
+ghost use Rattle.abi_answer.specs.Exports.{GovernedExport, GovernedClassesExport};
 
 // The largest governed bisimulation, into marks and spare.
 #[no_mangle]
@@ -15,7 +16,7 @@ pub extern "C" fn raskjomi_governed_order(
     marks: &mut [u8],
     spare: &mut [u8],
 ) -> RaskjomiAnswer
-    ensures { λ r. ⌜ GovernedExport (now (game .entry)) (now (marks .entry)) (now (spare .entry)) r (now (marks .exit)) (now (spare .exit)) ⌝ }
+    ensures { λ r. ⌜ GovernedExport (old game) (old marks) (old spare) r (new marks) (new spare) ⌝ }
 {
     of_ordering(governed::write_governed(game, marks, spare))
 }
@@ -23,7 +24,7 @@ pub extern "C" fn raskjomi_governed_order(
 // The acceptor of governed bisimulations.
 #[no_mangle]
 pub extern "C" fn raskjomi_accept_governed(game: &[u16], marks: &[u8]) -> RaskjomiAnswer
-    ensures { λ r. ⌜ r ≡ acceptFields (governedAnswer (now (game .entry)) (now (marks .entry))) ⌝ }
+    ensures { λ r. ⌜ r ≡ acceptFields (governedAnswer (old game) (old marks)) ⌝ }
 {
     of_acceptance(governed::accept_governed(game, marks))
 }
@@ -36,7 +37,7 @@ pub extern "C" fn raskjomi_governed_classes(
     spare: &mut [u8],
     classes: &mut [u16],
 ) -> RaskjomiAnswer
-    ensures { λ r. ⌜ GovernedClassesExport (now (game .entry)) (now (marks .entry)) (now (spare .entry)) (now (classes .entry)) r (now (marks .exit)) (now (spare .exit)) (now (classes .exit)) ⌝ }
+    ensures { λ r. ⌜ GovernedClassesExport (old game) (old marks) (old spare) (old classes) r (new marks) (new spare) (new classes) ⌝ }
 {
     of_classification(governed::write_governed_classes(game, marks, spare, classes))
 }

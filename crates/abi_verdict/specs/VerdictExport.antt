@@ -3,10 +3,10 @@ use mathlib.Core.Path.{_≡_}
 use mathlib.Core.List.{List}
 use Prim.Native.Nat.{ℕ}
 use lib.ListN.{getD}
-use Rattle.table.specs.Verdict.{Answer, accepted, refused}
+use Rattle.table.specs.Answers.{Answer, accepted, refused}
 use Rattle.reduction.specs.declared.Tabulation.{Tabulation}
-use Rattle.answer.specs.Fields.{turnedDown, tableFields, SmallCounts}
-use Rattle.answer.specs.declared.RaskjomiAnswer.{RaskjomiAnswer}
+use Rattle.abi_answer.specs.Fields.{turnedDown, tableFields, SmallCounts}
+use Rattle.abi_answer.specs.declared.RaskjomiAnswer.{RaskjomiAnswer}
 use Rattle.verdict.specs.VerdictCall.{VerdictCall}
 use Rattle.verdict.specs.declared.Verdict.{Verdict}
 

@@ -3,14 +3,14 @@ use mathlib.Core.Path.{_≡_, refl, sym, ap, subst}
 use mathlib.Core.List.{List, [], _∷_}
 use Prim.Native.Nat.{ℕ}
 use lib.ListN.{take}
-use Rattle.theory.specs.Reduction.{reduced}
-use Rattle.theory.specs.SizeLaws.{reduced-size, reduced-edges}
-use Rattle.table.specs.Verdict.{Answer, accepted}
+use Rattle.theory.specs.classes.Reduction.{reduced}
+use Rattle.theory.specs.classes.SizeLaws.{reduced-size, reduced-edges}
+use Rattle.table.specs.Answers.{Answer, accepted}
 use Rattle.reduction.specs.TableCall.{tableCounts, TableCall}
 use Rattle.reduction.specs.declared.TableCounts.{TableCounts}
 use Rattle.reduction.specs.declared.Tabulation.{Tabulation}
-use Rattle.answer.specs.Fields.{SmallCounts}
-use Rattle.answer.specs.FieldsLaws.{tabulation-small}
+use Rattle.abi_answer.specs.Fields.{SmallCounts}
+use Rattle.abi_answer.specs.FieldsLaws.{tabulation-small}
 use Rattle.verdict.specs.VerdictCall.{verdictAnswer, VerdictCall}
 use Rattle.verdict.specs.VerdictRulesLaws.{front-fits, verdict-accepted, verdict-table}
 use Rattle.verdict.specs.declared.Verdict.{Verdict}

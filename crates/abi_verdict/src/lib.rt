@@ -1,9 +1,10 @@
 // The verdict call's export, in the form of those of `abi`.
-use answer::RaskjomiAnswer;
-use answer::of_tabulation;
+use abi_answer::RaskjomiAnswer;
+use abi_answer::of_tabulation;
 use reduction::Tabulation;
 use verdict::Verdict;
 ghost use mathlib.Core.Path.{_≡_};
+ghost use Rattle.table.specs.Lent.{old, new};
 ghost use Rattle.verdict.specs.VerdictCall.{verdictAnswer};
 ghost use Rattle.abi_verdict.specs.VerdictExport.{withShown, verdictFields, SmallVerdict, VerdictExport};
 
@@ -48,7 +49,10 @@ pub extern "C" fn raskjomi_verdict(
     classes: &mut [u16],
     reduction: &mut [u16],
 ) -> RaskjomiAnswer
-    ensures { λ r. ⌜ VerdictExport (now (game .entry)) vertex player (now (plan .entry)) (now (marks .entry)) (now (spare .entry)) (now (classes .entry)) (now (reduction .entry)) r (now (marks .exit)) (now (spare .exit)) (now (classes .exit)) (now (reduction .exit)) ⌝ }
+    ensures { λ r. ⌜
+        VerdictExport (old game) vertex player (old plan) (old marks) (old spare) (old classes) (old reduction) r
+        (new marks) (new spare) (new classes) (new reduction)
+        ⌝ }
 {
     of_verdict(verdict::give_verdict(game, vertex, player, plan, marks, spare, classes, reduction))
 }

@@ -3,18 +3,18 @@
 use mathlib.Core.Path.{_≡_}
 use mathlib.Core.List.{List, [], _∷_, _++_}
 use Prim.Native.Nat.{ℕ}
-use Rattle.theory.specs.Order.{order}
-use Rattle.theory.specs.Plan.{Plan}
-use Rattle.theory.specs.Reduction.{noBetter, reduced}
-use Rattle.theory.specs.Carry.{carriedPlan, classNoBetter, carriedClassPlan}
+use Rattle.theory.specs.order.Order.{order}
+use Rattle.theory.specs.plans.Plan.{Plan}
+use Rattle.theory.specs.classes.Reduction.{noBetter, reduced}
+use Rattle.theory.specs.carry.Carry.{carriedPlan, classNoBetter, carriedClassPlan}
 use Rattle.table.specs.Table.{vertexCount, playerOf, gameOf}
-use Rattle.table.specs.Verdict.{Row, Answer, accepted, refused, judge, after}
+use Rattle.table.specs.Answers.{Row, Answer, accepted, refused, judge, after}
 use Rattle.order.specs.OrderCall.{orderRows, orderBytes}
 use Rattle.classes.specs.ClassesCall.{classWords}
 use Rattle.reduction.specs.TableCall.{tableRows, tableCounts, classTable}
-use Rattle.links.specs.PlanTable.{vertexAt, planOf}
+use Rattle.plan_links.specs.PlanTable.{vertexAt, planOf}
 use Rattle.plan.specs.Acceptance.{planRows}
-use Rattle.arrival.specs.PlanWords.{planWords, planCounts, carriedRows}
+use Rattle.carry_output.specs.PlanWords.{planWords, planCounts, carriedRows}
 use Rattle.carry.specs.declared.ClassCarrying.{ClassCarrying}
 
 -- ---- the plan is on the game itself

@@ -6,36 +6,36 @@ use Prim.Native.Nat.{ℕ, _≤_}
 use native.Mathlib.Omega.{arith}
 use lib.ListN.{length}
 use lib.Seq.{take-at}
-use Rattle.theory.specs.Game.{edgeCount}
-use Rattle.theory.specs.Order.{orderPasses}
-use Rattle.theory.specs.Plan.{Plan}
-use Rattle.theory.specs.Reduction.{classGame, reduced}
-use Rattle.theory.specs.ReductionLaws.{reduced-total, classOf-reduced}
-use Rattle.theory.specs.SizeLaws.{reduced-size, reduced-edges}
+use Rattle.theory.specs.games.Game.{edgeCount}
+use Rattle.theory.specs.order.Order.{orderPasses}
+use Rattle.theory.specs.plans.Plan.{Plan}
+use Rattle.theory.specs.classes.Reduction.{classGame, reduced}
+use Rattle.theory.specs.classes.ReductionLaws.{reduced-total, classOf-reduced}
+use Rattle.theory.specs.classes.SizeLaws.{reduced-size, reduced-edges}
 use Rattle.table.specs.Table.{vertexCount, tableEdges, tableLength, gameOf}
 use Rattle.table.specs.TableWords.{edgesOf, tableWords}
 use Rattle.table.specs.TableWordsLaws.{length-tableWords, tableWords-well, edgesOf-lists, length-edgesOf}
 use Rattle.table.specs.TableLaws.{game-n, game-total, edges-listed}
-use Rattle.table.specs.Verdict.{Row, Answer, accepted, refused, judge, Clean, written}
-use Rattle.table.specs.VerdictLaws.{judge-clean, judge-past, judge-stays, judge-accepted, length-written, after-clean, after-past, after-refused, clean-append}
+use Rattle.table.specs.Answers.{Row, Answer, accepted, refused, judge, Clean, written}
+use Rattle.table.specs.AnswersLaws.{judge-clean, judge-past, judge-stays, judge-accepted, length-written, after-clean, after-past, after-refused, clean-append}
 use Rattle.table.specs.WellFormed.{WellFormed}
 use Rattle.order.specs.OrderCall.{orderRows, passesAnswer, orderAnswer, orderBytes}
 use Rattle.order.specs.OrderRules.{OrderFits}
 use Rattle.order.specs.OrderRulesLaws.{order-accepts}
 use Rattle.order.specs.OrderWritten.{OrderDone}
 use Rattle.classes.specs.Numbering.{Ordered}
-use Rattle.classes.specs.HoldingLaws.{ordered-written}
+use Rattle.classes.specs.OrderedMarksLaws.{ordered-written}
 use Rattle.reduction.specs.TableCall.{tableRows, tableCounts, classTable, TableCall}
 use Rattle.reduction.specs.TableRulesLaws.{table-accepted}
 use Rattle.reduction.specs.declared.TableCounts.{TableCounts}
-use Rattle.links.specs.PlanFormed.{WordsPass}
+use Rattle.plan_links.specs.PlanFormed.{WordsPass}
 use Rattle.plan.specs.Acceptance.{planRows}
 use Rattle.plan.specs.AcceptanceLaws.{clean-words}
 use Rattle.plan.specs.NumbersLaws.{recount}
-use Rattle.arrival.specs.PlanWords.{planWords, planCounts}
+use Rattle.carry_output.specs.PlanWords.{planWords, planCounts}
 use Rattle.carry.specs.CarryCall.{carriedTo, judgedRows, carryRows, CarryCall, carriedFromClass, carryClassRows, CarryClassCall}
-use Rattle.arrival.specs.Arrival.{neededBy, carriedBy, arrivalRows, Arrived, planVertices, Carriable}
-use Rattle.carry.specs.Reduced.{ReducedHeld, reducedRows}
+use Rattle.carry_output.specs.CarryParts.{neededBy, carriedBy, arrivalRows, Arrived, planVertices, Carriable}
+use Rattle.carry.specs.ReducedMemory.{ReducedHeld, reducedRows}
 
 -- ---- a plan that passes 11 to 16 can be carried
 

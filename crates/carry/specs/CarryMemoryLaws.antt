@@ -5,21 +5,21 @@ use mathlib.Core.Logic.{_⊎_, inl, inr}
 use mathlib.Core.List.{List, _++_}
 use Prim.Native.Nat.{ℕ, _≤_}
 use native.Mathlib.Omega.{arith}
-use Rattle.theory.specs.Passes.{Rel}
-use Rattle.theory.specs.Plan.{Plan}
-use Rattle.theory.specs.Reduction.{reduced}
-use Rattle.theory.specs.Carry.{classNoBetter}
+use Rattle.theory.specs.order.Passes.{Rel}
+use Rattle.theory.specs.plans.Plan.{Plan}
+use Rattle.theory.specs.classes.Reduction.{reduced}
+use Rattle.theory.specs.carry.Carry.{classNoBetter}
 use Rattle.table.specs.Table.{vertexCount, playerOf, gameOf}
-use Rattle.table.specs.Verdict.{Row, refused, Clean}
-use Rattle.table.specs.VerdictLaws.{after-refused}
+use Rattle.table.specs.Answers.{Row, refused, Clean}
+use Rattle.table.specs.AnswersLaws.{after-refused}
 use Rattle.table.specs.Reading.{gameRows}
 use Rattle.order.specs.OrderCall.{orderRows, orderBytes}
 use Rattle.classes.specs.ClassesCall.{classRows, classWords}
 use Rattle.reduction.specs.TableCall.{tableRows, classTable}
-use Rattle.links.specs.PlanTable.{vertexAt}
+use Rattle.plan_links.specs.PlanTable.{vertexAt}
 use Rattle.plan.specs.Acceptance.{planRows}
 use Rattle.plan.specs.NumbersLaws.{Numbers, numbers-append, game-numbers, plan-numbers, refused-first, passed-first}
-use Rattle.arrival.specs.PlanWords.{sizeRows, carriedRows}
+use Rattle.carry_output.specs.PlanWords.{sizeRows, carriedRows}
 use Rattle.carry.specs.CarryCall.{judgedRows, carryRows, CarryCall, carriedFromClass, carryClassRows, CarryClassCall}
 use Rattle.carry.specs.CarryRulesLaws.{carry-refused-output, carry-class-refused-output}
 

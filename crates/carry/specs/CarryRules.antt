@@ -4,16 +4,16 @@ use mathlib.Core.Bool.{So}
 use mathlib.Core.List.{List, [], _∷_, _++_}
 use Prim.Native.Nat.{ℕ, _≤_, _<_}
 use lib.ListN.{length}
-use Rattle.theory.specs.Order.{order}
-use Rattle.theory.specs.Plan.{Plan}
-use Rattle.theory.specs.Reduction.{representative, noBetter, reduced}
+use Rattle.theory.specs.order.Order.{order}
+use Rattle.theory.specs.plans.Plan.{Plan}
+use Rattle.theory.specs.classes.Reduction.{representative, noBetter, reduced}
 use Rattle.table.specs.Limits.{positionLimit, linkLimit}
 use Rattle.table.specs.Table.{vertexCount, playerOf, gameOf}
 use Rattle.table.specs.Rules.{Rule, placed, memoryRule}
 use Rattle.order.specs.OrderRules.{orderRules, OrderFits}
 use Rattle.reduction.specs.TableCall.{classTable}
 use Rattle.reduction.specs.TableRules.{tableRules, TableFits}
-use Rattle.links.specs.PlanTable.{vertexAt, planLength}
+use Rattle.plan_links.specs.PlanTable.{vertexAt, planLength}
 use Rattle.plan.specs.AcceptanceRules.{planRules, Accepts}
 use Rattle.carry.specs.CarryCall.{carriedTo, carriedFromClass}
 

@@ -10,17 +10,17 @@ use native.Mathlib.Omega.{arith}
 use lib.Dec.{ltb}
 use lib.ListN.{length}
 use borrow.Author.Tests.{ltb-true, ltb-false, lt-ltb, le-ltb, not-false}
-use Rattle.theory.specs.Bools.{_&_, _or_}
-use Rattle.theory.specs.BoolsLaws.{clash, So-not, and-in, and-out, not-in, not-out, or-left, or-right, or-out}
-use Rattle.theory.specs.Order.{order}
-use Rattle.theory.specs.Passes.{Rel}
-use Rattle.theory.specs.Plan.{Plan}
-use Rattle.theory.specs.Reduction.{noBetter, reduced}
-use Rattle.theory.specs.Carry.{classNoBetter}
+use Rattle.theory.specs.logic.Bools.{_&_, _or_}
+use Rattle.theory.specs.logic.BoolsLaws.{clash, So-not, and-in, and-out, not-in, not-out, or-left, or-right, or-out}
+use Rattle.theory.specs.order.Order.{order}
+use Rattle.theory.specs.order.Passes.{Rel}
+use Rattle.theory.specs.plans.Plan.{Plan}
+use Rattle.theory.specs.classes.Reduction.{noBetter, reduced}
+use Rattle.theory.specs.carry.Carry.{classNoBetter}
 use Rattle.table.specs.Limits.{positionLimit, linkLimit}
 use Rattle.table.specs.Table.{vertexCount, playerOf, gameOf}
-use Rattle.table.specs.Verdict.{Row, Answer, accepted, refused, Clean}
-use Rattle.table.specs.VerdictLaws.{judge-clean, judge-accepted, after-refused, clean-append, clean-split}
+use Rattle.table.specs.Answers.{Row, Answer, accepted, refused, Clean}
+use Rattle.table.specs.AnswersLaws.{judge-clean, judge-accepted, after-refused, clean-append, clean-split}
 use Rattle.table.specs.Reading.{gameRows}
 use Rattle.table.specs.ReadingLaws.{well-clean}
 use Rattle.table.specs.Rules.{FirstRule, none, next}
@@ -33,12 +33,12 @@ use Rattle.order.specs.OrderRules.{OrderFits}
 use Rattle.order.specs.OrderRulesLaws.{order-rows-render, order-accepted, order-accepts}
 use Rattle.reduction.specs.TableCall.{tableRows, tableCounts, classTable}
 use Rattle.reduction.specs.TableRulesLaws.{table-rows-render, table-clean, clean-table}
-use Rattle.links.specs.PlanTable.{vertexAt}
+use Rattle.plan_links.specs.PlanTable.{vertexAt}
 use Rattle.plan.specs.Acceptance.{planRows, planAnswer}
 use Rattle.plan.specs.AcceptanceRules.{Accepts}
 use Rattle.plan.specs.AcceptanceLaws.{plan-decides}
 use Rattle.plan.specs.WinningLaws.{plan-accepted, plan-accepts}
-use Rattle.arrival.specs.PlanWords.{planWords, planCounts, sizeRows, carriedRows}
+use Rattle.carry_output.specs.PlanWords.{planWords, planCounts, sizeRows, carriedRows}
 use Rattle.carry.specs.CarryCall.{carriedTo, judgedRows, carryRows, CarryCall, carriedFromClass, carryClassRows, CarryClassCall}
 use Rattle.carry.specs.CarryCallLaws.{reduced-well}
 use Rattle.carry.specs.CarryRules.{InOrder, TooLarge, carriedRules, Arriving, lowestStart, carryRules, CarryFits, carryClassRules, CarryClassFits}

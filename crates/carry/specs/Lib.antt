@@ -1,5 +1,5 @@
 pub mod CarryCall
-pub mod Reduced
+pub mod ReducedMemory
 pub mod CarryCallLaws
 pub mod CarryRules
 pub mod CarryRulesLaws

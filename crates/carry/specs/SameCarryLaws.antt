@@ -7,21 +7,21 @@ use Prim.Native.Nat.{ℕ, _≤_, _<_}
 use lib.Dec.{ltb}
 use lib.ListN.{length}
 use borrow.Author.Tests.{ltb-true, not-false}
-use Rattle.theory.specs.Bools.{_&_}
-use Rattle.theory.specs.BoolsLaws.{and-out}
-use Rattle.theory.specs.Game.{Player}
-use Rattle.theory.specs.Order.{order}
-use Rattle.theory.specs.Passes.{Rel}
-use Rattle.theory.specs.Plan.{Plan}
-use Rattle.theory.specs.Reduction.{noBetter, reduced}
-use Rattle.theory.specs.AgreementLaws.{agree-reduced, agree-wins}
-use Rattle.theory.specs.Carry.{classNoBetter}
-use Rattle.theory.specs.CarryAgreementLaws.{agree-noBetter, agree-classNoBetter, agree-carriedPlan, agree-carriedClassPlan}
+use Rattle.theory.specs.logic.Bools.{_&_}
+use Rattle.theory.specs.logic.BoolsLaws.{and-out}
+use Rattle.theory.specs.games.Game.{Player}
+use Rattle.theory.specs.order.Order.{order}
+use Rattle.theory.specs.order.Passes.{Rel}
+use Rattle.theory.specs.plans.Plan.{Plan}
+use Rattle.theory.specs.classes.Reduction.{noBetter, reduced}
+use Rattle.theory.specs.games.AgreementLaws.{agree-reduced, agree-wins}
+use Rattle.theory.specs.carry.Carry.{classNoBetter}
+use Rattle.theory.specs.carry.CarryAgreementLaws.{agree-noBetter, agree-classNoBetter, agree-carriedPlan, agree-carriedClassPlan}
 use Rattle.table.specs.Table.{vertexCount, tableEdges, tableLength, playerOf, gameOf}
 use Rattle.table.specs.TableWords.{edgesOf}
 use Rattle.table.specs.TableWordsLaws.{tableWords-agree, edgesOf-lists}
-use Rattle.table.specs.Verdict.{Row, row, Answer, judge, Clean, after}
-use Rattle.table.specs.VerdictLaws.{judge-parts, after-judged, clean-split}
+use Rattle.table.specs.Answers.{Row, row, Answer, judge, Clean, after}
+use Rattle.table.specs.AnswersLaws.{judge-parts, after-judged, clean-split}
 use Rattle.table.specs.WellFormed.{WellFormed}
 use Rattle.table.specs.SameGame.{SameGame}
 use Rattle.table.specs.SameGameLaws.{same-agree}
@@ -30,10 +30,10 @@ use Rattle.order.specs.SameOrderLaws.{same-orderBytes, same-orderAnswer}
 use Rattle.classes.specs.ClassesCall.{classWords}
 use Rattle.reduction.specs.TableCall.{tableRows, tableCounts, classTable, TableCall}
 use Rattle.reduction.specs.SameTableLaws.{same-table, same-tableCounts, same-reducedTable}
-use Rattle.links.specs.PlanTable.{vertexAt, planOf}
+use Rattle.plan_links.specs.PlanTable.{vertexAt, planOf}
 use Rattle.plan.specs.Acceptance.{planRows}
 use Rattle.plan.specs.SamePlanLaws.{same-planRows}
-use Rattle.arrival.specs.PlanWords.{planWords, planCounts, sizeRows, carriedRows}
+use Rattle.carry_output.specs.PlanWords.{planWords, planCounts, sizeRows, carriedRows}
 use Rattle.carry.specs.CarryCall.{carriedTo, judgedRows, carryRows, CarryCall, carriedFromClass, carryClassRows, CarryClassCall}
 use Rattle.carry.specs.CarryCallLaws.{reduced-well}
 use Rattle.carry.specs.CarryRulesLaws.{clean-accepts}

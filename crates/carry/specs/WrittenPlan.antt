@@ -3,8 +3,8 @@ use mathlib.Core.Path.{_≡_}
 use mathlib.Core.List.{List, []}
 use Prim.Native.Nat.{ℕ}
 use lib.ListN.{take}
-use Rattle.table.specs.Verdict.{accepted}
-use Rattle.links.specs.PlanTable.{vertexAt, planLength}
+use Rattle.table.specs.Answers.{accepted}
+use Rattle.plan_links.specs.PlanTable.{vertexAt, planLength}
 use Rattle.plan.specs.Acceptance.{planAnswer}
 
 -- the written plan: as many words of the output as the verdict's counts, p positions and l links, tell

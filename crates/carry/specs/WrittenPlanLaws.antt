@@ -6,25 +6,25 @@ use native.Mathlib.Nat.{add-assoc}
 use native.Mathlib.Omega.{arith}
 use lib.ListN.{length, getD, length-append, length-map, List·getD-append, List·getD-map}
 use lib.Seq.{getD-append-add, take-at}
-use Rattle.theory.specs.ListLaws.{tabulate-by}
-use Rattle.theory.specs.LinkLaws.{pair-is}
-use Rattle.theory.specs.Plan.{Plan, Wins}
-use Rattle.theory.specs.Reduction.{reduced}
-use Rattle.theory.specs.AgreementLaws.{agree-wins}
-use Rattle.theory.specs.Carry.{classNoBetter}
-use Rattle.theory.specs.CarryLaws.{carriedPlan-wins, carriedClassPlan-wins}
+use Rattle.theory.specs.logic.ListLaws.{tabulate-by}
+use Rattle.theory.specs.plans.LinkLaws.{pair-is}
+use Rattle.theory.specs.plans.Plan.{Plan, Wins}
+use Rattle.theory.specs.classes.Reduction.{reduced}
+use Rattle.theory.specs.games.AgreementLaws.{agree-wins}
+use Rattle.theory.specs.carry.Carry.{classNoBetter}
+use Rattle.theory.specs.carry.CarryLaws.{carriedPlan-wins, carriedClassPlan-wins}
 use Rattle.table.specs.Limits.{positionLimit, linkLimit}
 use Rattle.table.specs.Table.{playerOf, gameOf}
 use Rattle.table.specs.TableWords.{edgesOf}
 use Rattle.table.specs.TableWordsLaws.{tableWords-agree, edgesOf-lists}
-use Rattle.table.specs.Verdict.{accepted, written}
-use Rattle.table.specs.VerdictLaws.{after-accepted}
+use Rattle.table.specs.Answers.{accepted, written}
+use Rattle.table.specs.AnswersLaws.{after-accepted}
 use Rattle.table.specs.WellFormed.{WellFormed}
 use Rattle.reduction.specs.TableCall.{classTable}
-use Rattle.links.specs.PlanTable.{vertexAt, linkSource, linkTarget, planLength, planOf}
-use Rattle.links.specs.PlanFormed.{PlanSized}
+use Rattle.plan_links.specs.PlanTable.{vertexAt, linkSource, linkTarget, planLength, planOf}
+use Rattle.plan_links.specs.PlanFormed.{PlanSized}
 use Rattle.plan.specs.WinningLaws.{plan-accepts}
-use Rattle.arrival.specs.PlanWords.{planWords, planCounts}
+use Rattle.carry_output.specs.PlanWords.{planWords, planCounts}
 use Rattle.carry.specs.CarryCall.{carriedTo, carryRows, CarryCall, carriedFromClass, carryClassRows, CarryClassCall}
 use Rattle.carry.specs.CarryRulesLaws.{carry-accepted, carry-class-accepted}
 use Rattle.carry.specs.WrittenPlan.{writtenPlan, PlanFrom}

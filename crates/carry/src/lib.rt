@@ -1,7 +1,7 @@
 // Plans carried to another vertex.
-use arrival::Carrying;
-use arrival::carry_to;
-use pairs::marks::length_for;
+use carry_output::Carrying;
+use carry_output::carry_to;
+use marks::packed::length_for;
 use plan::judge_plan;
 use reduction::TableCounts;
 use reduction::Tabulation;
@@ -12,12 +12,13 @@ use table::Refusal;
 use table::refusal_of;
 ghost use mathlib.Core.Bool.{true};
 ghost use mathlib.Core.List.{_++_};
-ghost use Rattle.theory.specs.Reduction.{reduced};
+ghost use Rattle.theory.specs.classes.Reduction.{reduced};
+ghost use Rattle.table.specs.Lent.{old, new};
 ghost use Rattle.reduction.specs.TableCall.{tableCounts};
-ghost use Rattle.arrival.specs.PlanWords.{planWords, planCounts, carryingAnswer};
+ghost use Rattle.carry_output.specs.PlanWords.{planWords, planCounts, carryingAnswer};
 ghost use Rattle.carry.specs.CarryCall.{CarryCall, classCarryingAnswer, CarryClassCall};
-ghost use Rattle.arrival.specs.Arrival.{carriedBy, Arrived};
-ghost use Rattle.carry.specs.Reduced.{ReducedHeld, reducedRows};
+ghost use Rattle.carry_output.specs.CarryParts.{carriedBy, Arrived};
+ghost use Rattle.carry.specs.ReducedMemory.{ReducedHeld, reducedRows};
 
 // The number of classes, the vertices and edges of the reduced game, and the positions and links of the plan that is written.
 pub struct ClassPlanCounts {
@@ -44,9 +45,12 @@ pub fn carry_plan(
     spare: &mut [u8],
     output: &mut [u16],
 ) -> Carrying
-    ensures { λ r. ⌜ CarryCall (now (game .entry)) player (now (plan .entry)) vertex (now (marks .entry)) (now (spare .entry)) (now (output .entry)) (carryingAnswer r) (now (marks .exit)) (now (spare .exit)) (now (output .exit)) ⌝ }
+    ensures { λ r. ⌜
+        CarryCall (old game) player (old plan) vertex (old marks) (old spare) (old output) (carryingAnswer r)
+        (new marks) (new spare) (new output)
+        ⌝ }
 {
-    let reading = reader::read(game);
+    let reading = table_reader::read(game);
     let Reading::Accepted(sizes) = reading else {
         return Carrying::Refused(refusal_of(reading));
     };
@@ -84,9 +88,12 @@ pub fn carry_class_plan(
     reduction: &mut [u16],
     output: &mut [u16],
 ) -> ClassCarrying
-    ensures { λ r. ⌜ CarryClassCall (now (game .entry)) player (now (plan .entry)) vertex (now (marks .entry)) (now (spare .entry)) (now (classes .entry)) (now (reduction .entry)) (now (output .entry)) (classCarryingAnswer r) (now (marks .exit)) (now (spare .exit)) (now (classes .exit)) (now (reduction .exit)) (now (output .exit)) ⌝ }
+    ensures { λ r. ⌜
+        CarryClassCall (old game) player (old plan) vertex (old marks) (old spare) (old classes) (old reduction) (old output) (classCarryingAnswer r)
+        (new marks) (new spare) (new classes) (new reduction) (new output)
+        ⌝ }
 {
-    let reading = reader::read(game);
+    let reading = table_reader::read(game);
     let Reading::Accepted(sizes) = reading else {
         return ClassCarrying::Refused(refusal_of(reading));
     };
@@ -120,7 +127,12 @@ fn carry_reduced(
     counts: TableCounts,
 ) -> ClassCarrying
     requires { ⌜ ReducedHeld (now game) (now marks) (now reduction) counts ⌝ }
-    ensures { λ r. ⌜ Arrived (reducedRows (now (game .entry)) player (now (plan .entry)) y (now (output .entry))) (tableCounts reduced (now (game .entry)) ++ planCounts (carriedBy true (now (game .entry)) player (now (plan .entry)) y)) (planWords (carriedBy true (now (game .entry)) player (now (plan .entry)) y)) (now (output .entry)) (classCarryingAnswer r) (now (output .exit)) ⌝ }
+    ensures { λ r. ⌜
+        Arrived (reducedRows (old game) player (old plan) y (old output))
+        (tableCounts reduced (old game) ++ planCounts (carriedBy true (old game) player (old plan) y))
+        (planWords (carriedBy true (old game) player (old plan) y)) (old output) (classCarryingAnswer r)
+        (new output)
+        ⌝ }
 {
     let size = 2 + 2 * counts.vertices + 2 * counts.edges;
     let judged = judge_plan(&reduction[..size], player, plan);

@@ -77,7 +77,7 @@ pub fn short_buffers() {
 
 fn accepts(name: &[u8], game: &[u16], marks: &[u8]) {
     print::text(name);
-    match relation::accept_relation(game, marks) {
+    match order_acceptor::accept_relation(game, marks) {
         Acceptance::Accepted(_) => {
             print::accepted();
             print::end_line();

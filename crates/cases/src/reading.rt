@@ -5,7 +5,7 @@ use table::Reading;
 
 fn reads(name: &[u8], game: &[u16]) {
     print::text(name);
-    let r = reader::read(game);
+    let r = table_reader::read(game);
     match r {
         Reading::Accepted(c) => {
             print::accepted();
@@ -94,7 +94,7 @@ pub fn limits() {
 fn kind(number: u32) {
     print::text(b"kind");
     print::number(number as u64);
-    print::number(reader::kind(number) as u64);
+    print::number(table_reader::kind(number) as u64);
     print::end_line();
 }
 

@@ -4,14 +4,14 @@ use mathlib.Core.Logic.{_↔_}
 use mathlib.Core.List.{List, [], _∷_}
 use Prim.Native.Nat.{ℕ}
 use lib.ListN.{replicate}
-use Rattle.theory.specs.Game.{Game}
-use Rattle.theory.specs.Reduction.{quotient, reduced}
+use Rattle.theory.specs.games.Game.{Game}
+use Rattle.theory.specs.classes.Reduction.{quotient, reduced}
 use Rattle.table.specs.Table.{vertexCount, tableEdges, tableLength}
-use Rattle.table.specs.Verdict.{Row, Answer, accepted, refused, judge, after}
+use Rattle.table.specs.Answers.{Row, Answer, accepted, refused, judge, after}
 use Rattle.table.specs.Reading.{readAnswer}
-use Rattle.pairs.specs.Marks.{marksLength}
+use Rattle.marks.specs.Marks.{marksLength}
 use Rattle.order.specs.OrderCall.{orderRows, orderAnswer, orderBytes, OrderCall}
-use Rattle.relation.specs.RelationCall.{relationAnswer}
+use Rattle.order_acceptor.specs.RelationCall.{relationAnswer}
 use Rattle.plan.specs.Acceptance.{planAnswer}
 use Rattle.classes.specs.ClassesCall.{classRows, classWords, classesAnswer, ClassesCall}
 use Rattle.reduction.specs.TableCall.{tableRows, tableCounts, classTable, TableCall}

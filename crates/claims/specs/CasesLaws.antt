@@ -3,19 +3,19 @@
 use mathlib.Core.Path.{_≡_, refl, sym, ap, subst, _∙_}
 use mathlib.Core.List.{List, [], _∷_, map}
 use Prim.Native.Nat.{ℕ}
-use Rattle.theory.specs.Game.{Game}
-use Rattle.theory.specs.Compute.{compute}
-use Rattle.word.specs.Word.{digit, number}
+use Rattle.theory.specs.games.Game.{Game}
+use Rattle.theory.specs.examples.Compute.{compute}
+use Rattle.words.specs.Word.{digit, number}
 use Rattle.table.specs.Table.{gameOf, playerOf, isEdge}
-use Rattle.table.specs.Verdict.{Answer, judge, written, after}
+use Rattle.table.specs.Answers.{Answer, judge, written, after}
 use Rattle.table.specs.Reading.{lacksEdge, firstOwner, firstEnd, firstLacking, gameRowsBy, readAnswer}
 use Rattle.table.specs.TableWords.{ownerWord, tableWords}
-use Rattle.pairs.specs.Marks.{isMark, byteOf, bytes, relation, hasUnused}
+use Rattle.marks.specs.Marks.{isMark, byteOf, bytes, relation, hasUnused}
 use Rattle.order.specs.OrderCall.{orderRows, passesAnswer, OrderCall}
-use Rattle.relation.specs.RelationCall.{directPair, fails, firstFailing, acceptorRows, acceptorAnswer}
-use Rattle.links.specs.PlanTable.{anyLink, hasLink}
-use Rattle.links.specs.Refusals.{badSize, beyond, firstBeyond, strays, firstStray}
-use Rattle.returns.specs.Returns.{reaches, returns, positionPriority, returnsWrong, firstReturn}
+use Rattle.order_acceptor.specs.RelationCall.{directPair, fails, firstFailing, acceptorRows, acceptorAnswer}
+use Rattle.plan_links.specs.PlanTable.{anyLink, hasLink}
+use Rattle.plan_links.specs.Refusals.{badSize, beyond, firstBeyond, strays, firstStray}
+use Rattle.plan_returns.specs.Returns.{reaches, returns, positionPriority, returnsWrong, firstReturn}
 use Rattle.plan.specs.Acceptance.{answers, lacksLink, firstLackingLink, planRows, planAnswer}
 use Rattle.classes.specs.ClassesCall.{classRows, classTotal, classWords, totalAnswer, ClassesCall}
 use Rattle.reduction.specs.TableCall.{tableRows, TableCall}

@@ -8,36 +8,36 @@ use Prim.Native.Nat.{ℕ, _+_, _*_, _≤_, _<_}
 use native.Mathlib.Omega.{arith}
 use lib.ListN.{length, drop, getD, length-append}
 use lib.Seq.{take-at}
-use Rattle.theory.specs.Range.{Before}
-use Rattle.theory.specs.ListLaws.{length-tabulate, getD-tabulate}
-use Rattle.theory.specs.Game.{Player, even, odd, Game, Succ, edgeCount}
-use Rattle.theory.specs.Order.{order}
-use Rattle.theory.specs.OrderLaws.{order-in}
-use Rattle.theory.specs.Plan.{Won}
-use Rattle.theory.specs.Reduction.{quotient, reduced, classOf}
-use Rattle.theory.specs.ReductionLaws.{quotient-total, reduced-total, classOf-quotient, classOf-reduced}
-use Rattle.theory.specs.SizeLaws.{quotient-size, reduced-size, quotient-edges, reduced-edges}
-use Rattle.theory.specs.KeptWinners as games
-use Rattle.theory.specs.AgreementLaws.{agree-winner, agree-sym, agree-edgeCount}
+use Rattle.theory.specs.logic.Range.{Before}
+use Rattle.theory.specs.logic.ListLaws.{length-tabulate, getD-tabulate}
+use Rattle.theory.specs.games.Game.{Player, even, odd, Game, Succ, edgeCount}
+use Rattle.theory.specs.order.Order.{order}
+use Rattle.theory.specs.order.OrderLaws.{order-in}
+use Rattle.theory.specs.plans.Plan.{Won}
+use Rattle.theory.specs.classes.Reduction.{quotient, reduced, classOf}
+use Rattle.theory.specs.classes.ReductionLaws.{quotient-total, reduced-total, classOf-quotient, classOf-reduced}
+use Rattle.theory.specs.classes.SizeLaws.{quotient-size, reduced-size, quotient-edges, reduced-edges}
+use Rattle.theory.specs.winners.KeptWinners as games
+use Rattle.theory.specs.games.AgreementLaws.{agree-winner, agree-sym, agree-edgeCount}
 use Rattle.table.specs.Limits.{vertexLimit, edgeLimit}
 use Rattle.table.specs.Table.{vertexCount, tableEdges, sourceAt, targetAt, tableLength, gameOf}
-use Rattle.table.specs.Verdict.{Row, Answer, accepted, Clean, written, after}
-use Rattle.table.specs.VerdictLaws.{judge-accepted, after-clean, getD-written}
+use Rattle.table.specs.Answers.{Row, Answer, accepted, Clean, written, after}
+use Rattle.table.specs.AnswersLaws.{judge-accepted, after-clean, getD-written}
 use Rattle.table.specs.Reading.{readAnswer}
 use Rattle.table.specs.ReadingLaws.{read-accepts}
 use Rattle.table.specs.WellFormed.{WellFormed}
 use Rattle.table.specs.TableLaws.{edges-listed, game-total}
 use Rattle.table.specs.TableWords.{edgesOf, tableWords}
 use Rattle.table.specs.TableWordsLaws.{length-tableWords, source-is, target-is, tableWords-edge, tableWords-well, tableWords-agree, edgesOf-lists, edgesOf-ascend, length-edgesOf}
-use Rattle.pairs.specs.Marks.{isMark, Marked}
+use Rattle.marks.specs.Marks.{isMark, Marked}
 use Rattle.order.specs.OrderCall.{orderRows, orderBytes, OrderCall}
 use Rattle.order.specs.OrderRulesLaws as orders
-use Rattle.relation.specs.RelationCall.{relationAnswer}
-use Rattle.relation.specs.RelationRulesLaws.{passed-below}
+use Rattle.order_acceptor.specs.RelationCall.{relationAnswer}
+use Rattle.order_acceptor.specs.RelationRulesLaws.{passed-below}
 use Rattle.classes.specs.ClassesCall.{classRows, classWords, ClassesCall}
 use Rattle.reduction.specs.TableCall.{tableRows, TableCall}
 use Rattle.reduction.specs.TableRulesLaws.{table-accepted}
-use Rattle.claims.specs.Written.{LeavesOrder, LeavesClasses, writtenTable, Faithful}
+use Rattle.claims.specs.WrittenMemory.{LeavesOrder, LeavesClasses, writtenTable, Faithful}
 
 -- ---- which calls leave the order and the classes: a line for each call and buffer
 

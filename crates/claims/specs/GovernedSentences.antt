@@ -4,14 +4,14 @@ use mathlib.Core.Logic.{_↔_}
 use mathlib.Core.List.{List, []}
 use Prim.Native.Nat.{ℕ, _<_}
 use lib.ListN.{getD}
-use Rattle.theory.specs.Game.{Player}
-use Rattle.theory.specs.Governed.{governed}
-use Rattle.theory.specs.Plan.{Won}
-use Rattle.theory.specs.Reduction.{classNumber, classOf}
+use Rattle.theory.specs.games.Game.{Player}
+use Rattle.theory.specs.order.Governed.{governed}
+use Rattle.theory.specs.plans.Plan.{Won}
+use Rattle.theory.specs.classes.Reduction.{classNumber, classOf}
 use Rattle.table.specs.Table.{vertexCount, gameOf}
-use Rattle.table.specs.Verdict.{Answer, accepted}
-use Rattle.pairs.specs.Marks.{Marked}
-use Rattle.relation.specs.RelationCall.{relationAnswer}
+use Rattle.table.specs.Answers.{Answer, accepted}
+use Rattle.marks.specs.Marks.{Marked}
+use Rattle.order_acceptor.specs.RelationCall.{relationAnswer}
 use Rattle.governed.specs.GovernedCall.{GovernedCall, governedAnswer, GovernedClassesCall}
 use Rattle.claims.specs.Sentences.{OnAcceptance}
 

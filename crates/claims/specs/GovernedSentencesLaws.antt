@@ -4,13 +4,13 @@ use mathlib.Core.List.{List, [], _∷_}
 use Prim.Native.Nat.{ℕ, _<_}
 use native.Mathlib.Omega.{arith}
 use lib.ListN.{getD}
-use Rattle.theory.specs.ListLaws.{length-tabulate, getD-tabulate}
-use Rattle.theory.specs.Governed.{governed, governedPasses}
-use Rattle.theory.specs.GovernedLaws.{governed-class, governed-winner, length-governedMarks}
-use Rattle.theory.specs.Reduction.{classNumber}
+use Rattle.theory.specs.logic.ListLaws.{length-tabulate, getD-tabulate}
+use Rattle.theory.specs.order.Governed.{governed, governedPasses}
+use Rattle.theory.specs.order.GovernedLaws.{governed-class, governed-winner, length-governedMarks}
+use Rattle.theory.specs.classes.Reduction.{classNumber}
 use Rattle.table.specs.Table.{vertexCount, gameOf}
-use Rattle.table.specs.Verdict.{Answer, accepted}
-use Rattle.table.specs.VerdictLaws.{after-clean, getD-written}
+use Rattle.table.specs.Answers.{Answer, accepted}
+use Rattle.table.specs.AnswersLaws.{after-clean, getD-written}
 use Rattle.order.specs.OrderRulesLaws.{marks-swapped}
 use Rattle.classes.specs.ClassesCall.{classRows, wordsOf}
 use Rattle.classes.specs.ClassesRulesLaws.{classes-accepted, classes-clean, classes-marks}

@@ -1,28 +1,28 @@
--- The sentences of demand 3, about slices after each call that leaves the order, as the promises of the functions of `sentences` state them.
+-- The sentences of demand 3, about slices after each call that leaves the order, as the promises of the functions of `claims_calls` state them.
 use mathlib.Core.Path.{_≡_}
 use mathlib.Core.Logic.{_⊎_, _↔_}
 use mathlib.Core.List.{List, [], _∷_}
 use Prim.Native.Nat.{ℕ, _≤_, _<_}
 use lib.ListN.{getD}
-use Rattle.theory.specs.Game.{Player, even, odd, Game, edgeCount}
-use Rattle.theory.specs.Plan.{Won}
-use Rattle.theory.specs.Reduction.{reduced, classOf}
+use Rattle.theory.specs.games.Game.{Player, even, odd, Game, edgeCount}
+use Rattle.theory.specs.plans.Plan.{Won}
+use Rattle.theory.specs.classes.Reduction.{reduced, classOf}
 use Rattle.table.specs.Table.{vertexCount, tableEdges, tableIn, gameOf}
-use Rattle.table.specs.Verdict.{Answer, accepted, refused}
+use Rattle.table.specs.Answers.{Answer, accepted, refused}
 use Rattle.table.specs.Reading.{readAnswer}
 use Rattle.table.specs.Acceptance.{acceptanceAnswer}
-use Rattle.pairs.specs.Marks.{Marked}
+use Rattle.marks.specs.Marks.{Marked}
 use Rattle.order.specs.OrderCall.{orderingAnswer, OrderCall}
-use Rattle.relation.specs.RelationCall.{relationAnswer}
+use Rattle.order_acceptor.specs.RelationCall.{relationAnswer}
 use Rattle.classes.specs.ClassesCall.{ClassesCall}
 use Rattle.reduction.specs.TableCall.{TableCall}
 use Rattle.carry.specs.CarryCall.{CarryCall, CarryClassCall}
 use Rattle.carry.specs.WrittenPlan.{writtenPlan, PlanFrom}
-use Rattle.edges.specs.declared.Edit.{Edit}
+use Rattle.edit_rules.specs.declared.Edit.{Edit}
 use Rattle.edit.specs.EditCall.{EditCall}
-use Rattle.preview.specs.PreviewCall.{PreviewCall}
-use Rattle.replay.specs.ReplayCall.{replayed, ReplayCall}
-use Rattle.claims.specs.Written.{writtenTable}
+use Rattle.edit_preview.specs.PreviewCall.{PreviewCall}
+use Rattle.edit_replay.specs.ReplayCall.{replayed, ReplayCall}
+use Rattle.claims.specs.WrittenMemory.{writtenTable}
 use Rattle.claims.specs.declared.Containment.{Containment}
 
 -- where the call accepts

@@ -6,41 +6,41 @@ use Prim.Native.Nat.{ℕ, _≤_}
 use native.Mathlib.Omega.{arith}
 use lib.Dec.{ltb}
 use lib.ListN.{length}
-use Rattle.theory.specs.Game.{Game, edgeCount}
-use Rattle.theory.specs.Reduction.{reduced}
+use Rattle.theory.specs.games.Game.{Game, edgeCount}
+use Rattle.theory.specs.classes.Reduction.{reduced}
 use Rattle.table.specs.Table.{vertexCount, tableEdges, tableIn, gameOf}
-use Rattle.table.specs.Verdict.{Row, Answer, accepted, judge, Clean}
-use Rattle.table.specs.VerdictLaws.{judge-clean, judge-accepted, clean-split}
+use Rattle.table.specs.Answers.{Row, Answer, accepted, judge, Clean}
+use Rattle.table.specs.AnswersLaws.{judge-clean, judge-accepted, clean-split}
 use Rattle.table.specs.Rules.{NoRule}
 use Rattle.table.specs.RulesLaws.{clean-none}
 use Rattle.table.specs.Reading.{readAnswer}
 use Rattle.table.specs.Acceptance.{acceptanceAnswer}
 use Rattle.order.specs.OrderCall.{orderRows, passesAnswer, orderingAnswer, OrderCall}
-use Rattle.relation.specs.RelationCall.{relationAnswer}
+use Rattle.order_acceptor.specs.RelationCall.{relationAnswer}
 use Rattle.classes.specs.ClassesCall.{classRows, totalAnswer, ClassesCall}
 use Rattle.reduction.specs.TableCall.{tableRows, tableCounts, TableCall}
 use Rattle.plan.specs.NumbersLaws.{Numbers, numbers-append, game-numbers, passed-first}
 use Rattle.carry.specs.CarryCall.{judgedRows, carryRows, CarryCall, carryClassRows, CarryClassCall}
 use Rattle.carry.specs.CarryMemoryLaws.{carry-passed, carry-class-passed}
 use Rattle.carry.specs.WrittenPlanLaws.{carry-wins, carry-class-wins}
-use Rattle.edges.specs.Buffer.{bufferRows}
-use Rattle.edges.specs.BufferLaws.{in-vertices}
-use Rattle.edges.specs.Edges.{edited, changeRows, editRows}
-use Rattle.edges.specs.declared.Edit.{Edit}
-use Rattle.edges.specs.declared.Edit.the-variants.{Arrival, Leaving}
-use Rattle.trace.specs.Trace.{entriesIn, traceRows}
-use Rattle.trace.specs.Run.{toggle, Run}
-use Rattle.trace.specs.RunLaws.{RunView, ends, goes, stops, run-view}
-use Rattle.trace.specs.ParityLaws.{run-vertices}
+use Rattle.edit_rules.specs.Buffer.{bufferRows}
+use Rattle.edit_rules.specs.BufferLaws.{in-vertices}
+use Rattle.edit_rules.specs.Edges.{edited, changeRows, editRows}
+use Rattle.edit_rules.specs.declared.Edit.{Edit}
+use Rattle.edit_rules.specs.declared.Edit.the-variants.{Arrival, Leaving}
+use Rattle.edit_trace.specs.Trace.{entriesIn, traceRows}
+use Rattle.edit_trace.specs.Run.{toggle, Run}
+use Rattle.edit_trace.specs.RunLaws.{RunView, ends, goes, stops, run-view}
+use Rattle.edit_trace.specs.ParityLaws.{run-vertices}
 use Rattle.edit.specs.EditCall.{callRows, callCounts, EditCall}
 use Rattle.edit.specs.NewTableLaws.{call-table, call-read}
-use Rattle.preview.specs.PreviewCall.{PreviewCall}
-use Rattle.preview.specs.PreviewEditLaws.{preview-edit}
-use Rattle.replay.specs.ReplayCall.{startRows, replayed, ReplayCall}
-use Rattle.replay.specs.ReplayRules.{startRules}
-use Rattle.replay.specs.ReplayRulesLaws.{start-render, replay-passed}
-use Rattle.replay.specs.FinalTableLaws.{replay-table, replay-reads}
-use Rattle.claims.specs.Written.{LeavesOrder, Faithful}
+use Rattle.edit_preview.specs.PreviewCall.{PreviewCall}
+use Rattle.edit_preview.specs.PreviewEditLaws.{preview-edit}
+use Rattle.edit_replay.specs.ReplayCall.{startRows, replayed, ReplayCall}
+use Rattle.edit_replay.specs.ReplayRules.{startRules}
+use Rattle.edit_replay.specs.ReplayRulesLaws.{start-render, replay-passed}
+use Rattle.edit_replay.specs.FinalTableLaws.{replay-table, replay-reads}
+use Rattle.claims.specs.WrittenMemory.{LeavesOrder, Faithful}
 use Rattle.claims.specs.Demands as demands
 use Rattle.claims.specs.Sentences.{OnAcceptance, OrderSentences, ClassSentence, Orders, Classifies, Tabulates, Contains, OnceWritten, AfterOrder, AfterReduction, Carries, CarriesClass, EditSentences, Edits, Previews, AfterEntry, Replays}
 use Rattle.claims.specs.declared.Containment.{Containment}

@@ -4,14 +4,14 @@ use mathlib.Core.Path.{_≡_}
 use mathlib.Core.Bool.{So}
 use mathlib.Core.List.{List, [], _∷_}
 use Prim.Native.Nat.{ℕ}
-use Rattle.theory.specs.Game.{Game}
-use Rattle.theory.specs.Reduction.{reduced}
-use Rattle.theory.specs.Minimal.{represents, AtLeast}
+use Rattle.theory.specs.games.Game.{Game}
+use Rattle.theory.specs.classes.Reduction.{reduced}
+use Rattle.theory.specs.classes.Minimal.{represents, AtLeast}
 use Rattle.table.specs.Table.{gameOf}
-use Rattle.table.specs.Verdict.{Answer, accepted}
+use Rattle.table.specs.Answers.{Answer, accepted}
 use Rattle.table.specs.Reading.{readAnswer}
 use Rattle.reduction.specs.TableCall.{TableCall}
-use Rattle.claims.specs.Written.{writtenTable}
+use Rattle.claims.specs.WrittenMemory.{writtenTable}
 
 -- of an output that holds the table of the reduced game, n vertices and e edges
 pub record SmallestSentences (game output : List ℕ) (n e : ℕ) : Type 0 where

@@ -3,17 +3,17 @@ use mathlib.Core.Path.{_≡_}
 use mathlib.Core.List.{List, [], _∷_}
 use Prim.Native.Nat.{ℕ}
 use native.Mathlib.Omega.{arith}
-use Rattle.theory.specs.Game.{Game}
-use Rattle.theory.specs.Reduction.{reduced}
-use Rattle.theory.specs.AgreementLaws.{agree-sym}
-use Rattle.theory.specs.Minimal.{Represents, AtLeast}
-use Rattle.theory.specs.MinimalLaws.{represents-in, represents-out, represents-agree, reduced-represents, reduced-smallest}
+use Rattle.theory.specs.games.Game.{Game}
+use Rattle.theory.specs.classes.Reduction.{reduced}
+use Rattle.theory.specs.games.AgreementLaws.{agree-sym}
+use Rattle.theory.specs.classes.Minimal.{Represents, AtLeast}
+use Rattle.theory.specs.classes.MinimalLaws.{represents-in, represents-out, represents-agree, reduced-represents, reduced-smallest}
 use Rattle.table.specs.Table.{gameOf}
-use Rattle.table.specs.Verdict.{Answer, accepted}
+use Rattle.table.specs.Answers.{Answer, accepted}
 use Rattle.table.specs.TableWords.{edgesOf}
 use Rattle.table.specs.TableWordsLaws.{tableWords-agree, edgesOf-lists}
 use Rattle.reduction.specs.TableCall.{TableCall}
-use Rattle.claims.specs.Written.{writtenTable}
+use Rattle.claims.specs.WrittenMemory.{writtenTable}
 use Rattle.claims.specs.Demands.{reduced-faithful, counts, table-is, table-read}
 use Rattle.claims.specs.Smallest.{Minimizes}
 

@@ -1,4 +1,4 @@
-// What is claimed of the library stands in specs/; `sentences` has a function for each call, whose promise it is.
+// What is claimed of the library stands in specs/; `claims_calls` has a function for each call, whose promise it is.
 use order::Ordering;
 use table::Acceptance;
 

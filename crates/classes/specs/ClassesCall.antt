@@ -4,15 +4,15 @@ use mathlib.Core.List.{List, [], _∷_, _++_}
 use Prim.Native.Nat.{ℕ}
 use lib.Dec.{ltb}
 use lib.ListN.{length}
-use Rattle.theory.specs.Range.{tabulate}
-use Rattle.theory.specs.Passes.{Marks, Rel}
-use Rattle.theory.specs.Game.{Game}
-use Rattle.theory.specs.Order.{order, orderMarks}
-use Rattle.theory.specs.Reduction.{classCount, classNumber, classOf}
+use Rattle.theory.specs.logic.Range.{tabulate}
+use Rattle.theory.specs.order.Passes.{Marks, Rel}
+use Rattle.theory.specs.games.Game.{Game}
+use Rattle.theory.specs.order.Order.{order, orderMarks}
+use Rattle.theory.specs.classes.Reduction.{classCount, classNumber, classOf}
 use Rattle.table.specs.Table.{vertexCount, gameOf}
-use Rattle.table.specs.Verdict.{Row, row, Answer, accepted, refused, judge, after}
+use Rattle.table.specs.Answers.{Row, row, Answer, accepted, refused, judge, after}
 use Rattle.table.specs.Reading.{gameRows}
-use Rattle.pairs.specs.Marks.{marksLength}
+use Rattle.marks.specs.Marks.{marksLength}
 use Rattle.order.specs.OrderCall.{bytesOf}
 use Rattle.classes.specs.declared.Classification.{Classification}
 use Rattle.classes.specs.declared.Memory.{Memory}

@@ -5,25 +5,25 @@ use mathlib.Core.Bool.{Bool}
 use mathlib.Core.List.{List, [], _∷_, append-nil}
 use Prim.Native.Nat.{ℕ}
 use lib.ListN.{length}
-use Rattle.theory.specs.Range.{tabulate}
-use Rattle.theory.specs.Passes.{Marks}
-use Rattle.theory.specs.Game.{Game}
-use Rattle.theory.specs.Governed.{marksBy, relationBy, passesBy}
-use Rattle.theory.specs.Reduction.{classCount, classNumber}
+use Rattle.theory.specs.logic.Range.{tabulate}
+use Rattle.theory.specs.order.Passes.{Marks}
+use Rattle.theory.specs.games.Game.{Game}
+use Rattle.theory.specs.order.Governed.{marksBy, relationBy, passesBy}
+use Rattle.theory.specs.classes.Reduction.{classCount, classNumber}
 use Rattle.table.specs.Table.{vertexCount}
-use Rattle.table.specs.Verdict.{Row, accepted, refused, judge, written}
-use Rattle.table.specs.VerdictLaws.{judge-clean, judge-accepted, judge-past, judge-stays, after-clean, after-refused, clean-append}
+use Rattle.table.specs.Answers.{Row, accepted, refused, judge, written}
+use Rattle.table.specs.AnswersLaws.{judge-clean, judge-accepted, judge-past, judge-stays, after-clean, after-refused, clean-append}
 use Rattle.table.specs.Reading.{gameRows, readAnswer, readingAnswer}
 use Rattle.table.specs.ReadingLaws.{reading-stays, well-clean}
 use Rattle.table.specs.WellFormed.{WellFormed}
 use Rattle.table.specs.declared.Refusal.{Refusal}
 use Rattle.table.specs.declared.Reading.the-variants.{Refused}
-use Rattle.pairs.specs.Marks.{relation}
+use Rattle.marks.specs.Marks.{relation}
 use Rattle.order.specs.OrderWritten.{MarksDone}
 use Rattle.order.specs.OrderCall.{bytesOf}
 use Rattle.classes.specs.ClassesCall.{memoryRows, memoryAnswer, classRows, totalOf, wordsOf, totalAnswer, NumberedCall}
-use Rattle.classes.specs.Done.{NumberedDone}
-use Rattle.classes.specs.HoldingLaws.{held-done, held-total, held-words}
+use Rattle.classes.specs.NumberedMemory.{NumberedDone}
+use Rattle.classes.specs.OrderedMarksLaws.{held-done, held-total, held-words}
 use Rattle.classes.specs.ClassesRules.{ClassesFit}
 use Rattle.classes.specs.ClassesRulesLaws.{classes-clean, clean-classes}
 use Rattle.classes.specs.declared.Memory.the-variants.{Enough, Short}

@@ -5,7 +5,7 @@ use lib.ListN.{length}
 use Rattle.table.specs.Table.{vertexCount}
 use Rattle.table.specs.Rules.{Rule, memoryRule}
 use Rattle.table.specs.ReadingRules.{gameRules}
-use Rattle.pairs.specs.Marks.{marksLength}
+use Rattle.marks.specs.Marks.{marksLength}
 use Rattle.order.specs.OrderRules.{OrderFits}
 
 -- 21 to 23, for n vertices

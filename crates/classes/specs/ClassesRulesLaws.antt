@@ -6,11 +6,11 @@ use mathlib.Core.List.{List, [], _∷_}
 use Prim.Native.Nat.{ℕ}
 use lib.ListN.{length}
 use borrow.Author.Tests.{ltb-false, le-ltb}
-use Rattle.theory.specs.Passes.{Marks}
-use Rattle.theory.specs.Game.{Game}
+use Rattle.theory.specs.order.Passes.{Marks}
+use Rattle.theory.specs.games.Game.{Game}
 use Rattle.table.specs.Table.{vertexCount, gameOf}
-use Rattle.table.specs.Verdict.{Answer, accepted, refused, Clean}
-use Rattle.table.specs.VerdictLaws.{judge-clean, judge-accepted, after-clean, after-accepted, after-refused, clean-append, clean-split}
+use Rattle.table.specs.Answers.{Answer, accepted, refused, Clean}
+use Rattle.table.specs.AnswersLaws.{judge-clean, judge-accepted, after-clean, after-accepted, after-refused, clean-append, clean-split}
 use Rattle.table.specs.Reading.{gameRows}
 use Rattle.table.specs.ReadingLaws.{rows-render, well-clean, clean-well}
 use Rattle.table.specs.Rules.{FirstRule, Rendered, none, next}

@@ -1,9 +1,9 @@
 pub mod ClassesCall
-pub mod Done
+pub mod NumberedMemory
 pub mod ClassesRules
 pub mod Numbering
 pub mod NumberingLaws
-pub mod HoldingLaws
+pub mod OrderedMarksLaws
 pub mod ClassesRulesLaws
 pub mod ClassesCallLaws
 pub mod SameClassesLaws

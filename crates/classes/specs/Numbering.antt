@@ -4,13 +4,13 @@ use mathlib.Core.Path.{_≡_}
 use mathlib.Core.List.{List}
 use Prim.Native.Nat.{ℕ, _≤_, _<_}
 use lib.ListN.{length, getD}
-use Rattle.theory.specs.Range.{count}
-use Rattle.theory.specs.Passes.{Rel}
-use Rattle.theory.specs.Game.{Game}
-use Rattle.theory.specs.Order.{order, Preorder}
-use Rattle.theory.specs.Reduction.{isLowest, classCount, classNumber, representative}
+use Rattle.theory.specs.logic.Range.{count}
+use Rattle.theory.specs.order.Passes.{Rel}
+use Rattle.theory.specs.games.Game.{Game}
+use Rattle.theory.specs.order.Order.{order, Preorder}
+use Rattle.theory.specs.classes.Reduction.{isLowest, classCount, classNumber, representative}
 use Rattle.table.specs.Limits.{vertexLimit}
-use Rattle.pairs.specs.Marks.{marksLength, relation}
+use Rattle.marks.specs.Marks.{marksLength, relation}
 
 -- ---- over any relation
 

@@ -9,13 +9,13 @@ use native.Mathlib.Numerals.{add-one}
 use lib.ListN.{length, getD, set}
 use lib.Seq.{getD-set-same, getD-set-other}
 use borrow.Author.Tests.{eq-eqb, ne-eqb}
-use Rattle.theory.specs.Bools.{bit}
-use Rattle.theory.specs.Range.{count, nth}
-use Rattle.theory.specs.CountLaws.{nth-count, count-le}
-use Rattle.theory.specs.Passes.{Rel}
-use Rattle.theory.specs.Order.{Preorder}
-use Rattle.theory.specs.Reduction.{lowest, isLowest, classCount, classNumber, representative}
-use Rattle.theory.specs.ClassLaws.{lowest-le, lowest-lt, lowest-one, lowest-same, sameClass-refl, classCount-le, representative-lt}
+use Rattle.theory.specs.logic.Bools.{bit}
+use Rattle.theory.specs.logic.Range.{count, nth}
+use Rattle.theory.specs.logic.CountLaws.{nth-count, count-le}
+use Rattle.theory.specs.order.Passes.{Rel}
+use Rattle.theory.specs.order.Order.{Preorder}
+use Rattle.theory.specs.classes.Reduction.{lowest, isLowest, classCount, classNumber, representative}
+use Rattle.theory.specs.classes.ClassLaws.{lowest-le, lowest-lt, lowest-one, lowest-same, sameClass-refl, classCount-le, representative-lt}
 use Rattle.classes.specs.Numbering.{Numbered, Classed, Represented}
 
 pub numbered-start : (n : ℕ) (le : Rel) (classes reps : List ℕ) → Numbered n le 0 0 classes reps

@@ -3,14 +3,14 @@
 use mathlib.Core.Path.{_≡_, sym, ap, ap₂, _∙_}
 use mathlib.Core.List.{List, [], _∷_}
 use Prim.Native.Nat.{ℕ}
-use Rattle.theory.specs.ListLaws.{tabulate-ext}
-use Rattle.theory.specs.Passes.{Marks}
-use Rattle.theory.specs.Game.{Game}
-use Rattle.theory.specs.Reduction.{classCount}
-use Rattle.theory.specs.AgreementLaws.{agree-order, agree-class}
+use Rattle.theory.specs.logic.ListLaws.{tabulate-ext}
+use Rattle.theory.specs.order.Passes.{Marks}
+use Rattle.theory.specs.games.Game.{Game}
+use Rattle.theory.specs.classes.Reduction.{classCount}
+use Rattle.theory.specs.games.AgreementLaws.{agree-order, agree-class}
 use Rattle.table.specs.Table.{vertexCount}
-use Rattle.table.specs.Verdict.{Answer, judge, after}
-use Rattle.table.specs.VerdictLaws.{judge-past, after-past}
+use Rattle.table.specs.Answers.{Answer, judge, after}
+use Rattle.table.specs.AnswersLaws.{judge-past, after-past}
 use Rattle.table.specs.Reading.{gameRows}
 use Rattle.table.specs.ReadingLaws.{well-clean}
 use Rattle.table.specs.WellFormed.{WellFormed}

@@ -1,20 +1,21 @@
 // The classes of a game table.
 pub mod numbering;
 
-use pairs::marks::length_for;
+use marks::packed::length_for;
 use table::Reading;
 use table::Refusal;
 use table::refusal_of;
 ghost use mathlib.Core.Path.{_≡_};
 ghost use mathlib.Core.List.{[]};
 ghost use Prim.Native.Nat.{_≤_};
-ghost use Rattle.theory.specs.Governed.{marksBy, relationBy};
+ghost use Rattle.theory.specs.order.Governed.{marksBy, relationBy};
+ghost use Rattle.table.specs.Lent.{old, new};
 ghost use Rattle.table.specs.Limits.{vertexLimit};
 ghost use Rattle.table.specs.Table.{vertexCount};
-ghost use Rattle.table.specs.Verdict.{judge};
+ghost use Rattle.table.specs.Answers.{judge};
 ghost use Rattle.table.specs.WellFormed.{WellFormed};
 ghost use Rattle.classes.specs.ClassesCall.{memoryRows, memoryAnswer, classificationAnswer, totalOf, wordsOf, NumberedCall, ClassesCall};
-ghost use Rattle.classes.specs.Done.{NumberedDone, ClassesDone};
+ghost use Rattle.classes.specs.NumberedMemory.{NumberedDone, ClassesDone};
 ghost use Rattle.classes.specs.ClassesRules.{ClassesFit};
 
 pub struct ClassCount {
@@ -67,7 +68,10 @@ pub fn fill_numbered(
     mirror: bool,
 ) -> usize
     requires { ⌜ ClassesFit (now game) (now marks) (now spare) (now classes) × (n ≡ vertexCount (now game)) ⌝ }
-    ensures { λ r. ⌜ NumberedDone (marksBy mirror) (totalOf (relationBy mirror)) (wordsOf (relationBy mirror)) (now (game .entry)) (now (marks .entry)) (now (spare .entry)) (now (classes .entry)) r (now (marks .exit)) (now (spare .exit)) (now (classes .exit)) ⌝ }
+    ensures { λ r. ⌜
+        NumberedDone (marksBy mirror) (totalOf (relationBy mirror)) (wordsOf (relationBy mirror)) (old game) (old marks) (old spare) (old classes) r
+        (new marks) (new spare) (new classes)
+        ⌝ }
 {
     order::fill_relation(game, marks, spare, mirror);
     numbering::fill_classes(marks, n, classes)
@@ -83,7 +87,7 @@ pub fn fill_memory(
     classes: &mut [u16],
 ) -> usize
     requires { ⌜ ClassesFit (now game) (now marks) (now spare) (now classes) × (n ≡ vertexCount (now game)) ⌝ }
-    ensures { λ r. ⌜ ClassesDone (now (game .entry)) (now (marks .entry)) (now (spare .entry)) (now (classes .entry)) r (now (marks .exit)) (now (spare .exit)) (now (classes .exit)) ⌝ }
+    ensures { λ r. ⌜ ClassesDone (old game) (old marks) (old spare) (old classes) r (new marks) (new spare) (new classes) ⌝ }
 {
     fill_numbered(game, n, marks, spare, classes, false)
 }
@@ -99,7 +103,11 @@ pub fn write_numbered(
     mirror: bool,
 ) -> Classification
     requires { ⌜ WellFormed (now game) × (n ≡ vertexCount (now game)) ⌝ }
-    ensures { λ r. ⌜ NumberedCall (marksBy mirror) (totalOf (relationBy mirror)) (wordsOf (relationBy mirror)) (now (game .entry)) (now (marks .entry)) (now (spare .entry)) (now (classes .entry)) (classificationAnswer r) (now (marks .exit)) (now (spare .exit)) (now (classes .exit)) ⌝ }
+    ensures { λ r. ⌜
+        NumberedCall (marksBy mirror) (totalOf (relationBy mirror)) (wordsOf (relationBy mirror)) (old game) (old marks) (old spare) (old classes)
+        (classificationAnswer r)
+        (new marks) (new spare) (new classes)
+        ⌝ }
 {
     let memory = judge_memory(n, marks.len(), spare.len(), classes.len());
     if let Memory::Short(refusal) = memory {
@@ -116,9 +124,9 @@ pub fn write_classes(
     spare: &mut [u8],
     classes: &mut [u16],
 ) -> Classification
-    ensures { λ r. ⌜ ClassesCall (now (game .entry)) (now (marks .entry)) (now (spare .entry)) (now (classes .entry)) (classificationAnswer r) (now (marks .exit)) (now (spare .exit)) (now (classes .exit)) ⌝ }
+    ensures { λ r. ⌜ ClassesCall (old game) (old marks) (old spare) (old classes) (classificationAnswer r) (new marks) (new spare) (new classes) ⌝ }
 {
-    let reading = reader::read(game);
+    let reading = table_reader::read(game);
     let Reading::Accepted(sizes) = reading else {
         return Classification::Refused(refusal_of(reading));
     };

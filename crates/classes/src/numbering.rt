@@ -1,21 +1,22 @@
 // A part of the calls that write classes; no host calls it.
 // The classes of a preorder on n vertices that is given by its marks.
-use pairs::marks::is_marked;
+use marks::packed::is_marked;
 use table::limits::VERTICES;
 ghost use mathlib.Core.Path.{_≡_};
 ghost use Prim.Native.Nat.{_+_, _<_, _≤_};
 ghost use lib.ListN.{length, set};
-ghost use Rattle.theory.specs.Range.{tabulate};
-ghost use Rattle.theory.specs.Reduction.{sameClass, lowest, classCount, classNumber};
+ghost use Rattle.theory.specs.logic.Range.{tabulate};
+ghost use Rattle.theory.specs.classes.Reduction.{sameClass, lowest, classCount, classNumber};
+ghost use Rattle.table.specs.Lent.{old, new};
 ghost use Rattle.table.specs.Limits.{vertexLimit};
-ghost use Rattle.table.specs.Verdict.{written};
-ghost use Rattle.pairs.specs.Marks.{marksLength, relation};
+ghost use Rattle.table.specs.Answers.{written};
+ghost use Rattle.marks.specs.Marks.{marksLength, relation};
 ghost use Rattle.classes.specs.Numbering.{PreorderMarks, Numbered};
 
 // Whether u and v are below each other.
 fn same_class(marks: &[u8], n: usize, u: usize, v: usize) -> bool
     requires { ⌜ (u < n) × (v < n) × (n ≤ vertexLimit) × (marksLength n ≤ length (now marks)) ⌝ }
-    ensures { λ r. ⌜ r ≡ sameClass (relation n (now (marks .entry))) u v ⌝ }
+    ensures { λ r. ⌜ r ≡ sameClass (relation n (old marks)) u v ⌝ }
 {
     if is_marked(marks, n, u, v) {
         return is_marked(marks, n, v, u);
@@ -26,7 +27,7 @@ fn same_class(marks: &[u8], n: usize, u: usize, v: usize) -> bool
 // The lowest member of v's class.
 fn lowest_member(marks: &[u8], n: usize, v: usize) -> usize
     requires { ⌜ (v < n) × (n ≤ vertexLimit) × (marksLength n ≤ length (now marks)) ⌝ }
-    ensures { λ r. ⌜ r ≡ lowest n (relation n (now (marks .entry))) v ⌝ }
+    ensures { λ r. ⌜ r ≡ lowest n (relation n (old marks)) v ⌝ }
 {
     let mut u = 0;
     while u < n {
@@ -51,8 +52,8 @@ fn number_vertex(
     requires { ⌜ PreorderMarks n (now marks) ⌝ }
     requires { ⌜ (v < n) × (n ≤ length (now classes)) × (n ≤ length (now reps)) ⌝ }
     requires { ⌜ Numbered n (relation n (now marks)) v k (now classes) (now reps) ⌝ }
-    ensures { λ r. ⌜ now (classes .exit) ≡ set (now (classes .entry)) v (classNumber n (relation n (now (marks .entry))) v) ⌝ }
-    ensures { λ r. ⌜ Numbered n (relation n (now (marks .entry))) (v + 1) r (now (classes .exit)) (now (reps .exit)) ⌝ }
+    ensures { λ r. ⌜ new classes ≡ set (old classes) v (classNumber n (relation n (old marks)) v) ⌝ }
+    ensures { λ r. ⌜ Numbered n (relation n (old marks)) (v + 1) r (new classes) (new reps) ⌝ }
 {
     let low = lowest_member(marks, n, v);
     if low == v {
@@ -68,8 +69,8 @@ fn number_vertex(
 pub fn number_classes(marks: &[u8], n: usize, classes: &mut [u16], reps: &mut [u16]) -> usize
     requires { ⌜ PreorderMarks n (now marks) ⌝ }
     requires { ⌜ (n ≤ length (now classes)) × (n ≤ length (now reps)) ⌝ }
-    ensures { λ r. ⌜ now (classes .exit) ≡ written (tabulate n (classNumber n (relation n (now (marks .entry))))) (now (classes .entry)) ⌝ }
-    ensures { λ r. ⌜ Numbered n (relation n (now (marks .entry))) n r (now (classes .exit)) (now (reps .exit)) ⌝ }
+    ensures { λ r. ⌜ new classes ≡ written (tabulate n (classNumber n (relation n (old marks)))) (old classes) ⌝ }
+    ensures { λ r. ⌜ Numbered n (relation n (old marks)) n r (new classes) (new reps) ⌝ }
 {
     let mut k = 0;
     let mut v = 0;
@@ -84,8 +85,8 @@ pub fn number_classes(marks: &[u8], n: usize, classes: &mut [u16], reps: &mut [u
 pub fn fill_classes(marks: &[u8], n: usize, classes: &mut [u16]) -> usize
     requires { ⌜ PreorderMarks n (now marks) ⌝ }
     requires { ⌜ n ≤ length (now classes) ⌝ }
-    ensures { λ r. ⌜ r ≡ classCount n (relation n (now (marks .entry))) ⌝ }
-    ensures { λ r. ⌜ now (classes .exit) ≡ written (tabulate n (classNumber n (relation n (now (marks .entry))))) (now (classes .entry)) ⌝ }
+    ensures { λ r. ⌜ r ≡ classCount n (relation n (old marks)) ⌝ }
+    ensures { λ r. ⌜ new classes ≡ written (tabulate n (classNumber n (relation n (old marks)))) (old classes) ⌝ }
 {
     let mut reps = [0u16; VERTICES];
     number_classes(marks, n, classes, &mut reps)

@@ -4,12 +4,12 @@ use mathlib.Core.List.{List, [], _∷_, _++_}
 use Prim.Native.Nat.{ℕ}
 use lib.ListN.{length}
 use Rattle.table.specs.Table.{vertexCount, tableEdges, tableIn}
-use Rattle.table.specs.Verdict.{Row, Answer, judge, after}
+use Rattle.table.specs.Answers.{Row, Answer, judge, after}
 use Rattle.order.specs.OrderCall.{orderBytes}
 use Rattle.classes.specs.ClassesCall.{memoryRows, classTotal, classWords}
-use Rattle.edges.specs.Buffer.{bufferRows}
-use Rattle.edges.specs.Edges.{edited, editedWords, editRows}
-use Rattle.edges.specs.declared.Edit.{Edit}
+use Rattle.edit_rules.specs.Buffer.{bufferRows}
+use Rattle.edit_rules.specs.Edges.{edited, editedWords, editRows}
+use Rattle.edit_rules.specs.declared.Edit.{Edit}
 
 -- 1 to 8, where 4 means "shorter"; 21 to 23; 37 to 39
 abbrev pub callRows : Edit → List ℕ → ℕ → ℕ → List ℕ → List ℕ → List ℕ → List Row

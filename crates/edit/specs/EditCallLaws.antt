@@ -5,8 +5,8 @@ use Prim.Native.Nat.{ℕ, _≤_}
 use native.Mathlib.Omega.{arith}
 use lib.ListN.{length, take, length-take}
 use Rattle.table.specs.Table.{vertexCount, tableLength, tableIn}
-use Rattle.table.specs.Verdict.{Row, accepted, refused, judge, Clean, written}
-use Rattle.table.specs.VerdictLaws.{judge-clean, judge-accepted, judge-past, judge-stays, after-clean, after-refused, clean-append}
+use Rattle.table.specs.Answers.{Row, accepted, refused, judge, Clean, written}
+use Rattle.table.specs.AnswersLaws.{judge-clean, judge-accepted, judge-past, judge-stays, after-clean, after-refused, clean-append}
 use Rattle.table.specs.Reading.{readAnswer, readingAnswer, refusalOf}
 use Rattle.table.specs.ReadingLaws.{reading-accepted}
 use Rattle.table.specs.Acceptance.{acceptanceAnswer}
@@ -22,14 +22,14 @@ use Rattle.classes.specs.ClassesCallLaws.{memory-fits}
 use Rattle.classes.specs.ClassesRules.{ClassesFit}
 use Rattle.classes.specs.declared.Memory.the-variants.{Enough, Short}
 use Rattle.reduction.specs.declared.TableCounts.{TableCounts}
-use Rattle.edges.specs.Buffer.{bufferRows}
-use Rattle.edges.specs.BufferLaws.{in-vertices, buffer-judge, buffer-clean}
-use Rattle.edges.specs.Edges.{edited, editedWords, editRows}
-use Rattle.edges.specs.Making.{Formed, Made}
-use Rattle.edges.specs.EditedLaws.{edited-vertices, edited-well, edited-part}
-use Rattle.edges.specs.declared.Edit.{Edit}
+use Rattle.edit_rules.specs.Buffer.{bufferRows}
+use Rattle.edit_rules.specs.BufferLaws.{in-vertices, buffer-judge, buffer-clean}
+use Rattle.edit_rules.specs.Edges.{edited, editedWords, editRows}
+use Rattle.edit_rules.specs.EditParts.{Formed, Made}
+use Rattle.edit_rules.specs.EditedLaws.{edited-vertices, edited-well, edited-part}
+use Rattle.edit_rules.specs.declared.Edit.{Edit}
 use Rattle.edit.specs.EditCall.{callCounts, EditedBy}
-use Rattle.edit.specs.Done.{EditDone}
+use Rattle.edit.specs.EditedMemory.{EditDone}
 
 -- the reader accepted the table that begins the buffer
 pub formed : (buffer : List ℕ) {reading : Reading} {sizes : Sizes} → reading ≡ Accepted sizes → readingAnswer reading ≡ readAnswer (tableIn buffer)

@@ -5,9 +5,9 @@ use lib.ListN.{length}
 use Rattle.table.specs.Table.{vertexCount, tableIn}
 use Rattle.table.specs.Rules.{Rule}
 use Rattle.classes.specs.ClassesRules.{memoryRules}
-use Rattle.edges.specs.Buffer.{bufferRules}
-use Rattle.edges.specs.EdgesRules.{editRules}
-use Rattle.edges.specs.declared.Edit.{Edit}
+use Rattle.edit_rules.specs.Buffer.{bufferRules}
+use Rattle.edit_rules.specs.EdgesRules.{editRules}
+use Rattle.edit_rules.specs.declared.Edit.{Edit}
 
 -- 1 to 8, where 4 means "shorter"; 21 to 23; 37 to 39
 abbrev pub callRules : Edit → List ℕ → ℕ → ℕ → List ℕ → List ℕ → List ℕ → List Rule

@@ -6,17 +6,17 @@ use mathlib.Core.List.{List}
 use Prim.Native.Nat.{ℕ}
 use lib.ListN.{length}
 use Rattle.table.specs.Table.{vertexCount, tableIn}
-use Rattle.table.specs.Verdict.{Row, Answer, accepted, refused, Clean}
-use Rattle.table.specs.VerdictLaws.{judge-clean, judge-accepted, after-refused}
+use Rattle.table.specs.Answers.{Row, Answer, accepted, refused, Clean}
+use Rattle.table.specs.AnswersLaws.{judge-clean, judge-accepted, after-refused}
 use Rattle.table.specs.Rules.{Rule, FirstRule, NoRule, Rendered}
 use Rattle.table.specs.RulesLaws.{refused-by, rendered-append, clean-none, none-clean}
 use Rattle.order.specs.OrderCall.{orderBytes}
 use Rattle.classes.specs.ClassesCall.{classWords}
 use Rattle.classes.specs.ClassesRulesLaws.{memory-rows-render}
-use Rattle.edges.specs.BufferLaws.{buffer-render}
-use Rattle.edges.specs.Edges.{edited, editedWords}
-use Rattle.edges.specs.EdgesRulesLaws.{edit-render}
-use Rattle.edges.specs.declared.Edit.{Edit}
+use Rattle.edit_rules.specs.BufferLaws.{buffer-render}
+use Rattle.edit_rules.specs.Edges.{edited, editedWords}
+use Rattle.edit_rules.specs.EdgesRulesLaws.{edit-render}
+use Rattle.edit_rules.specs.declared.Edit.{Edit}
 use Rattle.edit.specs.EditCall.{callRows, callCounts, EditedBy, EditCall}
 use Rattle.edit.specs.EditRules.{callRules}
 

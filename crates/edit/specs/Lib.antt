@@ -1,5 +1,5 @@
 pub mod EditCall
-pub mod Done
+pub mod EditedMemory
 pub mod EditCallLaws
 pub mod EditRules
 pub mod EditRulesLaws

@@ -6,19 +6,19 @@ use mathlib.Core.Bool.{false, So}
 use mathlib.Core.List.{List, [], _∷_, _++_}
 use Prim.Native.Nat.{ℕ, _+_, _-_, _<_}
 use lib.ListN.{length, drop, length-append}
-use Rattle.theory.specs.Game.{edgeCount}
+use Rattle.theory.specs.games.Game.{edgeCount}
 use Rattle.table.specs.Table.{vertexCount, tableEdges, priorityAt, ownerAt, tableIn, gameOf}
-use Rattle.table.specs.Verdict.{Answer, accepted, Clean, written}
-use Rattle.table.specs.VerdictLaws.{clean-split, clean-append, after-clean, judge-clean, written-over, drop-written}
+use Rattle.table.specs.Answers.{Answer, accepted, Clean, written}
+use Rattle.table.specs.AnswersLaws.{clean-split, clean-append, after-clean, judge-clean, written-over, drop-written}
 use Rattle.table.specs.Reading.{readAnswer}
 use Rattle.table.specs.WellFormed.{WellFormed}
 use Rattle.classes.specs.ClassesCall.{memoryRows}
-use Rattle.edges.specs.Buffer.{bufferRows}
-use Rattle.edges.specs.BufferLaws.{in-vertices, buffer-clean, clean-buffer}
-use Rattle.edges.specs.Edges.{edited, editedWords, misplaced, editRows}
-use Rattle.edges.specs.EditedLaws.{Placed, edit-placed, edited-vertices, edited-priority, edited-owner, arrived-edge, left-edge, edited-well, edited-read, left-arrived, length-arrived, left-words, left-again, edited-in}
-use Rattle.edges.specs.declared.Edit.{Edit}
-use Rattle.edges.specs.declared.Edit.the-variants.{Arrival, Leaving}
+use Rattle.edit_rules.specs.Buffer.{bufferRows}
+use Rattle.edit_rules.specs.BufferLaws.{in-vertices, buffer-clean, clean-buffer}
+use Rattle.edit_rules.specs.Edges.{edited, editedWords, misplaced, editRows}
+use Rattle.edit_rules.specs.EditedLaws.{Placed, edit-placed, edited-vertices, edited-priority, edited-owner, arrived-edge, left-edge, edited-well, edited-read, left-arrived, length-arrived, left-words, left-again, edited-in}
+use Rattle.edit_rules.specs.declared.Edit.{Edit}
+use Rattle.edit_rules.specs.declared.Edit.the-variants.{Arrival, Leaving}
 use Rattle.edit.specs.EditCall.{callRows, callCounts, EditCall}
 use Rattle.edit.specs.EditRulesLaws.{call-passed}
 

@@ -1,26 +1,27 @@
 // Edges that come and go: edits of a table that begins a buffer, with the order and the classes of the new table.
-use changes::make_edit;
 use classes::Memory;
 use classes::fill_memory;
 use classes::judge_memory;
-use edges::Edit;
-use edges::buffer::read_in;
-use edges::judge_edit;
+use edit_buffer::make_edit;
+use edit_rules::Edit;
+use edit_rules::buffer::read_in;
+use edit_rules::judge_edit;
 use reduction::TableCounts;
 use reduction::Tabulation;
 use table::Acceptance;
 use table::Reading;
 use table::refusal_of;
 ghost use lib.ListN.{length};
+ghost use Rattle.table.specs.Lent.{old, new};
 ghost use Rattle.table.specs.Table.{tableIn};
-ghost use Rattle.table.specs.Verdict.{Clean};
+ghost use Rattle.table.specs.Answers.{Clean};
 ghost use Rattle.classes.specs.ClassesRules.{ClassesFit};
-ghost use Rattle.edges.specs.Edges.{editRows};
-ghost use Rattle.edges.specs.Making.{Formed};
-ghost use Rattle.edges.specs.declared.Edit.the-variants.{Arrival, Leaving};
+ghost use Rattle.edit_rules.specs.Edges.{editRows};
+ghost use Rattle.edit_rules.specs.EditParts.{Formed};
+ghost use Rattle.edit_rules.specs.declared.Edit.the-variants.{Arrival, Leaving};
 ghost use Rattle.reduction.specs.TableCall.{tabulationAnswer};
 ghost use Rattle.edit.specs.EditCall.{EditCall};
-ghost use Rattle.edit.specs.Done.{EditDone};
+ghost use Rattle.edit.specs.EditedMemory.{EditDone};
 
 // Makes an edit that was judged, and writes the order and the classes of the new table.
 pub fn apply_edit(
@@ -36,7 +37,7 @@ pub fn apply_edit(
 ) -> TableCounts
     requires { ⌜ Formed (tableIn (now buffer)) n m × ClassesFit (tableIn (now buffer)) (now marks) (now spare) (now classes) ⌝ }
     requires { ⌜ Clean (editRows edit (tableIn (now buffer)) (length (now buffer)) source target) ⌝ }
-    ensures { λ r. ⌜ EditDone edit (now (buffer .entry)) source target (now (marks .entry)) (now (spare .entry)) (now (classes .entry)) r (now (buffer .exit)) (now (marks .exit)) (now (spare .exit)) (now (classes .exit)) ⌝ }
+    ensures { λ r. ⌜ EditDone edit (old buffer) source target (old marks) (old spare) (old classes) r (new buffer) (new marks) (new spare) (new classes) ⌝ }
 {
     let edges = make_edit(buffer, n, m, edit, source, target);
     let end = 2 + 2 * n + 2 * edges;
@@ -61,7 +62,10 @@ fn edit_table(
     classes: &mut [u16],
 ) -> Tabulation
     requires { ⌜ Formed (tableIn (now buffer)) n m ⌝ }
-    ensures { λ r. ⌜ EditCall edit (now (buffer .entry)) source target (now (marks .entry)) (now (spare .entry)) (now (classes .entry)) (tabulationAnswer r) (now (buffer .exit)) (now (marks .exit)) (now (spare .exit)) (now (classes .exit)) ⌝ }
+    ensures { λ r. ⌜
+        EditCall edit (old buffer) source target (old marks) (old spare) (old classes) (tabulationAnswer r)
+        (new buffer) (new marks) (new spare) (new classes)
+        ⌝ }
 {
     let memory = judge_memory(n, marks.len(), spare.len(), classes.len());
     if let Memory::Short(refusal) = memory {
@@ -86,7 +90,10 @@ pub fn add_edge(
     spare: &mut [u8],
     classes: &mut [u16],
 ) -> Tabulation
-    ensures { λ r. ⌜ EditCall Arrival (now (buffer .entry)) source target (now (marks .entry)) (now (spare .entry)) (now (classes .entry)) (tabulationAnswer r) (now (buffer .exit)) (now (marks .exit)) (now (spare .exit)) (now (classes .exit)) ⌝ }
+    ensures { λ r. ⌜
+        EditCall Arrival (old buffer) source target (old marks) (old spare) (old classes) (tabulationAnswer r)
+        (new buffer) (new marks) (new spare) (new classes)
+        ⌝ }
 {
     let reading = read_in(buffer);
     let Reading::Accepted(sizes) = reading else {
@@ -114,7 +121,10 @@ pub fn remove_edge(
     spare: &mut [u8],
     classes: &mut [u16],
 ) -> Tabulation
-    ensures { λ r. ⌜ EditCall Leaving (now (buffer .entry)) source target (now (marks .entry)) (now (spare .entry)) (now (classes .entry)) (tabulationAnswer r) (now (buffer .exit)) (now (marks .exit)) (now (spare .exit)) (now (classes .exit)) ⌝ }
+    ensures { λ r. ⌜
+        EditCall Leaving (old buffer) source target (old marks) (old spare) (old classes) (tabulationAnswer r)
+        (new buffer) (new marks) (new spare) (new classes)
+        ⌝ }
 {
     let reading = read_in(buffer);
     let Reading::Accepted(sizes) = reading else {

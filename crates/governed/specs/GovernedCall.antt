@@ -2,10 +2,10 @@
 -- for the order". The promises are those of the order's calls, over this relation.
 use mathlib.Core.List.{List}
 use Prim.Native.Nat.{ℕ}
-use Rattle.theory.specs.Governed.{governedMarks, governed, governedPasses}
-use Rattle.table.specs.Verdict.{Answer}
+use Rattle.theory.specs.order.Governed.{governedMarks, governed, governedPasses}
+use Rattle.table.specs.Answers.{Answer}
 use Rattle.order.specs.OrderCall.{MarksCall}
-use Rattle.relation.specs.RelationCall.{governedPair, acceptorAnswer}
+use Rattle.order_acceptor.specs.RelationCall.{governedPair, acceptorAnswer}
 use Rattle.classes.specs.ClassesCall.{totalOf, wordsOf, NumberedCall}
 
 -- 1 to 8, 21, 22; the pass count; marks and spare hold the largest governed bisimulation

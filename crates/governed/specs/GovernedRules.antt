@@ -3,12 +3,12 @@
 use mathlib.Core.List.{List}
 use Prim.Native.Nat.{ℕ, _≤_}
 use lib.ListN.{length}
-use Rattle.theory.specs.Governed.{GovernedBisimulation}
+use Rattle.theory.specs.order.Governed.{GovernedBisimulation}
 use Rattle.table.specs.Table.{vertexCount, pairCount, gameOf}
 use Rattle.table.specs.Rules.{Rule}
 use Rattle.table.specs.WellFormed.{WellFormed}
-use Rattle.pairs.specs.Marks.{marksLength, Marked, Clear}
-use Rattle.relation.specs.RelationRules.{Direct, acceptorRules}
+use Rattle.marks.specs.Marks.{marksLength, Marked, Clear}
+use Rattle.order_acceptor.specs.RelationRules.{Direct, acceptorRules}
 
 -- equal priorities, the test, and a marked reverse
 pub record Governed (g marks : List ℕ) (v w : ℕ) : Type 0 where

@@ -6,21 +6,21 @@ use mathlib.Core.Bool.{So}
 use mathlib.Core.List.{List, [], _∷_}
 use Prim.Native.Nat.{ℕ, suc, _+_, _*_, _≤_, _<_}
 use native.Mathlib.Omega.{arith}
-use Rattle.theory.specs.BoolsLaws.{and-in, and-out}
-use Rattle.theory.specs.SimulationLaws.{moves-mono}
-use Rattle.theory.specs.Governed.{GovernedBisimulation, Bisimilar, governed, governedPasses}
-use Rattle.theory.specs.GovernedLaws.{governed-in, governed-out, length-governedMarks, governedPasses-le}
+use Rattle.theory.specs.logic.BoolsLaws.{and-in, and-out}
+use Rattle.theory.specs.order.SimulationLaws.{moves-mono}
+use Rattle.theory.specs.order.Governed.{GovernedBisimulation, Bisimilar, governed, governedPasses}
+use Rattle.theory.specs.order.GovernedLaws.{governed-in, governed-out, length-governedMarks, governedPasses-le}
 use Rattle.table.specs.Table.{vertexCount, pairCount, gameOf}
 use Rattle.table.specs.TableLaws.{game-n}
-use Rattle.table.specs.Verdict.{accepted, refused}
+use Rattle.table.specs.Answers.{accepted, refused}
 use Rattle.table.specs.Rules.{FirstRule}
-use Rattle.pairs.specs.Marks.{isMark, Marked, Clear}
-use Rattle.pairs.specs.MarksLaws.{marked-in, marked-out}
+use Rattle.marks.specs.Marks.{isMark, Marked, Clear}
+use Rattle.marks.specs.MarksLaws.{marked-in, marked-out}
 use Rattle.order.specs.OrderCall.{passesAnswer}
 use Rattle.order.specs.OrderRules.{orderRules, OrderFits}
 use Rattle.order.specs.OrderRulesLaws.{passes-refused, passes-accepted, passes-accepts, marks-of, marks-clear, length-left, passes-bound}
-use Rattle.relation.specs.RelationCall.{governedPair, relationAnswer}
-use Rattle.relation.specs.RelationRulesLaws.{under, direct-is, acceptor-refused, acceptor-accepted, acceptor-accepts, relation-accepts}
+use Rattle.order_acceptor.specs.RelationCall.{governedPair, relationAnswer}
+use Rattle.order_acceptor.specs.RelationRulesLaws.{under, direct-is, acceptor-refused, acceptor-accepted, acceptor-accepts, relation-accepts}
 use Rattle.governed.specs.GovernedCall.{GovernedCall, governedAnswer}
 use Rattle.governed.specs.GovernedRules.{Governed, governedRules, GovernedPasses}
 

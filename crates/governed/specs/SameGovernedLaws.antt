@@ -3,22 +3,22 @@ use mathlib.Core.Path.{_≡_, ap, ap₂}
 use mathlib.Core.Bool.{true}
 use mathlib.Core.List.{List}
 use Prim.Native.Nat.{ℕ}
-use Rattle.theory.specs.Bools.{_&_}
-use Rattle.theory.specs.Range.{tabulate}
-use Rattle.theory.specs.Passes.{Rel}
-use Rattle.theory.specs.Reduction.{classCount, classNumber}
-use Rattle.theory.specs.Governed.{governedMarks, governed, governedPasses, marksBy, passesBy}
-use Rattle.theory.specs.AgreementLaws.{agree-marksBy, agree-passesBy, agree-governed}
+use Rattle.theory.specs.logic.Bools.{_&_}
+use Rattle.theory.specs.logic.Range.{tabulate}
+use Rattle.theory.specs.order.Passes.{Rel}
+use Rattle.theory.specs.classes.Reduction.{classCount, classNumber}
+use Rattle.theory.specs.order.Governed.{governedMarks, governed, governedPasses, marksBy, passesBy}
+use Rattle.theory.specs.games.AgreementLaws.{agree-marksBy, agree-passesBy, agree-governed}
 use Rattle.table.specs.Table.{gameOf}
-use Rattle.table.specs.Verdict.{Answer}
+use Rattle.table.specs.Answers.{Answer}
 use Rattle.table.specs.WellFormed.{WellFormed}
 use Rattle.table.specs.SameGame.{SameGame}
 use Rattle.table.specs.SameGameLaws.{same-agree}
-use Rattle.pairs.specs.Marks.{bytes}
+use Rattle.marks.specs.Marks.{bytes}
 use Rattle.order.specs.OrderCall.{bytesOf}
 use Rattle.order.specs.SameOrderLaws.{same-marks}
-use Rattle.relation.specs.RelationCall.{governedPair}
-use Rattle.relation.specs.SameRelationLaws.{same-direct, same-acceptor}
+use Rattle.order_acceptor.specs.RelationCall.{governedPair}
+use Rattle.order_acceptor.specs.SameRelationLaws.{same-direct, same-acceptor}
 use Rattle.classes.specs.ClassesCall.{totalOf, wordsOf}
 use Rattle.classes.specs.SameClassesLaws.{same-numbered}
 use Rattle.governed.specs.GovernedCall.{GovernedCall, governedAnswer, GovernedClassesCall}

@@ -4,11 +4,12 @@ use classes::Classification;
 use classes::write_numbered;
 use order::Ordering;
 use order::write_relation;
-use relation::judge_marks;
+use order_acceptor::judge_marks;
 use table::Acceptance;
 use table::Reading;
 use table::refusal_of;
 ghost use mathlib.Core.Path.{_≡_};
+ghost use Rattle.table.specs.Lent.{old, new};
 ghost use Rattle.table.specs.Acceptance.{acceptanceAnswer};
 ghost use Rattle.order.specs.OrderCall.{orderingAnswer};
 ghost use Rattle.classes.specs.ClassesCall.{classificationAnswer};
@@ -16,9 +17,9 @@ ghost use Rattle.governed.specs.GovernedCall.{GovernedCall, governedAnsw
 
 // Judges the game and the buffers, and writes the largest governed bisimulation into both. The verdict carries the pass count.
 pub fn write_governed(game: &[u16], marks: &mut [u8], spare: &mut [u8]) -> Ordering
-    ensures { λ r. ⌜ GovernedCall (now (game .entry)) (now (marks .entry)) (now (spare .entry)) (orderingAnswer r) (now (marks .exit)) (now (spare .exit)) ⌝ }
+    ensures { λ r. ⌜ GovernedCall (old game) (old marks) (old spare) (orderingAnswer r) (new marks) (new spare) ⌝ }
 {
-    let reading = reader::read(game);
+    let reading = table_reader::read(game);
     let Reading::Accepted(sizes) = reading else {
         return Ordering::Refused(refusal_of(reading));
     };
@@ -27,9 +28,9 @@ pub fn write_governed(game: &[u16], marks: &mut [u8], spare: &mut [u8]) -> Order
 
 // Judges the game and the marks: accepted if the marked pairs form a governed bisimulation.
 pub fn accept_governed(game: &[u16], marks: &[u8]) -> Acceptance
-    ensures { λ r. ⌜ acceptanceAnswer r ≡ governedAnswer (now (game .entry)) (now (marks .entry)) ⌝ }
+    ensures { λ r. ⌜ acceptanceAnswer r ≡ governedAnswer (old game) (old marks) ⌝ }
 {
-    let reading = reader::read(game);
+    let reading = table_reader::read(game);
     let Reading::Accepted(sizes) = reading else {
         return Acceptance::Refused(refusal_of(reading));
     };
@@ -43,9 +44,9 @@ pub fn write_governed_classes(
     spare: &mut [u8],
     classes: &mut [u16],
 ) -> Classification
-    ensures { λ r. ⌜ GovernedClassesCall (now (game .entry)) (now (marks .entry)) (now (spare .entry)) (now (classes .entry)) (classificationAnswer r) (now (marks .exit)) (now (spare .exit)) (now (classes .exit)) ⌝ }
+    ensures { λ r. ⌜ GovernedClassesCall (old game) (old marks) (old spare) (old classes) (classificationAnswer r) (new marks) (new spare) (new classes) ⌝ }
 {
-    let reading = reader::read(game);
+    let reading = table_reader::read(game);
     let Reading::Accepted(sizes) = reading else {
         return Classification::Refused(refusal_of(reading));
     };

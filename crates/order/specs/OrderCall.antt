@@ -2,13 +2,13 @@
 use mathlib.Core.Path.{_≡_}
 use mathlib.Core.List.{List, [], _∷_, _++_}
 use Prim.Native.Nat.{ℕ}
-use Rattle.theory.specs.Passes.{Marks}
-use Rattle.theory.specs.Game.{Game}
-use Rattle.theory.specs.Order.{orderMarks, orderPasses}
+use Rattle.theory.specs.order.Passes.{Marks}
+use Rattle.theory.specs.games.Game.{Game}
+use Rattle.theory.specs.order.Order.{orderMarks, orderPasses}
 use Rattle.table.specs.Table.{vertexCount, gameOf}
-use Rattle.table.specs.Verdict.{Row, memoryRow, Answer, accepted, refused, judge, after}
+use Rattle.table.specs.Answers.{Row, memoryRow, Answer, accepted, refused, judge, after}
 use Rattle.table.specs.Reading.{gameRows}
-use Rattle.pairs.specs.Marks.{marksLength, bytes}
+use Rattle.marks.specs.Marks.{marksLength, bytes}
 use Rattle.order.specs.declared.Ordering.{Ordering}
 use Rattle.order.specs.declared.Ordering.the-variants.{Accepted, Refused}
 

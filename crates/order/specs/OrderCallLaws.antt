@@ -4,17 +4,17 @@ use mathlib.Core.List.{List, [], _∷_}
 use Prim.Native.Nat.{ℕ, _≤_, _<_}
 use lib.ListN.{length}
 use borrow.Author.Tests.{lt-ltb, le-ltb}
-use Rattle.theory.specs.Passes.{Marks}
-use Rattle.theory.specs.Game.{Game}
+use Rattle.theory.specs.order.Passes.{Marks}
+use Rattle.theory.specs.games.Game.{Game}
 use Rattle.table.specs.Table.{vertexCount, gameOf}
-use Rattle.table.specs.Verdict.{memoryRow, accepted, refused, judge}
-use Rattle.table.specs.VerdictLaws.{judge-hit, judge-next, judge-past, after-accepted, after-refused}
+use Rattle.table.specs.Answers.{memoryRow, accepted, refused, judge}
+use Rattle.table.specs.AnswersLaws.{judge-hit, judge-next, judge-past, after-accepted, after-refused}
 use Rattle.table.specs.Reading.{gameRows, readAnswer, readingAnswer}
 use Rattle.table.specs.ReadingLaws.{reading-stays, well-clean}
 use Rattle.table.specs.WellFormed.{WellFormed}
 use Rattle.table.specs.declared.Refusal.{Refusal}
 use Rattle.table.specs.declared.Reading.the-variants.{Refused}
-use Rattle.pairs.specs.Marks.{marksLength}
+use Rattle.marks.specs.Marks.{marksLength}
 use Rattle.order.specs.OrderCall.{orderRows, passesAnswer, bytesOf, MarksCall}
 use Rattle.order.specs.OrderWritten.{MarksDone}
 

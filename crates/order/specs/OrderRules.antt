@@ -6,7 +6,7 @@ use Rattle.table.specs.Table.{vertexCount}
 use Rattle.table.specs.Rules.{Rule, memoryRule}
 use Rattle.table.specs.ReadingRules.{gameRules}
 use Rattle.table.specs.WellFormed.{WellFormed}
-use Rattle.pairs.specs.Marks.{marksLength}
+use Rattle.marks.specs.Marks.{marksLength}
 
 -- 1 to 8, 21, 22
 abbrev pub orderRules : List ℕ → List ℕ → List ℕ → List Rule

@@ -8,21 +8,21 @@ use native.Mathlib.Omega.{arith}
 use lib.Arith.{digits-lt}
 use lib.ListN.{length, getD}
 use borrow.Author.Tests.{ltb-false, le-ltb}
-use Rattle.theory.specs.Passes.{Marks, marked, relOf}
-use Rattle.theory.specs.Game.{even, Game}
-use Rattle.theory.specs.Simulation.{Below}
-use Rattle.theory.specs.Order.{order, orderMarks, orderPasses}
-use Rattle.theory.specs.OrderLaws.{order-in, order-out, length-orderMarks}
+use Rattle.theory.specs.order.Passes.{Marks, marked, relOf}
+use Rattle.theory.specs.games.Game.{even, Game}
+use Rattle.theory.specs.order.Simulation.{Below}
+use Rattle.theory.specs.order.Order.{order, orderMarks, orderPasses}
+use Rattle.theory.specs.order.OrderLaws.{order-in, order-out, length-orderMarks}
 use Rattle.table.specs.Table.{vertexCount, pairCount, gameOf}
 use Rattle.table.specs.TableLaws.{game-n}
-use Rattle.table.specs.Verdict.{accepted, refused, written}
-use Rattle.table.specs.VerdictLaws.{judge-clean, judge-accepted, length-written, getD-written-beyond, after-accepted, after-refused, clean-append, clean-split}
+use Rattle.table.specs.Answers.{accepted, refused, written}
+use Rattle.table.specs.AnswersLaws.{judge-clean, judge-accepted, length-written, getD-written-beyond, after-accepted, after-refused, clean-append, clean-split}
 use Rattle.table.specs.Reading.{gameRows}
 use Rattle.table.specs.ReadingLaws.{rows-render, well-clean, clean-well}
 use Rattle.table.specs.Rules.{FirstRule, Rendered, none, next}
 use Rattle.table.specs.RulesLaws.{memory-renders, refused-by, rendered-append}
-use Rattle.pairs.specs.Marks.{bytesFor, marksLength, isMark, Marked, Clear}
-use Rattle.pairs.specs.MarksLaws.{length-bytes, mark-written, clear-written}
+use Rattle.marks.specs.Marks.{bytesFor, marksLength, isMark, Marked, Clear}
+use Rattle.marks.specs.MarksLaws.{length-bytes, mark-written, clear-written}
 use Rattle.order.specs.OrderCall.{orderRows, passesAnswer, orderAnswer, bytesOf, orderBytes, MarksCall, OrderCall}
 use Rattle.order.specs.OrderRules.{orderRules, OrderFits}
 

@@ -2,11 +2,11 @@
 use mathlib.Core.Path.{_≡_}
 use mathlib.Core.List.{List}
 use Prim.Native.Nat.{ℕ}
-use Rattle.theory.specs.Passes.{Marks}
-use Rattle.theory.specs.Game.{Game}
-use Rattle.theory.specs.Order.{orderMarks, orderPasses}
+use Rattle.theory.specs.order.Passes.{Marks}
+use Rattle.theory.specs.games.Game.{Game}
+use Rattle.theory.specs.order.Order.{orderMarks, orderPasses}
 use Rattle.table.specs.Table.{gameOf}
-use Rattle.table.specs.Verdict.{written}
+use Rattle.table.specs.Answers.{written}
 use Rattle.order.specs.OrderCall.{bytesOf}
 
 -- the number of passes, and both buffers hold the relation's marks

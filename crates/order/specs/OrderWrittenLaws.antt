@@ -4,15 +4,15 @@ use mathlib.Core.Bool.{Bool}
 use mathlib.Core.List.{List}
 use Prim.Native.Nat.{ℕ}
 use lib.ListN.{length}
-use Rattle.theory.specs.Governed.{marksBy, passesBy}
-use Rattle.theory.specs.GovernedLaws.{length-by}
+use Rattle.theory.specs.order.Governed.{marksBy, passesBy}
+use Rattle.theory.specs.order.GovernedLaws.{length-by}
 use Rattle.table.specs.Table.{vertexCount, gameOf}
-use Rattle.table.specs.Verdict.{written}
-use Rattle.pairs.specs.Marks.{bytesFor, marksLength}
-use Rattle.pairs.specs.MarksLaws.{length-bytes}
-use Rattle.pairs.specs.Writing.{RowsWritten, Copied}
-use Rattle.pairs.specs.WritingLaws.{rows-are, copied-is}
-use Rattle.rounds.specs.Rounds.{Settled}
+use Rattle.table.specs.Answers.{written}
+use Rattle.marks.specs.Marks.{bytesFor, marksLength}
+use Rattle.marks.specs.MarksLaws.{length-bytes}
+use Rattle.marks.specs.MarkWriting.{RowsWritten, Copied}
+use Rattle.marks.specs.MarkWritingLaws.{rows-are, copied-is}
+use Rattle.order_rounds.specs.Rounds.{Settled}
 use Rattle.order.specs.OrderCall.{bytesOf}
 use Rattle.order.specs.OrderWritten.{MarksDone}
 

@@ -2,19 +2,19 @@
 use mathlib.Core.Path.{_≡_, sym, ap, _∙_}
 use mathlib.Core.List.{List}
 use Prim.Native.Nat.{ℕ}
-use Rattle.theory.specs.Passes.{Marks}
-use Rattle.theory.specs.Game.{Game}
-use Rattle.theory.specs.Order.{orderMarks, orderPasses}
-use Rattle.theory.specs.AgreementLaws.{agree-orderMarks, agree-passes}
+use Rattle.theory.specs.order.Passes.{Marks}
+use Rattle.theory.specs.games.Game.{Game}
+use Rattle.theory.specs.order.Order.{orderMarks, orderPasses}
+use Rattle.theory.specs.games.AgreementLaws.{agree-orderMarks, agree-passes}
 use Rattle.table.specs.Table.{gameOf}
-use Rattle.table.specs.Verdict.{Answer, after}
-use Rattle.table.specs.VerdictLaws.{judge-past, after-past}
+use Rattle.table.specs.Answers.{Answer, after}
+use Rattle.table.specs.AnswersLaws.{judge-past, after-past}
 use Rattle.table.specs.Reading.{gameRows}
 use Rattle.table.specs.ReadingLaws.{well-clean}
 use Rattle.table.specs.WellFormed.{WellFormed}
 use Rattle.table.specs.SameGame.{SameGame}
 use Rattle.table.specs.SameGameLaws.{same-agree}
-use Rattle.pairs.specs.Marks.{bytes}
+use Rattle.marks.specs.Marks.{bytes}
 use Rattle.order.specs.OrderCall.{orderRows, passesAnswer, orderAnswer, bytesOf, orderBytes, MarksCall, OrderCall}
 
 pub same-orderBytes : {g h : List ℕ} → SameGame g h → orderBytes g ≡ orderBytes h

@@ -1,11 +1,11 @@
 // The direct simulation order of a parity game.
-use bits::row::WORDS;
-use board::edges::EDGE_WORDS;
-use board::edges::fill;
-use pairs::marks::length_for;
-use pairs::writing::copy_marks;
-use pairs::writing::write_marks;
-use rounds::rounds;
+use marks::packed::length_for;
+use marks::writing::copy_marks;
+use marks::writing::write_marks;
+use order_losses::edges::EDGE_WORDS;
+use order_losses::edges::fill;
+use order_rounds::rounds;
+use order_rows::row::WORDS;
 use table::Reading;
 use table::Refusal;
 use table::limits::VERTICES;
@@ -13,10 +13,11 @@ use table::refusal_of;
 ghost use mathlib.Core.Path.{_≡_};
 ghost use Prim.Native.Nat.{_≤_};
 ghost use lib.ListN.{length};
-ghost use Rattle.theory.specs.Governed.{marksBy, passesBy};
+ghost use Rattle.theory.specs.order.Governed.{marksBy, passesBy};
+ghost use Rattle.table.specs.Lent.{old, new};
 ghost use Rattle.table.specs.Table.{vertexCount};
 ghost use Rattle.table.specs.WellFormed.{WellFormed};
-ghost use Rattle.pairs.specs.Marks.{marksLength};
+ghost use Rattle.marks.specs.Marks.{marksLength};
 ghost use Rattle.order.specs.OrderWritten.{MarksDone, OrderDone};
 ghost use Rattle.order.specs.OrderCall.{orderingAnswer, MarksCall, OrderCall};
 
@@ -37,7 +38,7 @@ const RELATION_WORDS: usize = VERTICES * WORDS;
 pub fn fill_relation(game: &[u16], marks: &mut [u8], spare: &mut [u8], mirror: bool) -> u32
     requires { ⌜ WellFormed (now game) ⌝ }
     requires { ⌜ (marksLength (vertexCount (now game)) ≤ length (now marks)) × (marksLength (vertexCount (now game)) ≤ length (now spare)) ⌝ }
-    ensures { λ r. ⌜ MarksDone (marksBy mirror) (passesBy mirror) (now (game .entry)) (now (marks .entry)) (now (spare .entry)) r (now (marks .exit)) (now (spare .exit)) ⌝ }
+    ensures { λ r. ⌜ MarksDone (marksBy mirror) (passesBy mirror) (old game) (old marks) (old spare) r (new marks) (new spare) ⌝ }
 {
     let mut edges = [0u64; EDGE_WORDS];
     let mut related = [0u64; RELATION_WORDS];
@@ -64,7 +65,7 @@ pub fn fill_relation(game: &[u16], marks: &mut [u8], spare: &mut [u8], mirror: b
 pub fn fill_order(game: &[u16], marks: &mut [u8], spare: &mut [u8]) -> u32
     requires { ⌜ WellFormed (now game) ⌝ }
     requires { ⌜ (marksLength (vertexCount (now game)) ≤ length (now marks)) × (marksLength (vertexCount (now game)) ≤ length (now spare)) ⌝ }
-    ensures { λ r. ⌜ OrderDone (now (game .entry)) (now (marks .entry)) (now (spare .entry)) r (now (marks .exit)) (now (spare .exit)) ⌝ }
+    ensures { λ r. ⌜ OrderDone (old game) (old marks) (old spare) r (new marks) (new spare) ⌝ }
 {
     fill_relation(game, marks, spare, false)
 }
@@ -79,7 +80,7 @@ pub fn write_relation(
     mirror: bool,
 ) -> Ordering
     requires { ⌜ WellFormed (now game) × (n ≡ vertexCount (now game)) ⌝ }
-    ensures { λ r. ⌜ MarksCall (marksBy mirror) (passesBy mirror) (now (game .entry)) (now (marks .entry)) (now (spare .entry)) (orderingAnswer r) (now (marks .exit)) (now (spare .exit)) ⌝ }
+    ensures { λ r. ⌜ MarksCall (marksBy mirror) (passesBy mirror) (old game) (old marks) (old spare) (orderingAnswer r) (new marks) (new spare) ⌝ }
 {
     let needed = length_for(n);
     if marks.len() < needed {
@@ -100,9 +101,9 @@ pub fn write_relation(
 
 // Judges the game and the buffers, and writes the order into both. The verdict carries the pass count.
 pub fn write_order(game: &[u16], marks: &mut [u8], spare: &mut [u8]) -> Ordering
-    ensures { λ r. ⌜ OrderCall (now (game .entry)) (now (marks .entry)) (now (spare .entry)) (orderingAnswer r) (now (marks .exit)) (now (spare .exit)) ⌝ }
+    ensures { λ r. ⌜ OrderCall (old game) (old marks) (old spare) (orderingAnswer r) (new marks) (new spare) ⌝ }
 {
-    let reading = reader::read(game);
+    let reading = table_reader::read(game);
     let Reading::Accepted(sizes) = reading else {
         return Ordering::Refused(refusal_of(reading));
     };

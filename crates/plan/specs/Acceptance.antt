@@ -1,18 +1,18 @@
 -- The plan acceptor's table of refusals, 11 to 16, after the reader's. The player is a number, 0 Even and 1 Odd. Conditions and places of
--- 12 to 14 are in `links`, those of 16 in `returns`.
+-- 12 to 14 are in `plan_links`, those of 16 in `plan_returns`.
 use mathlib.Core.Bool.{Bool, true, not, cond}
 use mathlib.Core.List.{List, [], _∷_, _++_}
 use Prim.Native.Nat.{ℕ}
 use lib.Dec.{eqb, ltb}
-use Rattle.theory.specs.Bools.{imp}
-use Rattle.theory.specs.Range.{allBelow, first}
-use Rattle.theory.specs.Game.{own}
+use Rattle.theory.specs.logic.Bools.{imp}
+use Rattle.theory.specs.logic.Range.{allBelow, first}
+use Rattle.theory.specs.games.Game.{own}
 use Rattle.table.specs.Table.{vertexCount, playerOf, gameOf}
-use Rattle.table.specs.Verdict.{Row, row, Answer, judge}
+use Rattle.table.specs.Answers.{Row, row, Answer, judge}
 use Rattle.table.specs.Reading.{gameRows}
-use Rattle.links.specs.PlanTable.{positionCount, linkCount, vertexAt, planLength, anyLink}
-use Rattle.links.specs.Refusals.{badSize, firstBeyond, firstStray}
-use Rattle.returns.specs.Returns.{firstReturn}
+use Rattle.plan_links.specs.PlanTable.{positionCount, linkCount, vertexAt, planLength, anyLink}
+use Rattle.plan_links.specs.Refusals.{badSize, firstBeyond, firstStray}
+use Rattle.plan_returns.specs.Returns.{firstReturn}
 
 -- ---- 15: needed links
 

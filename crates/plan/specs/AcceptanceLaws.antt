@@ -9,15 +9,15 @@ use native.Mathlib.Omega.{arith}
 use lib.Dec.{eqb}
 use lib.ListN.{length, getD, take, drop}
 use borrow.Author.Tests.{ltb-true, ltb-false, lt-ltb, le-ltb, leb-true, le-leb, eqb-true, eqb-false, eq-eqb, ne-eqb}
-use Rattle.theory.specs.BoolsLaws.{clash, So-not, not-in, not-out, or-left, or-right, or-out, imp-out, imp-fails}
-use Rattle.theory.specs.RangeLaws.{all-out, all-fails}
-use Rattle.theory.specs.Game.{own, Succ}
-use Rattle.theory.specs.Plan.{linked}
-use Rattle.theory.specs.Returns.{WrongWalk}
-use Rattle.theory.specs.ReturnsLaws.{wrongWalk-return}
+use Rattle.theory.specs.logic.BoolsLaws.{clash, So-not, not-in, not-out, or-left, or-right, or-out, imp-out, imp-fails}
+use Rattle.theory.specs.logic.RangeLaws.{all-out, all-fails}
+use Rattle.theory.specs.games.Game.{own, Succ}
+use Rattle.theory.specs.plans.Plan.{linked}
+use Rattle.theory.specs.plans.Returns.{WrongWalk}
+use Rattle.theory.specs.plans.ReturnsLaws.{wrongWalk-return}
 use Rattle.table.specs.Limits.{positionLimit, linkLimit}
 use Rattle.table.specs.Table.{vertexCount, playerOf, gameOf}
-use Rattle.table.specs.Verdict.{Row, refused, Clean}
+use Rattle.table.specs.Answers.{Row, refused, Clean}
 use Rattle.table.specs.ReadingLaws.{rows-render, clean-well}
 use Rattle.table.specs.ReadingRules.{gameRules}
 use Rattle.table.specs.WellFormed.{WellFormed}
@@ -25,13 +25,13 @@ use Rattle.table.specs.Rules.{FirstRule, Rendered, none, next}
 use Rattle.table.specs.RulesLaws.{renders-placed, renders-first}
 use Rattle.table.specs.Decisions.{Decides}
 use Rattle.table.specs.DecisionsLaws.{rendered-decides, decides-append}
-use Rattle.links.specs.PlanTable.{positionCount, linkCount, vertexAt, linkSource, linkTarget, planLength, planOf, anyLink, hasLink}
-use Rattle.links.specs.PlanTableLaws.{planOf-links, planOf-link, anyLink-in, anyLink-out}
-use Rattle.links.specs.Refusals.{badSize, beyond, firstBeyond, strays, firstStray}
-use Rattle.links.specs.PlanFormed.{PlanFormed, WordsPass}
-use Rattle.links.specs.PlanFormedLaws.{size-good, words-good, link-inside}
-use Rattle.returns.specs.Returns.{positionPriority, returnsWrong, firstReturn}
-use Rattle.returns.specs.ReturnsLaws.{return-in, return-out}
+use Rattle.plan_links.specs.PlanTable.{positionCount, linkCount, vertexAt, linkSource, linkTarget, planLength, planOf, anyLink, hasLink}
+use Rattle.plan_links.specs.PlanTableLaws.{planOf-links, planOf-link, anyLink-in, anyLink-out}
+use Rattle.plan_links.specs.Refusals.{badSize, beyond, firstBeyond, strays, firstStray}
+use Rattle.plan_links.specs.PlanFormed.{PlanFormed, WordsPass}
+use Rattle.plan_links.specs.PlanFormedLaws.{size-good, words-good, link-inside}
+use Rattle.plan_returns.specs.Returns.{positionPriority, returnsWrong, firstReturn}
+use Rattle.plan_returns.specs.ReturnsLaws.{return-in, return-out}
 use Rattle.plan.specs.Acceptance.{answers, lacksLink, firstLackingLink, planRows, planAnswer}
 use Rattle.plan.specs.AcceptanceRules.{BadSize, Beyond, Strays, LacksMove, LacksAnswer, planRules}
 

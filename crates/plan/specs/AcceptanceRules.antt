@@ -5,16 +5,16 @@ use mathlib.Core.Bool.{false, So}
 use mathlib.Core.List.{List, [], _∷_}
 use Prim.Native.Nat.{ℕ, _+_, _≤_, _<_}
 use lib.ListN.{length, getD}
-use Rattle.theory.specs.Game.{own, Succ}
-use Rattle.theory.specs.Plan.{linked, Wins}
-use Rattle.theory.specs.Returns.{WrongWalk}
+use Rattle.theory.specs.games.Game.{own, Succ}
+use Rattle.theory.specs.plans.Plan.{linked, Wins}
+use Rattle.theory.specs.plans.Returns.{WrongWalk}
 use Rattle.table.specs.Limits.{positionLimit, linkLimit}
 use Rattle.table.specs.Table.{vertexCount, playerOf, gameOf}
 use Rattle.table.specs.WellFormed.{WellFormed}
 use Rattle.table.specs.Rules.{Rule, placed, firstSuch}
-use Rattle.links.specs.PlanTable.{positionCount, linkCount, vertexAt, linkSource, linkTarget, planLength, planOf}
-use Rattle.links.specs.PlanFormed.{PlanSized}
-use Rattle.returns.specs.Returns.{positionPriority}
+use Rattle.plan_links.specs.PlanTable.{positionCount, linkCount, vertexAt, linkSource, linkTarget, planLength, planOf}
+use Rattle.plan_links.specs.PlanFormed.{PlanSized}
+use Rattle.plan_returns.specs.Returns.{positionPriority}
 
 -- under 2 words, p or l out of limits, or length not 2 + p + 2l
 abbrev pub BadSize : List ℕ → Type 0

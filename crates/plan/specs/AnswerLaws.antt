@@ -9,16 +9,16 @@ use native.Mathlib.Omega.{arith}
 use lib.Dec.{eqb}
 use lib.ListN.{length, getD}
 use borrow.Author.Tests.{eqb-true, eq-eqb, ne-eqb}
-use Rattle.theory.specs.BoolsLaws.{clash, So-ext, So-not, and-in, and-out, not-in, not-out, imp-out, imp-fails}
-use Rattle.theory.specs.Range.{anyFrom}
-use Rattle.theory.specs.RangeLaws.{all-out, all-fails, any-in, any-out, from-in, from-end}
-use Rattle.theory.specs.Game.{own}
+use Rattle.theory.specs.logic.BoolsLaws.{clash, So-ext, So-not, and-in, and-out, not-in, not-out, imp-out, imp-fails}
+use Rattle.theory.specs.logic.Range.{anyFrom}
+use Rattle.theory.specs.logic.RangeLaws.{all-out, all-fails, any-in, any-out, from-in, from-end}
+use Rattle.theory.specs.games.Game.{own}
 use Rattle.table.specs.Table.{vertexCount, tableEdges, ownerAt, sourceAt, targetAt, playerOf, gameOf}
 use Rattle.table.specs.TableLaws.{own-number, edge-in, edge-out}
 use Rattle.index.specs.Index.{among}
 use Rattle.index.specs.IndexLaws.{group-order, among-any}
-use Rattle.links.specs.PlanTable.{positionCount, vertexAt, anyLink}
-use Rattle.links.specs.LinkIndexLaws.{among-link}
+use Rattle.plan_links.specs.PlanTable.{positionCount, vertexAt, anyLink}
+use Rattle.plan_links.specs.LinkIndexLaws.{among-link}
 use Rattle.plan.specs.Acceptance.{answers, lacksLink}
 use Rattle.plan.specs.Stamps.{standsAt, unanswered, LackSpace}
 

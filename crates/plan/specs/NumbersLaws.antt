@@ -5,8 +5,8 @@ use mathlib.Core.Bool.{Bool, true, false, cond}
 use mathlib.Core.List.{List, [], _∷_, _++_, append-nil}
 use Prim.Native.Nat.{ℕ, _≤_}
 use native.Mathlib.Omega.{arith}
-use Rattle.table.specs.Verdict.{Row, refused, judge, Clean}
-use Rattle.table.specs.VerdictLaws.{refused-inj, not-both, judge-stays}
+use Rattle.table.specs.Answers.{Row, refused, judge, Clean}
+use Rattle.table.specs.AnswersLaws.{refused-inj, not-both, judge-stays}
 use Rattle.table.specs.DecisionsLaws.{judge-split}
 use Rattle.table.specs.Reading.{gameRowsBy}
 use Rattle.plan.specs.Acceptance.{planRows}

@@ -6,22 +6,22 @@ use mathlib.Core.List.{List, []}
 use Prim.Native.Nat.{ℕ, _<_}
 use lib.Dec.{eqb}
 use lib.ListN.{take, drop}
-use Rattle.theory.specs.Bools.{_&_, imp}
-use Rattle.theory.specs.RangeLaws.{all-ext, first-ext}
-use Rattle.theory.specs.Game.{parity, same}
+use Rattle.theory.specs.logic.Bools.{_&_, imp}
+use Rattle.theory.specs.logic.RangeLaws.{all-ext, first-ext}
+use Rattle.theory.specs.games.Game.{parity, same}
 use Rattle.table.specs.Table.{vertexCount, playerOf, gameOf}
-use Rattle.table.specs.Verdict.{Row, judge}
-use Rattle.table.specs.VerdictLaws.{judge-past, judge-parts}
+use Rattle.table.specs.Answers.{Row, judge}
+use Rattle.table.specs.AnswersLaws.{judge-past, judge-parts}
 use Rattle.table.specs.Reading.{gameRows}
 use Rattle.table.specs.ReadingLaws.{well-clean}
 use Rattle.table.specs.WellFormed.{WellFormed}
 use Rattle.table.specs.SameGame.{SameGame}
 use Rattle.table.specs.SameGameLaws.{same-agree}
-use Rattle.links.specs.PlanTable.{positionCount, linkCount, vertexAt, linkSource, linkTarget, anyLink, hasLink}
-use Rattle.links.specs.Refusals.{strays, firstStray}
-use Rattle.links.specs.PlanFormed.{PlanFormed}
-use Rattle.returns.specs.Returns.{positionPriority, returnsWrong, firstReturn}
-use Rattle.returns.specs.ReturnsLaws.{returns-ext}
+use Rattle.plan_links.specs.PlanTable.{positionCount, linkCount, vertexAt, linkSource, linkTarget, anyLink, hasLink}
+use Rattle.plan_links.specs.Refusals.{strays, firstStray}
+use Rattle.plan_links.specs.PlanFormed.{PlanFormed}
+use Rattle.plan_returns.specs.Returns.{positionPriority, returnsWrong, firstReturn}
+use Rattle.plan_returns.specs.ReturnsLaws.{returns-ext}
 use Rattle.plan.specs.Acceptance.{answers, lacksLink, firstLackingLink, planRows, planAnswer}
 use Rattle.plan.specs.AcceptanceLaws.{clean-words}
 

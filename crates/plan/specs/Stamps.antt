@@ -5,12 +5,12 @@ use mathlib.Core.List.{List}
 use Prim.Native.Nat.{ℕ, _≤_, _<_}
 use lib.Dec.{eqb}
 use lib.ListN.{length, getD}
-use Rattle.theory.specs.Range.{anyFrom}
+use Rattle.theory.specs.logic.Range.{anyFrom}
 use Rattle.table.specs.Limits.{vertexLimit}
 use Rattle.index.specs.Index.{among, Indexed, EdgeIndex}
-use Rattle.links.specs.PlanTable.{positionCount, vertexAt}
-use Rattle.links.specs.PlanFormed.{PlanFormed, WordsPass}
-use Rattle.links.specs.LinkIndex.{LinkIndex}
+use Rattle.plan_links.specs.PlanTable.{positionCount, vertexAt}
+use Rattle.plan_links.specs.PlanFormed.{PlanFormed, WordsPass}
+use Rattle.plan_links.specs.LinkIndex.{LinkIndex}
 
 -- position j stands at vertex x
 unfoldable pub standsAt : List ℕ → ℕ → ℕ → Bool

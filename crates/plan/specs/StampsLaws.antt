@@ -8,11 +8,11 @@ use native.Mathlib.Omega.{arith}
 use lib.Dec.{eqb}
 use lib.ListN.{length, getD, set}
 use borrow.Author.Tests.{eq-eqb, ne-eqb}
-use Rattle.theory.specs.Range.{anyFrom}
-use Rattle.theory.specs.RangeLaws.{from-in, from-end, from-same}
-use Rattle.theory.specs.ListLaws.{after-set}
+use Rattle.theory.specs.logic.Range.{anyFrom}
+use Rattle.theory.specs.logic.RangeLaws.{from-in, from-end, from-same}
+use Rattle.theory.specs.logic.ListLaws.{after-set}
 use Rattle.index.specs.Index.{among}
-use Rattle.links.specs.PlanTable.{vertexAt}
+use Rattle.plan_links.specs.PlanTable.{vertexAt}
 use Rattle.plan.specs.Stamps.{standsAt, StampedTo, Stamped, unstamped, unstampedTarget, unanswered}
 
 pub stamped-none : (w targets : List ℕ) (a stamp : ℕ) (old : List ℕ) → StampedTo w targets a a stamp old old

@@ -6,25 +6,25 @@ use mathlib.Core.List.{List, [], _∷_, _++_}
 use Prim.Native.Nat.{ℕ, _<_, min}
 use lib.ListN.{length, getD, drop}
 use borrow.Author.Tests.{le-ltb, not-false}
-use Rattle.theory.specs.Bools.{_&_}
-use Rattle.theory.specs.BoolsLaws.{clash, So-not}
-use Rattle.theory.specs.RangeLaws.{none-found, found-none}
-use Rattle.theory.specs.Game.{own, Succ, parity}
-use Rattle.theory.specs.Plan.{linked, Walk, Winning, Wins}
-use Rattle.theory.specs.Returns.{Return}
-use Rattle.theory.specs.ReturnsLaws.{closed-in, closed-out}
+use Rattle.theory.specs.logic.Bools.{_&_}
+use Rattle.theory.specs.logic.BoolsLaws.{clash, So-not}
+use Rattle.theory.specs.logic.RangeLaws.{none-found, found-none}
+use Rattle.theory.specs.games.Game.{own, Succ, parity}
+use Rattle.theory.specs.plans.Plan.{linked, Walk, Winning, Wins}
+use Rattle.theory.specs.plans.Returns.{Return}
+use Rattle.theory.specs.plans.ReturnsLaws.{closed-in, closed-out}
 use Rattle.table.specs.Table.{vertexCount, playerOf, gameOf}
-use Rattle.table.specs.Verdict.{accepted, Clean}
-use Rattle.table.specs.VerdictLaws.{judge-clean, judge-accepted, clean-split, clean-append}
+use Rattle.table.specs.Answers.{accepted, Clean}
+use Rattle.table.specs.AnswersLaws.{judge-clean, judge-accepted, clean-split, clean-append}
 use Rattle.table.specs.Reading.{gameRows}
 use Rattle.table.specs.ReadingLaws.{well-clean, clean-well}
-use Rattle.links.specs.PlanTable.{positionCount, linkCount, vertexAt, linkSource, linkTarget, planOf, anyLink, hasLink}
-use Rattle.links.specs.PlanTableLaws.{planOf-length, planOf-vertex, planOf-links, planOf-link, link-in, link-out, anyLink-out}
-use Rattle.links.specs.Refusals.{strays, firstStray}
-use Rattle.links.specs.PlanFormed.{PlanSized, PlanFormed, WordsPass}
-use Rattle.links.specs.PlanFormedLaws.{good-size, good-words, link-inside}
-use Rattle.returns.specs.Returns.{returns, positionPriority, returnsWrong, firstReturn}
-use Rattle.returns.specs.ReturnsLaws.{return-in, return-out, returns-ext}
+use Rattle.plan_links.specs.PlanTable.{positionCount, linkCount, vertexAt, linkSource, linkTarget, planOf, anyLink, hasLink}
+use Rattle.plan_links.specs.PlanTableLaws.{planOf-length, planOf-vertex, planOf-links, planOf-link, link-in, link-out, anyLink-out}
+use Rattle.plan_links.specs.Refusals.{strays, firstStray}
+use Rattle.plan_links.specs.PlanFormed.{PlanSized, PlanFormed, WordsPass}
+use Rattle.plan_links.specs.PlanFormedLaws.{good-size, good-words, link-inside}
+use Rattle.plan_returns.specs.Returns.{returns, positionPriority, returnsWrong, firstReturn}
+use Rattle.plan_returns.specs.ReturnsLaws.{return-in, return-out, returns-ext}
 use Rattle.plan.specs.Acceptance.{answers, lacksLink, firstLackingLink, planRows, planAnswer}
 use Rattle.plan.specs.AcceptanceRules.{LacksMove, LacksAnswer, Accepts}
 use Rattle.plan.specs.AcceptanceLaws.{answers-out, lacks-out, wordRows, clean-words}

@@ -2,19 +2,20 @@
 // `edge_starts` and `edge_targets` index the game's edges, `starts` and `targets` the links.
 use index::of_edges;
 use index::run_of;
-use links::vertex_of;
+use plan_links::vertex_of;
 use table::limits::EDGES;
 use table::limits::VERTEX_STARTS;
 use table::limits::VERTICES;
 ghost use mathlib.Core.Path.{_≡_};
 ghost use Prim.Native.Nat.{ℕ, _+_, _≤_, _<_};
 ghost use lib.ListN.{length, getD};
+ghost use Rattle.table.specs.Lent.{old, new};
 ghost use Rattle.table.specs.Limits.{vertexLimit};
 ghost use Rattle.index.specs.Index.{among, Indexed};
-ghost use Rattle.links.specs.PlanTable.{positionCount, vertexAt};
-ghost use Rattle.links.specs.PlanFormed.{PlanFormed, WordsPass};
-ghost use Rattle.links.specs.LinkIndex.{LinkIndex};
-ghost use Rattle.returns.specs.Search.{NoLater};
+ghost use Rattle.plan_links.specs.PlanTable.{positionCount, vertexAt};
+ghost use Rattle.plan_links.specs.PlanFormed.{PlanFormed, WordsPass};
+ghost use Rattle.plan_links.specs.LinkIndex.{LinkIndex};
+ghost use Rattle.plan_returns.specs.Search.{NoLater};
 ghost use Rattle.plan.specs.Acceptance.{lacksLink, firstLackingLink};
 ghost use Rattle.plan.specs.Stamps.{Stamped, unstamped, unanswered, AnswerSpace, LackSpace};
 
@@ -29,7 +30,7 @@ fn stamp_answers(
 )
     requires { ⌜ PlanFormed (length (now stamps)) (now plan) × (i < positionCount (now plan)) ⌝ }
     requires { ⌜ Indexed (positionCount (now plan)) (now starts) (now targets) ⌝ }
-    ensures { λ r. ⌜ Stamped (now (plan .entry)) (now (starts .entry)) (now (targets .entry)) i stamp (now (stamps .entry)) (now (stamps .exit)) ⌝ }
+    ensures { λ r. ⌜ Stamped (old plan) (old starts) (old targets) i stamp (old stamps) (new stamps) ⌝ }
 {
     let run = run_of(starts, i);
     let mut t = run.from;
@@ -51,7 +52,7 @@ fn some_unstamped(
 ) -> bool
     requires { ⌜ Indexed n (now starts) (now targets) ⌝ }
     requires { ⌜ (v < n) × (n ≤ vertexLimit) × (n ≤ length (now stamps)) ⌝ }
-    ensures { λ r. ⌜ r ≡ among (now (starts .entry)) (now (targets .entry)) v (unstamped (now (stamps .entry)) stamp) ⌝ }
+    ensures { λ r. ⌜ r ≡ among (old starts) (old targets) v (unstamped (old stamps) stamp) ⌝ }
 {
     let run = run_of(starts, v);
     let mut t = run.from;
@@ -78,8 +79,8 @@ fn lacks_answer(
 ) -> bool
     requires { ⌜ AnswerSpace n (now plan) (now starts) (now targets) (now «edge_starts») (now «edge_targets») (now stamps) i ⌝ }
     requires { ⌜ NoLater i (now stamps) ⌝ }
-    ensures { λ r. ⌜ r ≡ among (now («edge_starts» .entry)) (now («edge_targets» .entry)) (vertexAt (now (plan .entry)) i) (unanswered (now (plan .entry)) (now (starts .entry)) (now (targets .entry)) i) ⌝ }
-    ensures { λ r. ⌜ NoLater (i + 1) (now (stamps .exit)) ⌝ }
+    ensures { λ r. ⌜ r ≡ among (old «edge_starts») (old «edge_targets») (vertexAt (old plan) i) (unanswered (old plan) (old starts) (old targets) i) ⌝ }
+    ensures { λ r. ⌜ NoLater (i + 1) (new stamps) ⌝ }
 {
     let stamp = (i + 1) as u16;
     stamp_answers(plan, starts, targets, stamps, i, stamp);
@@ -102,8 +103,8 @@ fn lacks_link(
     requires { ⌜ LackSpace (now game) player (now plan) (now starts) (now targets) (now «edge_starts») (now «edge_targets») (now stamps) ⌝ }
     requires { ⌜ i < positionCount (now plan) ⌝ }
     requires { ⌜ NoLater i (now stamps) ⌝ }
-    ensures { λ r. ⌜ r ≡ lacksLink (now (game .entry)) player (now (plan .entry)) i ⌝ }
-    ensures { λ r. ⌜ NoLater (i + 1) (now (stamps .exit)) ⌝ }
+    ensures { λ r. ⌜ r ≡ lacksLink (old game) player (old plan) i ⌝ }
+    ensures { λ r. ⌜ NoLater (i + 1) (new stamps) ⌝ }
 {
     let n = game[0] as usize;
     let v = vertex_of(plan, i);
@@ -135,7 +136,7 @@ fn first_lacking_by(
 ) -> usize
     requires { ⌜ LackSpace (now game) player (now plan) (now starts) (now targets) (now «edge_starts») (now «edge_targets») (now stamps) ⌝ }
     requires { ⌜ ((x : ℕ) → getD (now stamps) x 0 ≡ 0) ⌝ }
-    ensures { λ r. ⌜ r ≡ firstLackingLink (now (game .entry)) player (now (plan .entry)) ⌝ }
+    ensures { λ r. ⌜ r ≡ firstLackingLink (old game) player (old plan) ⌝ }
 {
     let p = plan[0] as usize;
     let mut i = 0;
@@ -169,7 +170,7 @@ pub fn first_lacking(
 ) -> usize
     requires { ⌜ WordsPass (now game) player (now plan) ⌝ }
     requires { ⌜ LinkIndex (now plan) (now starts) (now targets) ⌝ }
-    ensures { λ r. ⌜ r ≡ firstLackingLink (now (game .entry)) player (now (plan .entry)) ⌝ }
+    ensures { λ r. ⌜ r ≡ firstLackingLink (old game) player (old plan) ⌝ }
 {
     let mut edge_starts = [0u16; VERTEX_STARTS];
     let mut edge_targets = [0u16; EDGES];

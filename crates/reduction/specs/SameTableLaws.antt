@@ -6,15 +6,15 @@ use mathlib.Core.List.{List, [], _∷_, _++_}
 use Prim.Native.Nat.{ℕ, _≤_}
 use lib.ListN.{length}
 use borrow.Author.Tests.{le-ltb}
-use Rattle.theory.specs.Game.{Game}
-use Rattle.theory.specs.Reduction.{quotient, reduced}
-use Rattle.theory.specs.Agreement.{Agree}
-use Rattle.theory.specs.AgreementLaws.{agree-edges, agree-edgeCount, agree-quotient, agree-reduced}
+use Rattle.theory.specs.games.Game.{Game}
+use Rattle.theory.specs.classes.Reduction.{quotient, reduced}
+use Rattle.theory.specs.games.Agreement.{Agree}
+use Rattle.theory.specs.games.AgreementLaws.{agree-edges, agree-edgeCount, agree-quotient, agree-reduced}
 use Rattle.table.specs.Table.{vertexCount, tableEdges, tableLength, gameOf}
 use Rattle.table.specs.TableWords.{edgesOf, tableWords}
 use Rattle.table.specs.TableWordsLaws.{tableWords-one}
-use Rattle.table.specs.Verdict.{Row, Answer, accepted, refused, judge, after}
-use Rattle.table.specs.VerdictLaws.{accepted-inj, judge-next}
+use Rattle.table.specs.Answers.{Row, Answer, accepted, refused, judge, after}
+use Rattle.table.specs.AnswersLaws.{accepted-inj, judge-next}
 use Rattle.table.specs.WellFormed.{WellFormed}
 use Rattle.table.specs.SameGame.{SameGame}
 use Rattle.table.specs.SameGameLaws.{same-agree}

@@ -2,10 +2,10 @@
 use mathlib.Core.Path.{_≡_}
 use mathlib.Core.List.{List, [], _∷_, _++_}
 use Prim.Native.Nat.{ℕ}
-use Rattle.theory.specs.Game.{Game, edgeCount}
+use Rattle.theory.specs.games.Game.{Game, edgeCount}
 use Rattle.table.specs.Table.{vertexCount, tableEdges, tableLength, gameOf}
 use Rattle.table.specs.TableWords.{edgesOf, tableWords}
-use Rattle.table.specs.Verdict.{Row, memoryRow, Answer, accepted, refused, judge, after}
+use Rattle.table.specs.Answers.{Row, memoryRow, Answer, accepted, refused, judge, after}
 use Rattle.order.specs.OrderCall.{orderBytes}
 use Rattle.classes.specs.ClassesCall.{classRows, classTotal, classWords}
 use Rattle.reduction.specs.declared.Tabulation.{Tabulation}

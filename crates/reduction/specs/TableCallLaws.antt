@@ -4,10 +4,10 @@ use mathlib.Core.List.{List, [], _∷_}
 use Prim.Native.Nat.{ℕ, _<_}
 use lib.ListN.{length}
 use borrow.Author.Tests.{lt-ltb}
-use Rattle.theory.specs.Game.{Game}
+use Rattle.theory.specs.games.Game.{Game}
 use Rattle.table.specs.Table.{vertexCount, tableEdges, tableLength}
-use Rattle.table.specs.Verdict.{Row, memoryRow, accepted, refused, judge}
-use Rattle.table.specs.VerdictLaws.{judge-hit, judge-clean, judge-past, judge-stays, after-clean, after-refused}
+use Rattle.table.specs.Answers.{Row, memoryRow, accepted, refused, judge}
+use Rattle.table.specs.AnswersLaws.{judge-hit, judge-clean, judge-past, judge-stays, after-clean, after-refused}
 use Rattle.table.specs.Reading.{readAnswer, readingAnswer, refusalOf}
 use Rattle.table.specs.ReadingLaws.{reading-accepted}
 use Rattle.table.specs.WellFormed.{WellFormed, WellSized}

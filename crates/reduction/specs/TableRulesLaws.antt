@@ -6,9 +6,9 @@ use mathlib.Core.List.{List}
 use Prim.Native.Nat.{ℕ}
 use lib.ListN.{length}
 use borrow.Author.Tests.{ltb-false, le-ltb}
-use Rattle.theory.specs.Game.{Game}
-use Rattle.table.specs.Verdict.{Row, Answer, accepted, refused, Clean}
-use Rattle.table.specs.VerdictLaws.{judge-clean, judge-accepted, after-refused, clean-append, clean-split}
+use Rattle.theory.specs.games.Game.{Game}
+use Rattle.table.specs.Answers.{Row, Answer, accepted, refused, Clean}
+use Rattle.table.specs.AnswersLaws.{judge-clean, judge-accepted, after-refused, clean-append, clean-split}
 use Rattle.table.specs.Rules.{FirstRule, Rendered, none, next}
 use Rattle.table.specs.RulesLaws.{memory-renders, refused-by, rendered-append}
 use Rattle.order.specs.OrderCall.{orderBytes}

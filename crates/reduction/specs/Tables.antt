@@ -3,10 +3,10 @@ use mathlib.Core.Path.{_≡_}
 use mathlib.Core.List.{List, _∷_, _++_}
 use Prim.Native.Nat.{ℕ, _+_}
 use lib.ListN.{getD}
-use Rattle.theory.specs.Range.{tabulate}
-use Rattle.theory.specs.Game.{Game, edgeCount}
+use Rattle.theory.specs.logic.Range.{tabulate}
+use Rattle.theory.specs.games.Game.{Game, edgeCount}
 use Rattle.table.specs.Table.{vertexCount, gameOf}
-use Rattle.table.specs.Verdict.{written}
+use Rattle.table.specs.Answers.{written}
 use Rattle.order.specs.OrderWritten.{OrderDone}
 use Rattle.classes.specs.ClassesCall.{classTotal, classWords}
 use Rattle.reduction.specs.TableCall.{classTable}

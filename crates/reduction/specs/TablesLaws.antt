@@ -5,14 +5,14 @@ use mathlib.Core.List.{List, [], _∷_, _++_, map, append-assoc}
 use Prim.Native.Nat.{ℕ, zero, suc, _+_, _*_, _≤_, _<_}
 use native.Mathlib.Omega.{arith}
 use lib.ListN.{length, getD, set, length-append}
-use Rattle.theory.specs.Range.{tabulate, pairsOf}
-use Rattle.theory.specs.ListLaws.{tabulate-ext}
-use Rattle.theory.specs.Game.{Game}
-use Rattle.theory.specs.Order.{order}
-use Rattle.theory.specs.Reduction.{representative, classGame, quotient, reduced}
-use Rattle.theory.specs.QuotientLaws.{rep-lt}
+use Rattle.theory.specs.logic.Range.{tabulate, pairsOf}
+use Rattle.theory.specs.logic.ListLaws.{tabulate-ext}
+use Rattle.theory.specs.games.Game.{Game}
+use Rattle.theory.specs.order.Order.{order}
+use Rattle.theory.specs.classes.Reduction.{representative, classGame, quotient, reduced}
+use Rattle.theory.specs.classes.QuotientLaws.{rep-lt}
 use Rattle.table.specs.Table.{vertexCount, ownerAt, playerOf, gameOf}
-use Rattle.table.specs.Verdict.{written}
+use Rattle.table.specs.Answers.{written}
 use Rattle.table.specs.WellFormed.{WellFormed}
 use Rattle.table.specs.TableWords.{ownerWord, edgesOf, tableWords}
 use Rattle.table.specs.TableWordsLaws.{length-edgesOf}
@@ -22,8 +22,8 @@ use Rattle.table.specs.Listing.{sourcesOf, targetsOf, Appended}
 use Rattle.table.specs.ListingLaws.{listed-sources, listed-targets}
 use Rattle.table.specs.PlacingLaws.{written-join, written-two}
 use Rattle.classes.specs.Numbering.{classesIn, Represented}
-use Rattle.class_edges.specs.Rows.{gameBy}
-use Rattle.class_edges.specs.ListingLaws.{gameBy-n}
+use Rattle.reduction_edges.specs.Rows.{gameBy}
+use Rattle.reduction_edges.specs.ListingLaws.{gameBy-n}
 use Rattle.reduction.specs.Tables.{tableBy, TableFilled}
 
 -- ---- the words of a table, part by part

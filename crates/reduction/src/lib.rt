@@ -7,9 +7,10 @@ use table::Reading;
 use table::Refusal;
 use table::Sizes;
 use table::refusal_of;
-ghost use Rattle.theory.specs.Reduction.{quotient, reduced};
+ghost use Rattle.theory.specs.classes.Reduction.{quotient, reduced};
+ghost use Rattle.table.specs.Lent.{old, new};
 ghost use Rattle.table.specs.WellFormed.{WellSized};
-ghost use Rattle.class_edges.specs.Rows.{gameBy};
+ghost use Rattle.reduction_edges.specs.Rows.{gameBy};
 ghost use Rattle.reduction.specs.TableCall.{tabulationAnswer, TableCall};
 
 // The number of classes, and the vertices and edges of the table that is written.
@@ -36,7 +37,10 @@ pub fn tabulate_classes(
     drop: bool,
 ) -> Tabulation
     requires { ⌜ WellSized (now game) sizes ⌝ }
-    ensures { λ r. ⌜ TableCall (gameBy drop) (now (game .entry)) (now (marks .entry)) (now (spare .entry)) (now (classes .entry)) (now (output .entry)) (tabulationAnswer r) (now (marks .exit)) (now (spare .exit)) (now (classes .exit)) (now (output .exit)) ⌝ }
+    ensures { λ r. ⌜
+        TableCall (gameBy drop) (old game) (old marks) (old spare) (old classes) (old output) (tabulationAnswer r)
+        (new marks) (new spare) (new classes) (new output)
+        ⌝ }
 {
     let memory = judge_memory(sizes.vertices, marks.len(), spare.len(), classes.len());
     if let Memory::Short(refusal) = memory {
@@ -62,9 +66,12 @@ pub fn write_quotient(
     classes: &mut [u16],
     output: &mut [u16],
 ) -> Tabulation
-    ensures { λ r. ⌜ TableCall quotient (now (game .entry)) (now (marks .entry)) (now (spare .entry)) (now (classes .entry)) (now (output .entry)) (tabulationAnswer r) (now (marks .exit)) (now (spare .exit)) (now (classes .exit)) (now (output .exit)) ⌝ }
+    ensures { λ r. ⌜
+        TableCall quotient (old game) (old marks) (old spare) (old classes) (old output) (tabulationAnswer r)
+        (new marks) (new spare) (new classes) (new output)
+        ⌝ }
 {
-    let reading = reader::read(game);
+    let reading = table_reader::read(game);
     let Reading::Accepted(sizes) = reading else {
         return Tabulation::Refused(refusal_of(reading));
     };
@@ -79,9 +86,12 @@ pub fn write_reduced(
     classes: &mut [u16],
     output: &mut [u16],
 ) -> Tabulation
-    ensures { λ r. ⌜ TableCall reduced (now (game .entry)) (now (marks .entry)) (now (spare .entry)) (now (classes .entry)) (now (output .entry)) (tabulationAnswer r) (now (marks .exit)) (now (spare .exit)) (now (classes .exit)) (now (output .exit)) ⌝ }
+    ensures { λ r. ⌜
+        TableCall reduced (old game) (old marks) (old spare) (old classes) (old output) (tabulationAnswer r)
+        (new marks) (new spare) (new classes) (new output)
+        ⌝ }
 {
-    let reading = reader::read(game);
+    let reading = table_reader::read(game);
     let Reading::Accepted(sizes) = reading else {
         return Tabulation::Refused(refusal_of(reading));
     };

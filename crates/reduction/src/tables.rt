@@ -1,24 +1,25 @@
 // A part of this crate's calls and of the report; no host calls it.
 // The table of a game of classes.
 use crate::TableCounts;
-use class_edges::listing::list_edges;
 use classes::numbering::number_classes;
 use order::fill_order;
+use reduction_edges::listing::list_edges;
 use table::limits::EDGES;
 use table::limits::VERTEX_STARTS;
 use table::limits::VERTICES;
-use table::words;
+use table::slices;
 ghost use mathlib.Core.Path.{_≡_};
 ghost use Prim.Native.Nat.{_+_, _≤_};
 ghost use lib.ListN.{length};
-ghost use Rattle.theory.specs.Order.{order};
+ghost use Rattle.theory.specs.order.Order.{order};
+ghost use Rattle.table.specs.Lent.{old, new};
 ghost use Rattle.table.specs.Limits.{edgeLimit};
 ghost use Rattle.table.specs.Table.{vertexCount, tableEdges, tableLength, gameOf};
-ghost use Rattle.table.specs.Verdict.{written};
+ghost use Rattle.table.specs.Answers.{written};
 ghost use Rattle.table.specs.WellFormed.{WellFormed};
 ghost use Rattle.index.specs.Index.{EdgeIndex};
 ghost use Rattle.classes.specs.Numbering.{Ordered, classesIn, Represented};
-ghost use Rattle.class_edges.specs.Rows.{gameBy};
+ghost use Rattle.reduction_edges.specs.Rows.{gameBy};
 ghost use Rattle.reduction.specs.TableRules.{TableFits};
 ghost use Rattle.reduction.specs.Tables.{tableBy, TableFilled, TableDone};
 
@@ -40,15 +41,15 @@ fn write_table(
 )
     requires { ⌜ WellFormed (now game) × Represented (gameOf (now game) .n) (order (gameOf (now game))) (now reps) × (k ≡ classesIn (gameOf (now game))) ⌝ }
     requires { ⌜ (e ≤ edgeLimit) × (e ≤ length (now sources)) × (e ≤ length (now ends)) × (tableLength k e ≤ length (now output)) ⌝ }
-    ensures { λ r. ⌜ now (output .exit) ≡ written (tableBy (now (game .entry)) (now (reps .entry)) k (now (sources .entry)) (now (ends .entry)) e) (now (output .entry)) ⌝ }
+    ensures { λ r. ⌜ new output ≡ written (tableBy (old game) (old reps) k (old sources) (old ends) e) (old output) ⌝ }
 {
     let n = game[0] as usize;
     output[0] = k as u16;
     output[1] = e as u16;
-    words::gather(output, 2, game, 2, reps, k);
-    words::gather(output, 2 + k, game, 2 + n, reps, k);
-    words::copy(output, 2 + 2 * k, sources, e);
-    words::copy(output, 2 + 2 * k + e, ends, e);
+    slices::gather(output, 2, game, 2, reps, k);
+    slices::gather(output, 2 + k, game, 2 + n, reps, k);
+    slices::copy(output, 2 + 2 * k, sources, e);
+    slices::copy(output, 2 + 2 * k + e, ends, e);
 }
 
 // Writes the classes of marks that hold the order, and the table of the quotient or, with `drop`, of the reduced game. The representatives
@@ -64,7 +65,7 @@ fn fill_table(
 ) -> TableCounts
     requires { ⌜ WellFormed (now game) × EdgeIndex (now game) (now starts) (now targets) × Ordered (gameOf (now game)) (now marks) ⌝ }
     requires { ⌜ (vertexCount (now game) ≤ length (now classes)) × (tableLength (vertexCount (now game)) (tableEdges (now game)) ≤ length (now output)) ⌝ }
-    ensures { λ r. ⌜ TableFilled (gameBy drop) (now (game .entry)) (now (classes .entry)) (now (output .entry)) r (now (classes .exit)) (now (output .exit)) ⌝ }
+    ensures { λ r. ⌜ TableFilled (gameBy drop) (old game) (old classes) (old output) r (new classes) (new output) ⌝ }
 {
     let n = game[0] as usize;
     let mut reps = [0u16; VERTICES];
@@ -101,7 +102,10 @@ pub fn fill_memory(
     drop: bool,
 ) -> Filled
     requires { ⌜ TableFits (now game) (now marks) (now spare) (now classes) (now output) ⌝ }
-    ensures { λ r. ⌜ TableDone (gameBy drop) (now (game .entry)) (now (marks .entry)) (now (spare .entry)) (now (classes .entry)) (now (output .entry)) (r .passes) (r .counts) (now (marks .exit)) (now (spare .exit)) (now (classes .exit)) (now (output .exit)) ⌝ }
+    ensures { λ r. ⌜
+        TableDone (gameBy drop) (old game) (old marks) (old spare) (old classes) (old output) (r .passes) (r .counts)
+        (new marks) (new spare) (new classes) (new output)
+        ⌝ }
 {
     let passes = fill_order(game, marks, spare);
     let mut starts = [0u16; VERTEX_STARTS];

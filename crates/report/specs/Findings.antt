@@ -2,14 +2,14 @@
 use mathlib.Core.Path.{_≡_}
 use mathlib.Core.List.{List}
 use Prim.Native.Nat.{ℕ}
-use Rattle.theory.specs.Game.{edgeCount}
-use Rattle.theory.specs.Order.{orderPasses}
-use Rattle.theory.specs.Reduction.{reduced}
+use Rattle.theory.specs.games.Game.{edgeCount}
+use Rattle.theory.specs.order.Order.{orderPasses}
+use Rattle.theory.specs.classes.Reduction.{reduced}
 use Rattle.table.specs.Table.{gameOf}
-use Rattle.table.specs.Verdict.{Answer, accepted, refused, after}
+use Rattle.table.specs.Answers.{Answer, accepted, refused, after}
 use Rattle.table.specs.Reading.{gameRows, readAnswer, readingAnswer}
 use Rattle.classes.specs.ClassesCall.{classTotal, classWords}
-use Rattle.totals.specs.Totals.{memberWords, edgeWords, memberTotal, edgeTotal}
+use Rattle.reduction_totals.specs.Totals.{memberWords, edgeWords, memberTotal, edgeTotal}
 use Rattle.report.specs.declared.Report.{Report}
 
 -- a number of an accepted game; 0 after a refusal

@@ -4,30 +4,30 @@ use mathlib.Core.List.{List}
 use Prim.Native.Nat.{ℕ, _≤_}
 use native.Mathlib.Omega.{arith}
 use native.Mathlib.Nat.{mul-le-mul}
-use Rattle.theory.specs.Reduction.{reduced}
+use Rattle.theory.specs.classes.Reduction.{reduced}
 use Rattle.table.specs.Limits.{vertexLimit}
 use Rattle.table.specs.Table.{vertexCount}
-use Rattle.table.specs.Verdict.{Answer, accepted, refused}
-use Rattle.table.specs.VerdictLaws.{after-clean, after-refused}
+use Rattle.table.specs.Answers.{Answer, accepted, refused}
+use Rattle.table.specs.AnswersLaws.{after-clean, after-refused}
 use Rattle.table.specs.Reading.{gameRows, readAnswer, readingAnswer}
 use Rattle.table.specs.ReadingLaws.{read-accepted, well-clean}
 use Rattle.table.specs.WellFormed.{WellFormed}
 use Rattle.table.specs.declared.Sizes.{Sizes}
 use Rattle.table.specs.declared.Refusal.{Refusal}
 use Rattle.table.specs.declared.Reading.{Reading}
-use Rattle.pairs.specs.Marks.{marksLength}
+use Rattle.marks.specs.Marks.{marksLength}
 use Rattle.classes.specs.ClassesCall.{classTotal, classWords}
 use Rattle.reduction.specs.TableRules.{TableFits}
 use Rattle.reduction.specs.TableCallLaws.{sized}
 use Rattle.reduction.specs.Tables.{TableDone}
 use Rattle.reduction.specs.declared.TableCounts.{TableCounts}
-use Rattle.totals.specs.Totals.{memberWords, edgeWords}
-use Rattle.totals.specs.Counting.{Tabulated, Totalled}
-use Rattle.totals.specs.CountingLaws.{few-classes}
-use Rattle.totals.specs.declared.Totals.{Totals}
+use Rattle.reduction_totals.specs.Totals.{memberWords, edgeWords}
+use Rattle.reduction_totals.specs.Counting.{Tabulated, Totalled}
+use Rattle.reduction_totals.specs.CountingLaws.{few-classes}
+use Rattle.reduction_totals.specs.declared.Totals.{Totals}
 use Rattle.report.specs.declared.Report.{Report}
 use Rattle.report.specs.Findings.{number, Reported}
-use Rattle.report.specs.Room.{Enough, AtMost}
+use Rattle.report.specs.ReportMemory.{Enough, AtMost}
 
 pub number-accepted : {a : Answer} {counts : List ℕ} (x : ℕ) → a ≡ accepted counts → number a x ≡ x
 unfolding number

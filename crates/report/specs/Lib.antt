@@ -1,6 +1,6 @@
 pub mod Words
 pub mod WordsLaws
 pub mod Findings
-pub mod Room
+pub mod ReportMemory
 pub mod FindingsLaws
 pub mod LinesLaws

@@ -4,21 +4,21 @@ use mathlib.Core.Path.{_≡_, sym, ap, _∙_}
 use mathlib.Core.List.{List}
 use Prim.Native.Nat.{ℕ}
 use lib.ListN.{getD}
-use Rattle.theory.specs.Range.{sum, tabulate}
-use Rattle.theory.specs.Reduction.{reduced}
-use Rattle.theory.specs.Totals.{memberCount, outDegree}
+use Rattle.theory.specs.logic.Range.{sum, tabulate}
+use Rattle.theory.specs.classes.Reduction.{reduced}
+use Rattle.theory.specs.classes.Totals.{memberCount, outDegree}
 use Rattle.table.specs.Table.{gameOf}
-use Rattle.table.specs.Verdict.{after}
-use Rattle.table.specs.VerdictLaws.{after-clean}
+use Rattle.table.specs.Answers.{after}
+use Rattle.table.specs.AnswersLaws.{after-clean}
 use Rattle.table.specs.Reading.{gameRows, readAnswer, readingAnswer}
 use Rattle.table.specs.ReadingLaws.{well-clean}
 use Rattle.table.specs.declared.Sizes.{Sizes}
 use Rattle.table.specs.declared.Reading.{Reading}
 use Rattle.classes.specs.ClassesCall.{classTotal}
 use Rattle.reduction.specs.TableCallLaws.{sized}
-use Rattle.totals.specs.Totals.{memberWords, edgeWords, memberTotal, edgeTotal}
-use Rattle.totals.specs.TotalsLaws.{member-total-all, edge-total-all}
-use Rattle.totals.specs.CountingLaws.{sum-written}
+use Rattle.reduction_totals.specs.Totals.{memberWords, edgeWords, memberTotal, edgeTotal}
+use Rattle.reduction_totals.specs.TotalsLaws.{member-total-all, edge-total-all}
+use Rattle.reduction_totals.specs.CountingLaws.{sum-written}
 use Rattle.report.specs.declared.Report.{Report}
 use Rattle.report.specs.Findings.{number, Reported}
 use Rattle.report.specs.FindingsLaws.{number-accepted}

@@ -2,7 +2,7 @@
 use mathlib.Core.List.{List}
 use Prim.Native.Nat.{ℕ, _+_, _*_, _/_}
 use lib.ListN.{length, getD}
-use Rattle.theory.specs.Range.{tabulate}
+use Rattle.theory.specs.logic.Range.{tabulate}
 use Rattle.table.specs.Limits.{tableLimit}
 
 -- document 02, "The report stops after 9,219 words": a word more than the longest table has

@@ -5,7 +5,7 @@ use Prim.Native.Nat.{ℕ, _+_, _*_, _≤_}
 use native.Mathlib.Omega.{arith}
 use lib.ListN.{length, getD, take, drop, length-append, List·getD-eq-default}
 use lib.Seq.{take-at}
-use Rattle.table.specs.Verdict.{written}
+use Rattle.table.specs.Answers.{written}
 use Rattle.report.specs.Words.{wordAt, wordsIn, wordsOf}
 
 -- the last half word

@@ -2,14 +2,15 @@
 use crate::Report;
 use crate::words;
 use reduction::tables::fill_memory;
+use reduction_totals::Totals;
+use reduction_totals::write_totals;
 use table::Reading;
-use totals::Totals;
-use totals::write_totals;
 ghost use Prim.Native.Nat.{_*_, _≤_};
 ghost use lib.ListN.{length};
+ghost use Rattle.table.specs.Lent.{old, new};
 ghost use Rattle.report.specs.Words.{readLimit, wordsOf};
 ghost use Rattle.report.specs.Findings.{Reported};
-ghost use Rattle.report.specs.Room.{Enough};
+ghost use Rattle.report.specs.ReportMemory.{Enough};
 
 // Judges the game, counts the passes, classes and the reduced game's vertices and edges, writes the class of each vertex and the members
 // and edges of each class, and sums these up. The other buffers are working memory. All are enough for any game that the reader accepts.
@@ -23,9 +24,9 @@ fn find(
     edges: &mut [u16],
 ) -> Report
     requires { ⌜ Enough (now marks) (now spare) (now output) (now classes) (now members) (now edges) ⌝ }
-    ensures { λ r. ⌜ Reported (now (game .entry)) (now (classes .entry)) (now (members .entry)) (now (edges .entry)) r (now (classes .exit)) (now (members .exit)) (now (edges .exit)) ⌝ }
+    ensures { λ r. ⌜ Reported (old game) (old classes) (old members) (old edges) r (new classes) (new members) (new edges) ⌝ }
 {
-    let verdict = reader::read(game);
+    let verdict = table_reader::read(game);
     let Reading::Accepted(_) = verdict else {
         return Report {
             verdict,
@@ -65,7 +66,7 @@ pub fn find_from_bytes(
 ) -> Report
     requires { ⌜ (length (now bytes) ≤ 2 * readLimit) × (readLimit ≤ length (now words)) ⌝ }
     requires { ⌜ Enough (now marks) (now spare) (now output) (now classes) (now members) (now edges) ⌝ }
-    ensures { λ r. ⌜ Reported (wordsOf (now (bytes .entry))) (now (classes .entry)) (now (members .entry)) (now (edges .entry)) r (now (classes .exit)) (now (members .exit)) (now (edges .exit)) ⌝ }
+    ensures { λ r. ⌜ Reported (wordsOf (old bytes)) (old classes) (old members) (old edges) r (new classes) (new members) (new edges) ⌝ }
 {
     let count = words::decode(bytes, words);
     find(

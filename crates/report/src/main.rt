@@ -4,16 +4,17 @@ mod print;
 mod words;
 
 use libc::STDIN_FILENO;
+use reduction_totals::Totals;
 use table::Reading;
 use table::Sizes;
 use table::limits::PAIR_BYTES;
 use table::limits::TABLE_WORDS;
 use table::limits::VERTICES;
-use totals::Totals;
 ghost use Prim.Native.Nat.{_*_, _≤_};
 ghost use lib.ListN.{length};
+ghost use Rattle.table.specs.Lent.{old};
 ghost use Rattle.report.specs.Words.{readLimit};
-ghost use Rattle.report.specs.Room.{AtMost, OnPage};
+ghost use Rattle.report.specs.ReportMemory.{AtMost, OnPage};
 
 // Reading stops after a word more than the longest table has.
 const READ_WORDS: usize = TABLE_WORDS + 1;
@@ -35,7 +36,7 @@ pub struct Report {
 // The first lines of an accepted game: its sizes, passes and classes. Like those below, returns where the page goes on.
 fn print_sizes(page: &mut [u8], at: usize, sizes: Sizes, passes: u32, classes: usize) -> usize
     requires { ⌜ OnPage (length (now page)) at ⌝ }
-    ensures { λ r. ⌜ OnPage (length (now (page .entry))) r ⌝ }
+    ensures { λ r. ⌜ OnPage (length (old page)) r ⌝ }
 {
     let a = print::two(
         page,
@@ -52,7 +53,7 @@ fn print_sizes(page: &mut [u8], at: usize, sizes: Sizes, passes: u32, classes: u
 // The last lines: the sums, and the sizes of the reduced game.
 fn print_sums(page: &mut [u8], at: usize, report: Report) -> usize
     requires { ⌜ OnPage (length (now page)) at ⌝ }
-    ensures { λ r. ⌜ OnPage (length (now (page .entry))) r ⌝ }
+    ensures { λ r. ⌜ OnPage (length (old page)) r ⌝ }
 {
     let totals = report.totals;
     let a = print::two(
@@ -84,7 +85,7 @@ fn print_accepted(
 ) -> usize
     requires { ⌜ OnPage (length (now page)) 0 × (sizes .vertices ≤ length (now classes)) ⌝ }
     requires { ⌜ (report .classes ≤ length (now members)) × (report .classes ≤ length (now edges)) ⌝ }
-    ensures { λ r. ⌜ OnPage (length (now (page .entry))) r ⌝ }
+    ensures { λ r. ⌜ OnPage (length (old page)) r ⌝ }
 {
     let a = print_sizes(page, 0, sizes, report.passes, report.classes);
     let b = print::vertices(page, a, classes, sizes.vertices);
@@ -102,7 +103,7 @@ fn print_lines(
 ) -> usize
     requires { ⌜ OnPage (length (now page)) 0 × AtMost (length (now classes)) (report .verdict) ⌝ }
     requires { ⌜ (report .classes ≤ length (now members)) × (report .classes ≤ length (now edges)) ⌝ }
-    ensures { λ r. ⌜ OnPage (length (now (page .entry))) r ⌝ }
+    ensures { λ r. ⌜ OnPage (length (old page)) r ⌝ }
 {
     let verdict = report.verdict;
     match verdict {

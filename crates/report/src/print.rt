@@ -2,7 +2,8 @@
 use libc::STDOUT_FILENO;
 ghost use Prim.Native.Nat.{_<_, _≤_};
 ghost use lib.ListN.{length};
-ghost use Rattle.report.specs.Room.{OnPage};
+ghost use Rattle.table.specs.Lent.{old};
+ghost use Rattle.report.specs.ReportMemory.{OnPage};
 
 // Writes what the page holds before `at`.
 pub fn flush(page: &[u8], at: usize)
@@ -14,7 +15,7 @@ pub fn flush(page: &[u8], at: usize)
 // Where the next byte goes: at `at`, or at the start of a page that is full and is written first.
 fn next_place(page: &[u8], at: usize) -> usize
     requires { ⌜ OnPage (length (now page)) at ⌝ }
-    ensures { λ r. ⌜ r < length (now (page .entry)) ⌝ }
+    ensures { λ r. ⌜ r < length (old page) ⌝ }
 {
     if at < page.len() {
         return at;
@@ -26,7 +27,7 @@ fn next_place(page: &[u8], at: usize) -> usize
 // Puts a byte into the page. Returns where the page goes on.
 fn push(page: &mut [u8], at: usize, byte: u8) -> usize
     requires { ⌜ OnPage (length (now page)) at ⌝ }
-    ensures { λ r. ⌜ OnPage (length (now (page .entry))) r ⌝ }
+    ensures { λ r. ⌜ OnPage (length (old page)) r ⌝ }
 {
     let k = next_place(page, at);
     page[k] = byte;
@@ -35,7 +36,7 @@ fn push(page: &mut [u8], at: usize, byte: u8) -> usize
 
 fn text(page: &mut [u8], at: usize, s: &[u8]) -> usize
     requires { ⌜ OnPage (length (now page)) at ⌝ }
-    ensures { λ r. ⌜ OnPage (length (now (page .entry))) r ⌝ }
+    ensures { λ r. ⌜ OnPage (length (old page)) r ⌝ }
 {
     let size = s.len();
     let mut k = at;
@@ -50,7 +51,7 @@ fn text(page: &mut [u8], at: usize, s: &[u8]) -> usize
 // A word and a number.
 fn labelled(page: &mut [u8], at: usize, label: &[u8], x: u64) -> usize
     requires { ⌜ OnPage (length (now page)) at ⌝ }
-    ensures { λ r. ⌜ OnPage (length (now (page .entry))) r ⌝ }
+    ensures { λ r. ⌜ OnPage (length (old page)) r ⌝ }
 {
     let mut digits = [0u8; 20];
     let count = io::decimal(x, &mut digits);
@@ -61,7 +62,7 @@ fn labelled(page: &mut [u8], at: usize, label: &[u8], x: u64) -> usize
 // A line of a word and a number.
 pub fn one(page: &mut [u8], at: usize, label: &[u8], x: u64) -> usize
     requires { ⌜ OnPage (length (now page)) at ⌝ }
-    ensures { λ r. ⌜ OnPage (length (now (page .entry))) r ⌝ }
+    ensures { λ r. ⌜ OnPage (length (old page)) r ⌝ }
 {
     let k = labelled(page, at, label, x);
     text(page, k, b"\n")
@@ -70,7 +71,7 @@ pub fn one(page: &mut [u8], at: usize, label: &[u8], x: u64) -> usize
 // A line of a word and a number, and again.
 pub fn two(page: &mut [u8], at: usize, first: &[u8], x: u64, second: &[u8], y: u64) -> usize
     requires { ⌜ OnPage (length (now page)) at ⌝ }
-    ensures { λ r. ⌜ OnPage (length (now (page .entry))) r ⌝ }
+    ensures { λ r. ⌜ OnPage (length (old page)) r ⌝ }
 {
     let k = labelled(page, at, first, x);
     one(page, k, second, y)
@@ -79,7 +80,7 @@ pub fn two(page: &mut [u8], at: usize, first: &[u8], x: u64, second: &[u8], y: u
 // A line for each of the first n vertices.
 pub fn vertices(page: &mut [u8], at: usize, classes: &[u16], n: usize) -> usize
     requires { ⌜ OnPage (length (now page)) at × (n ≤ length (now classes)) ⌝ }
-    ensures { λ r. ⌜ OnPage (length (now (page .entry))) r ⌝ }
+    ensures { λ r. ⌜ OnPage (length (old page)) r ⌝ }
 {
     let mut k = at;
     let mut v = 0;
@@ -93,7 +94,7 @@ pub fn vertices(page: &mut [u8], at: usize, classes: &[u16], n: usize) -> usize
 // A line for each of the first k classes.
 pub fn classes(page: &mut [u8], at: usize, members: &[u16], edges: &[u16], k: usize) -> usize
     requires { ⌜ OnPage (length (now page)) at × (k ≤ length (now members)) × (k ≤ length (now edges)) ⌝ }
-    ensures { λ r. ⌜ OnPage (length (now (page .entry))) r ⌝ }
+    ensures { λ r. ⌜ OnPage (length (old page)) r ⌝ }
 {
     let mut end = at;
     let mut c = 0;

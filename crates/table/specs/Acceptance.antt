@@ -1,6 +1,6 @@
 -- An acceptor's verdict, in document 01's numbers: accepted without counts, or refused.
 use mathlib.Core.List.{[]}
-use Rattle.table.specs.Verdict.{Answer, accepted, refused}
+use Rattle.table.specs.Answers.{Answer, accepted, refused}
 use Rattle.table.specs.declared.Acceptance.{Acceptance}
 use Rattle.table.specs.declared.Acceptance.the-variants.{Accepted, Refused}
 

@@ -4,7 +4,7 @@ use mathlib.Core.Path.{_≡_}
 use mathlib.Core.Logic.{_↔_}
 use mathlib.Core.List.{List}
 use Prim.Native.Nat.{ℕ}
-use Rattle.table.specs.Verdict.{Row, refused, judge, Clean}
+use Rattle.table.specs.Answers.{Row, refused, judge, Clean}
 use Rattle.table.specs.Rules.{Rule, FirstRule, NoRule}
 
 -- refused k at p exactly if the first rule whose condition holds has number k and names p; clean exactly if none holds

@@ -3,8 +3,8 @@ use mathlib.Core.Path.{_≡_, refl, sym, _∙_}
 use mathlib.Core.Logic.{_⊎_, inl, inr}
 use mathlib.Core.List.{List, [], _∷_, _++_}
 use Prim.Native.Nat.{ℕ}
-use Rattle.table.specs.Verdict.{Row, Answer, accepted, refused, judge, Clean}
-use Rattle.table.specs.VerdictLaws.{judge-accepted, judge-past, judge-stays, clean-append, clean-split}
+use Rattle.table.specs.Answers.{Row, Answer, accepted, refused, judge, Clean}
+use Rattle.table.specs.AnswersLaws.{judge-accepted, judge-past, judge-stays, clean-append, clean-split}
 use Rattle.table.specs.Rules.{Rule, FirstRule, here, later, NoRule, no-rule, fails, Rendered}
 use Rattle.table.specs.RulesLaws.{judge-refused, judge-refuses, clean-none, none-clean}
 use Rattle.table.specs.Decisions.{Decides}

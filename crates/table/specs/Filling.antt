@@ -1,6 +1,6 @@
 -- The verdict of a call that fills a game table, in document 01's numbers: accepted with the table's vertices and edges, or refused.
 use mathlib.Core.List.{[], _∷_}
-use Rattle.table.specs.Verdict.{Answer, accepted, refused}
+use Rattle.table.specs.Answers.{Answer, accepted, refused}
 use Rattle.table.specs.declared.Filling.{Filling}
 use Rattle.table.specs.declared.Filling.the-variants.{Accepted, Refused}
 

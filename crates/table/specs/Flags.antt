@@ -5,9 +5,9 @@ use mathlib.Core.List.{List}
 use Prim.Native.Nat.{ℕ, _+_, _*_, _≤_, _<_}
 use lib.Dec.{eqb, leb}
 use lib.ListN.{length, getD}
-use Rattle.theory.specs.Bools.{_or_, bit}
-use Rattle.theory.specs.Range.{anyBelow, count}
-use Rattle.word.specs.Words.{has}
+use Rattle.theory.specs.logic.Bools.{_or_, bit}
+use Rattle.theory.specs.logic.Range.{anyBelow, count}
+use Rattle.words.specs.Words.{has}
 use Rattle.table.specs.Limits.{vertexLimit, edgeLimit, pairLimit, pairWords}
 use Rattle.table.specs.Table.{vertexCount, tableEdges, sourceAt, targetAt, tableLength, gameOf}
 

@@ -11,15 +11,15 @@ use lib.Dec.{eqb, leb}
 use lib.ListN.{length, getD, set, replicate, length-set, length-replicate, getD-replicate}
 use lib.Seq.{getD-set-same, getD-set-other}
 use borrow.Author.Tests.{eq-eqb, ne-eqb, leb-false}
-use Rattle.theory.specs.Bools.{_or_, bit}
-use Rattle.theory.specs.BoolsLaws.{bit-is-some}
-use Rattle.theory.specs.Range.{anyBelow, first, tabulate}
-use Rattle.theory.specs.RangeLaws.{any-in, any-ext, any-more, any-same, first-before, first-ext}
-use Rattle.theory.specs.CountLaws.{count-ext, count-none, count-add, col-lt, digits-same}
-use Rattle.theory.specs.ListLaws.{tabulate-by, getD-tabulate}
-use Rattle.theory.specs.Game.{edgeCount}
-use Rattle.word.specs.WordLaws.{digit-zero}
-use Rattle.word.specs.Words.{has}
+use Rattle.theory.specs.logic.Bools.{_or_, bit}
+use Rattle.theory.specs.logic.BoolsLaws.{bit-is-some}
+use Rattle.theory.specs.logic.Range.{anyBelow, first, tabulate}
+use Rattle.theory.specs.logic.RangeLaws.{any-in, any-ext, any-more, any-same, first-before, first-ext}
+use Rattle.theory.specs.logic.CountLaws.{count-ext, count-none, count-add, col-lt, digits-same}
+use Rattle.theory.specs.logic.ListLaws.{tabulate-by, getD-tabulate}
+use Rattle.theory.specs.games.Game.{edgeCount}
+use Rattle.words.specs.WordLaws.{digit-zero}
+use Rattle.words.specs.Words.{has}
 use Rattle.table.specs.Limits.{vertexLimit, pairLimit, pairWords}
 use Rattle.table.specs.Table.{vertexCount, tableEdges, sourceAt, targetAt, tableLength, isEdge, gameOf}
 use Rattle.table.specs.Reading.{lacksEdge, firstEnd, firstLacking}

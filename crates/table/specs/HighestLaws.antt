@@ -8,8 +8,8 @@ use native.Mathlib.Numerals.{add-one}
 use native.Mathlib.Omega.{arith}
 use lib.ListN.{getD}
 use borrow.Author.Tests.{lt-leb}
-use Rattle.theory.specs.Range.{first}
-use Rattle.theory.specs.RangeLaws.{first-le, first-none}
+use Rattle.theory.specs.logic.Range.{first}
+use Rattle.theory.specs.logic.RangeLaws.{first-le, first-none}
 use Rattle.table.specs.Highest.{highestOf}
 use Rattle.table.specs.Flags.{atLeast}
 

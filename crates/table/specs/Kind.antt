@@ -2,7 +2,7 @@
 use mathlib.Core.Bool.{Bool, cond}
 use Prim.Native.Nat.{ℕ}
 use lib.Dec.{leb}
-use Rattle.theory.specs.Bools.{_&_}
+use Rattle.theory.specs.logic.Bools.{_&_}
 
 -- k is one of a to b
 unfoldable pub within : ℕ → ℕ → ℕ → Bool

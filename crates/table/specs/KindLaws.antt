@@ -3,7 +3,7 @@ use mathlib.Core.Path.{_≡_}
 use mathlib.Core.Bool.{false, So}
 use Prim.Native.Nat.{ℕ, _≤_}
 use borrow.Author.Tests.{le-leb, leb-true}
-use Rattle.theory.specs.BoolsLaws.{and-in, and-out, So-not}
+use Rattle.theory.specs.logic.BoolsLaws.{and-in, and-out, So-not}
 use Rattle.table.specs.Kind.{within}
 
 pub within-in : (a b k : ℕ) → a ≤ k → k ≤ b → So (within a b k)

@@ -1,8 +1,9 @@
+pub mod Lent
 pub mod Limits
 pub mod Table
 pub mod TableLaws
-pub mod Verdict
-pub mod VerdictLaws
+pub mod Answers
+pub mod AnswersLaws
 pub mod Rules
 pub mod RulesLaws
 pub mod Decisions

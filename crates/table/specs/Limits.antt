@@ -1,6 +1,6 @@
 -- Document 01's limits. The code has them as constants of `table::limits`.
 use Prim.Native.Nat.{ℕ, _+_, _*_, _/_}
-use Rattle.word.specs.Word.{wordBits}
+use Rattle.words.specs.Word.{wordBits}
 
 -- vertices and edges of a game, positions and links of a plan
 abbrev pub vertexLimit : ℕ

@@ -4,9 +4,9 @@ use mathlib.Core.List.{List, [], _++_, map, map-append}
 use Prim.Native.Nat.{ℕ, _+_, _≤_}
 use native.Mathlib.Omega.{arith}
 use lib.ListN.{length, getD, length-append, length-map}
-use Rattle.theory.specs.Range.{tabulate}
-use Rattle.theory.specs.ListLaws.{tabulate-by}
-use Rattle.table.specs.VerdictLaws.{getD-written}
+use Rattle.theory.specs.logic.Range.{tabulate}
+use Rattle.theory.specs.logic.ListLaws.{tabulate-by}
+use Rattle.table.specs.AnswersLaws.{getD-written}
 use Rattle.table.specs.Placing.{placed}
 use Rattle.table.specs.PlacingLaws.{placed-written, placed-start, placed-join}
 use Rattle.table.specs.Listing.{sourcesOf, targetsOf, Appended}

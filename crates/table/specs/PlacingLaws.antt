@@ -7,10 +7,10 @@ use native.Mathlib.Numerals.{add-one}
 use native.Mathlib.Omega.{arith}
 use lib.ListN.{length, take, drop, set, length-append, take-append-drop}
 use lib.Seq.{length-take-le, take-at, drop-at, drop-drop}
-use Rattle.theory.specs.Range.{tabulate}
-use Rattle.theory.specs.ListLaws.{length-tabulate, tabulate-snoc}
-use Rattle.table.specs.Verdict.{written}
-use Rattle.table.specs.VerdictLaws.{written-snoc}
+use Rattle.theory.specs.logic.Range.{tabulate}
+use Rattle.theory.specs.logic.ListLaws.{length-tabulate, tabulate-snoc}
+use Rattle.table.specs.Answers.{written}
+use Rattle.table.specs.AnswersLaws.{written-snoc}
 use Rattle.table.specs.Placing.{placed}
 
 -- from word 0 on

@@ -4,12 +4,12 @@ use mathlib.Core.List.{List, [], _∷_}
 use Prim.Native.Nat.{ℕ, _+_, _*_}
 use lib.Dec.{eqb, ltb, leb}
 use lib.ListN.{length, getD}
-use Rattle.theory.specs.Bools.{_or_}
-use Rattle.theory.specs.Range.{anyBelow, first}
-use Rattle.theory.specs.Game.{edgeCount}
+use Rattle.theory.specs.logic.Bools.{_or_}
+use Rattle.theory.specs.logic.Range.{anyBelow, first}
+use Rattle.theory.specs.games.Game.{edgeCount}
 use Rattle.table.specs.Limits.{vertexLimit, edgeLimit}
 use Rattle.table.specs.Table.{vertexCount, tableEdges, sourceAt, tableLength, gameOf}
-use Rattle.table.specs.Verdict.{Row, row, Answer, accepted, refused, judge}
+use Rattle.table.specs.Answers.{Row, row, Answer, accepted, refused, judge}
 use Rattle.table.specs.declared.Refusal.{Refusal}
 use Rattle.table.specs.declared.Reading.{Reading}
 use Rattle.table.specs.declared.Reading.the-variants.{Accepted, Refused}

@@ -11,16 +11,16 @@ use native.Mathlib.Omega.{arith}
 use lib.Dec.{eqb, ltb, leb}
 use lib.ListN.{length, getD}
 use borrow.Author.Tests.{ltb-true, lt-ltb, leb-true, le-leb, eqb-true, eqb-false, eq-eqb, ne-eqb, not-false}
-use Rattle.theory.specs.Bools.{_or_}
-use Rattle.theory.specs.BoolsLaws.{decide, So-not, not-in, not-out, or-left, or-right, or-out}
-use Rattle.theory.specs.Range.{anyBelow}
-use Rattle.theory.specs.RangeLaws.{any-out, any-fails}
-use Rattle.theory.specs.Game.{edgeCount}
+use Rattle.theory.specs.logic.Bools.{_or_}
+use Rattle.theory.specs.logic.BoolsLaws.{decide, So-not, not-in, not-out, or-left, or-right, or-out}
+use Rattle.theory.specs.logic.Range.{anyBelow}
+use Rattle.theory.specs.logic.RangeLaws.{any-out, any-fails}
+use Rattle.theory.specs.games.Game.{edgeCount}
 use Rattle.table.specs.Limits.{vertexLimit, edgeLimit}
 use Rattle.table.specs.Table.{vertexCount, tableEdges, ownerAt, sourceAt, tableLength, gameOf}
-use Rattle.table.specs.Verdict.{Row, accepted, refused, judge, Clean}
+use Rattle.table.specs.Answers.{Row, accepted, refused, judge, Clean}
 use Rattle.table.specs.Rules.{Some, FirstRule, NoRule, no-rule, fails, Rendered, none, next}
-use Rattle.table.specs.VerdictLaws.{judge-accepted, judge-clean, judge-past, judge-stays}
+use Rattle.table.specs.AnswersLaws.{judge-accepted, judge-clean, judge-past, judge-stays}
 use Rattle.table.specs.RulesLaws.{renders-placed, renders-first, refused-by, clean-none, none-clean}
 use Rattle.table.specs.Reading.{lacksEdge, firstOwner, firstEnd, firstLacking, gameRowsBy, gameRows, readAnswer, readingAnswer}
 use Rattle.table.specs.ReadingRules.{Lacks, gameRulesBy, gameRules}

@@ -5,7 +5,7 @@ use mathlib.Core.Bool.{So}
 use mathlib.Core.List.{List, [], _∷_}
 use Prim.Native.Nat.{ℕ, _≤_, _<_}
 use lib.ListN.{length}
-use Rattle.table.specs.Verdict.{Row}
+use Rattle.table.specs.Answers.{Row}
 
 -- a row as document 01 has it: number, condition, and which place it names
 pub record Rule : Type 1 where

@@ -8,11 +8,11 @@ use native.Mathlib.Omega.{arith}
 use lib.Dec.{ltb}
 use lib.ListN.{length}
 use borrow.Author.Tests.{ltb-true, lt-ltb}
-use Rattle.theory.specs.BoolsLaws.{clash, So-not}
-use Rattle.theory.specs.Range.{first}
-use Rattle.theory.specs.RangeLaws.{first-ge, first-before, first-passes, first-least, first-is}
-use Rattle.table.specs.Verdict.{Row, memoryRow, Answer, refused, judge, Clean}
-use Rattle.table.specs.VerdictLaws.{refused-inj, not-both, judge-hit, judge-next}
+use Rattle.theory.specs.logic.BoolsLaws.{clash, So-not}
+use Rattle.theory.specs.logic.Range.{first}
+use Rattle.theory.specs.logic.RangeLaws.{first-ge, first-before, first-passes, first-least, first-is}
+use Rattle.table.specs.Answers.{Row, memoryRow, Answer, refused, judge, Clean}
+use Rattle.table.specs.AnswersLaws.{refused-inj, not-both, judge-hit, judge-next}
 use Rattle.table.specs.Rules.{Rule, Some, First, placed, memoryRule, firstSuch, FirstRule, here, later, NoRule, no-rule, fails, Renders, Rendered, none, next}
 
 -- ---- a computed row renders a rule

@@ -5,14 +5,14 @@ use mathlib.Core.List.{List, [], _∷_}
 use Prim.Native.Nat.{ℕ, _≤_, _<_}
 use native.Mathlib.Omega.{arith}
 use lib.ListN.{length}
-use Rattle.theory.specs.BoolsLaws.{So-ext}
-use Rattle.theory.specs.Game.{edgeCount}
-use Rattle.theory.specs.Agreement.{Agree}
-use Rattle.theory.specs.AgreementLaws.{agree-edgeCount}
+use Rattle.theory.specs.logic.BoolsLaws.{So-ext}
+use Rattle.theory.specs.games.Game.{edgeCount}
+use Rattle.theory.specs.games.Agreement.{Agree}
+use Rattle.theory.specs.games.AgreementLaws.{agree-edgeCount}
 use Rattle.table.specs.Limits.{edgeLimit}
 use Rattle.table.specs.Table.{vertexCount, tableEdges, sourceAt, targetAt, tableLength, playerOf, Listed, gameOf}
 use Rattle.table.specs.TableLaws.{edge-in, edge-out}
-use Rattle.table.specs.Verdict.{accepted}
+use Rattle.table.specs.Answers.{accepted}
 use Rattle.table.specs.Reading.{readAnswer}
 use Rattle.table.specs.WellFormed.{WellFormed}
 use Rattle.table.specs.ReadingLaws.{read-accepts}

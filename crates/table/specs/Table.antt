@@ -5,9 +5,9 @@ use mathlib.Core.List.{List}
 use Prim.Native.Nat.{ℕ, _+_, _*_, _<_}
 use lib.Dec.{eqb}
 use lib.ListN.{getD, take}
-use Rattle.theory.specs.Bools.{_&_}
-use Rattle.theory.specs.Range.{anyBelow}
-use Rattle.theory.specs.Game.{Player, even, odd, Game}
+use Rattle.theory.specs.logic.Bools.{_&_}
+use Rattle.theory.specs.logic.Range.{anyBelow}
+use Rattle.theory.specs.games.Game.{Player, even, odd, Game}
 
 -- sizes first: n vertices, m edges
 abbrev pub vertexCount : List ℕ → ℕ

@@ -10,10 +10,10 @@ use lib.Dec.{eqb}
 use lib.ListN.{getD}
 use lib.Seq.{getD-take}
 use borrow.Author.Tests.{eqb-true, eq-eqb}
-use Rattle.theory.specs.BoolsLaws.{and-in, and-out}
-use Rattle.theory.specs.RangeLaws.{any-in, any-out}
-use Rattle.theory.specs.CountLaws.{count-inject, count-all, pair-ext}
-use Rattle.theory.specs.Game.{even, odd, same, own, Succ, Total, edgeCount}
+use Rattle.theory.specs.logic.BoolsLaws.{and-in, and-out}
+use Rattle.theory.specs.logic.RangeLaws.{any-in, any-out}
+use Rattle.theory.specs.logic.CountLaws.{count-inject, count-all, pair-ext}
+use Rattle.theory.specs.games.Game.{even, odd, same, own, Succ, Total, edgeCount}
 use Rattle.table.specs.Table.{vertexCount, tableEdges, ownerAt, sourceAt, targetAt, tableLength, tableIn, playerOf, isEdge, Listed, gameOf}
 use Rattle.table.specs.WellFormed.{WellFormed}
 

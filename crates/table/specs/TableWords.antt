@@ -6,9 +6,9 @@ use mathlib.Core.Bool.{So}
 use mathlib.Core.List.{List, _∷_, _++_, map}
 use Prim.Native.Nat.{ℕ, _<_}
 use lib.ListN.{length, getD}
-use Rattle.theory.specs.Range.{tabulate, pairsOf}
-use Rattle.theory.specs.Game.{Player, even, odd, Game, Succ}
-use Rattle.theory.specs.Plan.{linked}
+use Rattle.theory.specs.logic.Range.{tabulate, pairsOf}
+use Rattle.theory.specs.games.Game.{Player, even, odd, Game, Succ}
+use Rattle.theory.specs.plans.Plan.{linked}
 
 -- 0 Even, 1 Odd
 unfoldable pub ownerWord : Player → ℕ

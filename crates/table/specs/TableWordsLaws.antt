@@ -10,15 +10,15 @@ use native.Mathlib.Omega.{arith}
 use lib.Dec.{eqb}
 use lib.ListN.{length, getD, length-map, List·getD-map}
 use borrow.Author.Tests.{eqb-true, eq-eqb}
-use Rattle.theory.specs.BoolsLaws.{So-ext, and-in, and-out}
-use Rattle.theory.specs.Range.{count, tabulate, pairsOf, Before}
-use Rattle.theory.specs.RangeLaws.{any-in, any-out}
-use Rattle.theory.specs.CountLaws.{count-inject}
-use Rattle.theory.specs.ListLaws.{length-tabulate, getD-tabulate, tabulate-ext}
-use Rattle.theory.specs.Game.{Player, even, odd, Game, Succ, Total, edgeCount}
-use Rattle.theory.specs.LinkLaws.{pair-is, linked-at, linked-find, pairsOf-in, pairsOf-out, pairsOf-single, pairsOf-ascend, length-pairsBelow}
-use Rattle.theory.specs.Totals.{outDegree}
-use Rattle.theory.specs.Agreement.{Agree}
+use Rattle.theory.specs.logic.BoolsLaws.{So-ext, and-in, and-out}
+use Rattle.theory.specs.logic.Range.{count, tabulate, pairsOf, Before}
+use Rattle.theory.specs.logic.RangeLaws.{any-in, any-out}
+use Rattle.theory.specs.logic.CountLaws.{count-inject}
+use Rattle.theory.specs.logic.ListLaws.{length-tabulate, getD-tabulate, tabulate-ext}
+use Rattle.theory.specs.games.Game.{Player, even, odd, Game, Succ, Total, edgeCount}
+use Rattle.theory.specs.plans.LinkLaws.{pair-is, linked-at, linked-find, pairsOf-in, pairsOf-out, pairsOf-single, pairsOf-ascend, length-pairsBelow}
+use Rattle.theory.specs.classes.Totals.{outDegree}
+use Rattle.theory.specs.games.Agreement.{Agree}
 use Rattle.table.specs.Limits.{vertexLimit, edgeLimit}
 use Rattle.table.specs.Table.{vertexCount, tableEdges, priorityAt, ownerAt, sourceAt, targetAt, tableLength, playerOf, isEdge, gameOf}
 use Rattle.table.specs.WellFormed.{WellFormed}

@@ -3,7 +3,7 @@ pub mod acceptor;
 pub mod flags;
 pub mod limits;
 pub mod searches;
-pub mod words;
+pub mod slices;
 
 ghost use mathlib.Core.Path.{_≡_};
 ghost use Rattle.table.specs.Reading.{refusalOf};

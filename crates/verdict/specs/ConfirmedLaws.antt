@@ -8,14 +8,14 @@ use Prim.Native.Nat.{ℕ}
 use lib.Dec.{eqb}
 use lib.ListN.{getD}
 use borrow.Author.Tests.{eqb-true, eqb-false, eq-eqb, ne-eqb}
-use Rattle.theory.specs.Bools.{bit}
-use Rattle.theory.specs.BoolsLaws.{bit-in, bit-out, bit-clear}
-use Rattle.theory.specs.Plan.{Won}
-use Rattle.theory.specs.Reduction.{reduced, classOf}
+use Rattle.theory.specs.logic.Bools.{bit}
+use Rattle.theory.specs.logic.BoolsLaws.{bit-in, bit-out, bit-clear}
+use Rattle.theory.specs.plans.Plan.{Won}
+use Rattle.theory.specs.classes.Reduction.{reduced, classOf}
 use Rattle.table.specs.Table.{playerOf, gameOf}
-use Rattle.table.specs.Verdict.{Answer, accepted}
+use Rattle.table.specs.Answers.{Answer, accepted}
 use Rattle.reduction.specs.TableCall.{tableCounts, classTable}
-use Rattle.links.specs.PlanTable.{vertexAt, planOf}
+use Rattle.plan_links.specs.PlanTable.{vertexAt, planOf}
 use Rattle.claims.specs.Demands.{reduced-faithful, class-word, table-leaves-classes, passed, table-is, table-winner}
 use Rattle.verdict.specs.VerdictCall.{shownFor, VerdictCall}
 use Rattle.verdict.specs.VerdictRules.{VerdictFits}

@@ -4,16 +4,16 @@ use mathlib.Core.List.{List, [], _∷_, _++_}
 use Prim.Native.Nat.{ℕ}
 use lib.Dec.{eqb, leb}
 use lib.ListN.{length}
-use Rattle.theory.specs.Bools.{bit}
-use Rattle.theory.specs.Reduction.{reduced, classOf}
+use Rattle.theory.specs.logic.Bools.{bit}
+use Rattle.theory.specs.classes.Reduction.{reduced, classOf}
 use Rattle.table.specs.Table.{vertexCount, tableEdges, tableLength, gameOf}
-use Rattle.table.specs.Verdict.{Row, row, memoryRow, Answer, accepted, refused, judge, after}
+use Rattle.table.specs.Answers.{Row, row, memoryRow, Answer, accepted, refused, judge, after}
 use Rattle.table.specs.Reading.{gameRows}
 use Rattle.order.specs.OrderCall.{orderBytes}
 use Rattle.classes.specs.ClassesCall.{memoryRows, classWords}
 use Rattle.reduction.specs.TableCall.{tableCounts, classTable}
 use Rattle.reduction.specs.declared.TableCounts.{TableCounts}
-use Rattle.links.specs.PlanTable.{vertexAt}
+use Rattle.plan_links.specs.PlanTable.{vertexAt}
 use Rattle.plan.specs.Acceptance.{planRows}
 use Rattle.verdict.specs.declared.Verdict.{Verdict}
 

@@ -7,12 +7,12 @@ use native.Mathlib.Omega.{arith}
 use lib.Dec.{eqb, leb}
 use lib.ListN.{length, getD}
 use borrow.Author.Tests.{le-leb, lt-leb, eq-eqb, ne-eqb}
-use Rattle.theory.specs.Bools.{bit}
-use Rattle.theory.specs.Reduction.{reduced}
+use Rattle.theory.specs.logic.Bools.{bit}
+use Rattle.theory.specs.classes.Reduction.{reduced}
 use Rattle.table.specs.Limits.{vertexLimit, edgeLimit}
 use Rattle.table.specs.Table.{vertexCount, tableEdges, tableLength}
-use Rattle.table.specs.Verdict.{Row, row, memoryRow, Answer, accepted, refused, judge, Clean, after}
-use Rattle.table.specs.VerdictLaws.{judge-clean, judge-hit, judge-past, judge-stays, judge-accepted, after-past, after-refused}
+use Rattle.table.specs.Answers.{Row, row, memoryRow, Answer, accepted, refused, judge, Clean, after}
+use Rattle.table.specs.AnswersLaws.{judge-clean, judge-hit, judge-past, judge-stays, judge-accepted, after-past, after-refused}
 use Rattle.table.specs.Reading.{gameRows, readAnswer, readingAnswer, refusalOf}
 use Rattle.table.specs.ReadingLaws.{read-accepted, reading-accepted}
 use Rattle.table.specs.WellFormed.{WellSized}
@@ -24,11 +24,11 @@ use Rattle.order.specs.OrderCall.{orderBytes}
 use Rattle.classes.specs.ClassesCall.{memoryRows, classRows, classWords}
 use Rattle.reduction.specs.TableCall.{tableRows, tableCounts, classTable, TableCall}
 use Rattle.reduction.specs.declared.TableCounts.{TableCounts}
-use Rattle.links.specs.PlanTable.{vertexAt}
+use Rattle.plan_links.specs.PlanTable.{vertexAt}
 use Rattle.plan.specs.Acceptance.{planRows, planAnswer}
 use Rattle.plan.specs.WinningLaws.{plan-accepted}
 use Rattle.plan.specs.NumbersLaws.{recount, judge-number, plan-numbers}
-use Rattle.claims.specs.Written.{writtenTable}
+use Rattle.claims.specs.WrittenMemory.{writtenTable}
 use Rattle.claims.specs.Demands.{reduced-faithful, class-word, class-long, table-leaves-classes, passed, table-is, table-long, table-read}
 use Rattle.verdict.specs.VerdictCall.{beforePlanRows, verdictRows, shownFor, verdictCounts, VerdictCall, startAnswer}
 

@@ -1,7 +1,7 @@
 -- The verdict call's table of refusals in terms of logic, and what a call that gives an answer was given.
 use mathlib.Core.List.{List, [], _∷_, _++_}
 use Prim.Native.Nat.{ℕ, _≤_, _<_}
-use Rattle.theory.specs.Reduction.{reduced}
+use Rattle.theory.specs.classes.Reduction.{reduced}
 use Rattle.table.specs.Table.{vertexCount, tableEdges, tableLength}
 use Rattle.table.specs.Rules.{Rule, placed, memoryRule}
 use Rattle.table.specs.ReadingRules.{gameRules}

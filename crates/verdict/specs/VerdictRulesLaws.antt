@@ -6,10 +6,10 @@ use mathlib.Core.List.{List, []}
 use Prim.Native.Nat.{ℕ, _<_}
 use native.Mathlib.Omega.{arith}
 use borrow.Author.Tests.{leb-true, leb-false, le-leb}
-use Rattle.theory.specs.Reduction.{reduced}
+use Rattle.theory.specs.classes.Reduction.{reduced}
 use Rattle.table.specs.Table.{vertexCount}
-use Rattle.table.specs.Verdict.{Row, Answer, accepted, refused, Clean}
-use Rattle.table.specs.VerdictLaws.{judge-clean, judge-accepted, after-refused, clean-append, clean-split}
+use Rattle.table.specs.Answers.{Row, Answer, accepted, refused, Clean}
+use Rattle.table.specs.AnswersLaws.{judge-clean, judge-accepted, after-refused, clean-append, clean-split}
 use Rattle.table.specs.Reading.{gameRows, readAnswer}
 use Rattle.table.specs.ReadingLaws.{rows-render, read-accepted, well-clean, clean-well}
 use Rattle.table.specs.WellFormed.{WellFormed}

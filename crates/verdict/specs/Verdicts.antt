@@ -4,14 +4,14 @@ use mathlib.Core.Logic.{_↔_}
 use mathlib.Core.List.{List, [], _∷_}
 use Prim.Native.Nat.{ℕ}
 use lib.ListN.{getD}
-use Rattle.theory.specs.Game.{edgeCount}
-use Rattle.theory.specs.Plan.{Won}
-use Rattle.theory.specs.Reduction.{reduced}
+use Rattle.theory.specs.games.Game.{edgeCount}
+use Rattle.theory.specs.plans.Plan.{Won}
+use Rattle.theory.specs.classes.Reduction.{reduced}
 use Rattle.table.specs.Table.{playerOf, gameOf}
-use Rattle.table.specs.Verdict.{Answer, accepted}
-use Rattle.links.specs.PlanTable.{vertexAt}
+use Rattle.table.specs.Answers.{Answer, accepted}
+use Rattle.plan_links.specs.PlanTable.{vertexAt}
 use Rattle.plan.specs.Acceptance.{planAnswer}
-use Rattle.claims.specs.Written.{writtenTable}
+use Rattle.claims.specs.WrittenMemory.{writtenTable}
 use Rattle.claims.specs.Sentences.{OnceWritten, OrderSentences, ClassSentence, TableSentences}
 use Rattle.verdict.specs.VerdictCall.{VerdictCall}
 use Rattle.verdict.specs.VerdictRules.{OfPlan}

@@ -3,11 +3,11 @@ use mathlib.Core.Path.{_≡_, refl, sym, ap, _∙_}
 use mathlib.Core.List.{List, [], _∷_, _++_}
 use Prim.Native.Nat.{ℕ}
 use lib.ListN.{getD}
-use Rattle.theory.specs.Game.{edgeCount}
-use Rattle.theory.specs.Reduction.{reduced, classOf}
+use Rattle.theory.specs.games.Game.{edgeCount}
+use Rattle.theory.specs.classes.Reduction.{reduced, classOf}
 use Rattle.table.specs.Table.{gameOf}
-use Rattle.table.specs.Verdict.{Answer, accepted, Clean}
-use Rattle.table.specs.VerdictLaws.{accepted-inj, judge-accepted, clean-split}
+use Rattle.table.specs.Answers.{Answer, accepted, Clean}
+use Rattle.table.specs.AnswersLaws.{accepted-inj, judge-accepted, clean-split}
 use Rattle.reduction.specs.TableCall.{tableCounts, classTable, TableCall}
 use Rattle.plan.specs.WinningLaws.{plan-accepts}
 use Rattle.claims.specs.Demands.{reduced-faithful, class-word, table-leaves-classes, passed, table-is}

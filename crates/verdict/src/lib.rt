@@ -9,6 +9,7 @@ use table::Reading;
 use table::Refusal;
 use table::refusal_of;
 ghost use mathlib.Core.Path.{_≡_};
+ghost use Rattle.table.specs.Lent.{old, new};
 ghost use Rattle.verdict.specs.VerdictCall.{verdictAnswer, startAnswer, VerdictCall};
 
 // What is confirmed of a player and a vertex. Wins and NotShown carry the number of classes and the reduced game's vertices and edges.
@@ -30,9 +31,12 @@ pub fn give_verdict(
     classes: &mut [u16],
     reduction: &mut [u16],
 ) -> Verdict
-    ensures { λ r. ⌜ VerdictCall (now (game .entry)) vertex player (now (plan .entry)) (now (marks .entry)) (now (spare .entry)) (now (classes .entry)) (now (reduction .entry)) (verdictAnswer r) (now (marks .exit)) (now (spare .exit)) (now (classes .exit)) (now (reduction .exit)) ⌝ }
+    ensures { λ r. ⌜
+        VerdictCall (old game) vertex player (old plan) (old marks) (old spare) (old classes) (old reduction) (verdictAnswer r)
+        (new marks) (new spare) (new classes) (new reduction)
+        ⌝ }
 {
-    let reading = reader::read(game);
+    let reading = table_reader::read(game);
     let Reading::Accepted(sizes) = reading else {
         return Verdict::Refused(refusal_of(reading));
     };
@@ -61,7 +65,7 @@ fn judge_reduced(
     class: u16,
     counts: TableCounts,
 ) -> Verdict
-    ensures { λ r. ⌜ verdictAnswer r ≡ startAnswer (now (reduced .entry)) player (now (plan .entry)) class counts ⌝ }
+    ensures { λ r. ⌜ verdictAnswer r ≡ startAnswer (old reduced) player (old plan) class counts ⌝ }
 {
     let judged = accept_plan(reduced, player, plan);
     if let Acceptance::Refused(refusal) = judged {

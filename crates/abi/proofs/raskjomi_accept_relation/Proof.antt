@@ -1,6 +1,6 @@
 -- The fields are those of the call's answer.
 use mathlib.Core.Path.{ap, _∙_}
-use Rattle.answer.specs.Fields.{acceptFields}
+use Rattle.abi_answer.specs.Fields.{acceptFields}
 use borrow.Author.Needs.{needs}
 use Rattle.abi.proofs.raskjomi_accept_relation.Statement.{statement}
 use Rattle.abi.proofs.raskjomi_accept_relation.Tie as tie

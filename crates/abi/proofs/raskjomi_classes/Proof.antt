@@ -1,5 +1,5 @@
 -- An accepted game has few classes, so the count fits its field.
-use Rattle.answer.specs.FieldsLaws.{classification-small}
+use Rattle.abi_answer.specs.FieldsLaws.{classification-small}
 use borrow.Author.Needs.{needs}
 use Rattle.abi.proofs.raskjomi_classes.Statement.{statement}
 use Rattle.abi.proofs.raskjomi_classes.Tie as tie

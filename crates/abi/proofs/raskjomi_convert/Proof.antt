@@ -1,5 +1,5 @@
 -- A converted table is within the limits, so its counts fit their fields.
-use Rattle.answer.specs.FieldsLaws.{converting-small}
+use Rattle.abi_answer.specs.FieldsLaws.{converting-small}
 use borrow.Author.Needs.{needs}
 use Rattle.abi.proofs.raskjomi_convert.Statement.{statement}
 use Rattle.abi.proofs.raskjomi_convert.Tie as tie

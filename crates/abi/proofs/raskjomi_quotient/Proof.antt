@@ -1,7 +1,7 @@
 -- The quotient has no more vertices and edges than the game, so the counts fit their fields.
-use Rattle.theory.specs.Reduction.{quotient}
-use Rattle.theory.specs.SizeLaws.{quotient-size, quotient-edges}
-use Rattle.answer.specs.FieldsLaws.{tabulation-small}
+use Rattle.theory.specs.classes.Reduction.{quotient}
+use Rattle.theory.specs.classes.SizeLaws.{quotient-size, quotient-edges}
+use Rattle.abi_answer.specs.FieldsLaws.{tabulation-small}
 use borrow.Author.Needs.{needs}
 use Rattle.abi.proofs.raskjomi_quotient.Statement.{statement}
 use Rattle.abi.proofs.raskjomi_quotient.Tie as tie
@@ -9,9 +9,12 @@ use Rattle.abi.proofs.raskjomi_quotient.Tie as tie
 write-quotient-requires : tie.Need-write-quotient-requires
 write-quotient-requires c κs = search needs
 
+abbrev at-write-quotient : tie.After-slice-known8 → tie.After-write-quotient
+at-write-quotient c = search
+
 of-tabulation-requires : tie.Need-of-tabulation-requires
 of-tabulation-requires c κs =
-    tabulation-small quotient quotient-size quotient-edges _ _ _ _ _ (c .before .before .before .before .before .before .before .before .write-quotient .result) _ _ _ _ (c .before .before .before .before .before .before .before .before .write-quotient .ensures)
+    tabulation-small quotient quotient-size quotient-edges _ _ _ _ _ (at-write-quotient c .write-quotient .result) _ _ _ _ (at-write-quotient c .write-quotient .ensures)
 
 same-length : tie.Need-same-length
 same-length c = search needs

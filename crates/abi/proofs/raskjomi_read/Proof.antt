@@ -1,7 +1,7 @@
 -- An accepted table has small sizes, so they fit their fields.
 use mathlib.Core.Path.{ap, _∙_}
-use Rattle.answer.specs.Fields.{readFields}
-use Rattle.answer.specs.FieldsLaws.{reading-small}
+use Rattle.abi_answer.specs.Fields.{readFields}
+use Rattle.abi_answer.specs.FieldsLaws.{reading-small}
 use borrow.Author.Needs.{needs}
 use Rattle.abi.proofs.raskjomi_read.Statement.{statement}
 use Rattle.abi.proofs.raskjomi_read.Tie as tie

@@ -1,5 +1,5 @@
 -- A seeded table is within the limits, so its counts fit their fields.
-use Rattle.answer.specs.FieldsLaws.{seeding-small}
+use Rattle.abi_answer.specs.FieldsLaws.{seeding-small}
 use borrow.Author.Needs.{needs}
 use Rattle.abi.proofs.raskjomi_seed.Statement.{statement}
 use Rattle.abi.proofs.raskjomi_seed.Tie as tie

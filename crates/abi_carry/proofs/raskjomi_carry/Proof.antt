@@ -1,5 +1,5 @@
 -- A plan that is carried is within the limits, so its counts fit their fields.
-use Rattle.answer.specs.FieldsLaws.{carrying-small}
+use Rattle.abi_answer.specs.FieldsLaws.{carrying-small}
 use borrow.Author.Needs.{needs}
 use Rattle.abi_carry.proofs.raskjomi_carry.Statement.{statement}
 use Rattle.abi_carry.proofs.raskjomi_carry.Tie as tie

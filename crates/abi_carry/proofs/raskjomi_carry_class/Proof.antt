@@ -1,5 +1,5 @@
 -- The reduced game is no larger than the game, and a plan that is carried is within the limits, so the counts fit their fields.
-use Rattle.answer.specs.FieldsLaws.{class-carrying-small}
+use Rattle.abi_answer.specs.FieldsLaws.{class-carrying-small}
 use borrow.Author.Needs.{needs}
 use Rattle.abi_carry.proofs.raskjomi_carry_class.Statement.{statement}
 use Rattle.abi_carry.proofs.raskjomi_carry_class.Tie as tie
@@ -7,9 +7,12 @@ use Rattle.abi_carry.proofs.raskjomi_carry_class.Tie as tie
 carry-class-plan-requires : tie.Need-carry-class-plan-requires
 carry-class-plan-requires c κs = search needs
 
+abbrev at-carry-class-plan : tie.After-slice-known10 → tie.After-carry-class-plan
+at-carry-class-plan c = search
+
 of-class-carrying-requires : tie.Need-of-class-carrying-requires
 of-class-carrying-requires c κs =
-    class-carrying-small _ _ _ _ _ _ _ _ _ (c .before .before .before .before .before .before .before .before .before .before .carry-class-plan .result) _ _ _ _ _ (c .before .before .before .before .before .before .before .before .before .before .carry-class-plan .ensures)
+    class-carrying-small _ _ _ _ _ _ _ _ _ (at-carry-class-plan c .carry-class-plan .result) _ _ _ _ _ (at-carry-class-plan c .carry-class-plan .ensures)
 
 same-length : tie.Need-same-length
 same-length c = search needs

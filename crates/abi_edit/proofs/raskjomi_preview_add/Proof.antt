@@ -1,5 +1,5 @@
 -- The new table is within the limits, so its counts fit their fields.
-use Rattle.answer.specs.FieldsLaws.{previewing-small}
+use Rattle.abi_answer.specs.FieldsLaws.{previewing-small}
 use borrow.Author.Needs.{needs}
 use Rattle.abi_edit.proofs.raskjomi_preview_add.Statement.{statement}
 use Rattle.abi_edit.proofs.raskjomi_preview_add.Tie as tie
@@ -7,9 +7,12 @@ use Rattle.abi_edit.proofs.raskjomi_preview_add.Tie as tie
 preview-add-requires : tie.Need-preview-add-requires
 preview-add-requires c κs = search needs
 
+abbrev at-preview-add : tie.After-slice-known8 → tie.After-preview-add
+at-preview-add c = search
+
 of-tabulation-requires : tie.Need-of-tabulation-requires
 of-tabulation-requires c κs =
-    let r = c .before .before .before .before .before .before .before .before .preview-add in
+    let r = at-preview-add c .preview-add in
     previewing-small _ _ _ _ _ _ _ _ (r .result) _ _ _ _ (r .ensures)
 
 same-length : tie.Need-same-length

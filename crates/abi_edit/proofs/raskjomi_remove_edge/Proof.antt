@@ -1,5 +1,5 @@
 -- The new table is within the limits, so its counts fit their fields.
-use Rattle.answer.specs.FieldsLaws.{editing-small}
+use Rattle.abi_answer.specs.FieldsLaws.{editing-small}
 use borrow.Author.Needs.{needs}
 use Rattle.abi_edit.proofs.raskjomi_remove_edge.Statement.{statement}
 use Rattle.abi_edit.proofs.raskjomi_remove_edge.Tie as tie
@@ -7,9 +7,12 @@ use Rattle.abi_edit.proofs.raskjomi_remove_edge.Tie as tie
 remove-edge-requires : tie.Need-remove-edge-requires
 remove-edge-requires c κs = search needs
 
+abbrev at-remove-edge : tie.After-slice-known8 → tie.After-remove-edge
+at-remove-edge c = search
+
 of-tabulation-requires : tie.Need-of-tabulation-requires
 of-tabulation-requires c κs =
-    let r = c .before .before .before .before .before .before .before .before .remove-edge in
+    let r = at-remove-edge c .remove-edge in
     editing-small _ _ _ _ _ _ _ (r .result) _ _ _ _ (r .ensures)
 
 same-length : tie.Need-same-length

@@ -1,5 +1,5 @@
 -- The final table is within the limits, and so is the trace, so the counts fit their fields.
-use Rattle.answer.specs.FieldsLaws.{replaying-small}
+use Rattle.abi_answer.specs.FieldsLaws.{replaying-small}
 use borrow.Author.Needs.{needs}
 use Rattle.abi_edit.proofs.raskjomi_replay.Statement.{statement}
 use Rattle.abi_edit.proofs.raskjomi_replay.Tie as tie
@@ -7,9 +7,12 @@ use Rattle.abi_edit.proofs.raskjomi_replay.Tie as tie
 replay-requires : tie.Need-replay-requires
 replay-requires c κs = search needs
 
+abbrev at-replay : tie.After-slice-known8 → tie.After-replay
+at-replay c = search
+
 of-replaying-requires : tie.Need-of-replaying-requires
 of-replaying-requires c κs =
-    let r = c .before .before .before .before .before .before .before .before .replay in
+    let r = at-replay c .replay in
     replaying-small _ _ _ _ _ (r .result .verdict) (r .result .entries) _ _ _ _ (r .ensures)
 
 same-length : tie.Need-same-length

@@ -1,5 +1,5 @@
 -- An accepted game has few classes, so the count fits its field.
-use Rattle.answer.specs.FieldsLaws.{governed-small}
+use Rattle.abi_answer.specs.FieldsLaws.{governed-small}
 use borrow.Author.Needs.{needs}
 use Rattle.abi_governed.proofs.raskjomi_governed_classes.Statement.{statement}
 use Rattle.abi_governed.proofs.raskjomi_governed_classes.Tie as tie

@@ -7,9 +7,12 @@ use Rattle.abi_verdict.proofs.raskjomi_verdict.Tie as tie
 give-verdict-requires : tie.Need-give-verdict-requires
 give-verdict-requires c κs = search needs
 
+abbrev at-give-verdict : tie.After-slice-known8 → tie.After-give-verdict
+at-give-verdict c = search
+
 of-verdict-requires : tie.Need-of-verdict-requires
 of-verdict-requires c κs =
-    let r = c .before .before .before .before .before .before .before .before .give-verdict in
+    let r = at-give-verdict c .give-verdict in
     verdict-small _ _ _ _ _ _ _ _ _ _ _ _ (r .result) (r .ensures)
 
 same-length : tie.Need-same-length

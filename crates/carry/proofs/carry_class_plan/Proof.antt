@@ -1,7 +1,7 @@
 -- A refusal of the reader or of the memory stands; otherwise what the reduced game's call leaves, and what arrives.
 use mathlib.Core.Path.{ap, refl}
-use Rattle.theory.specs.Reduction.{reduced}
-use Rattle.class_edges.specs.Rows.{gameBy}
+use Rattle.theory.specs.classes.Reduction.{reduced}
+use Rattle.reduction_edges.specs.Rows.{gameBy}
 use Rattle.reduction.specs.TableCall.{tabulationAnswer, TableCall}
 use Rattle.reduction.specs.TableCallLaws.{sized, table-handed}
 use Rattle.carry.specs.CarryCallLaws.{class-refused, class-held, class-arrived}
@@ -10,13 +10,13 @@ use Rattle.carry.proofs.carry_class_plan.Statement.{statement}
 use Rattle.carry.proofs.carry_class_plan.Tie as tie
 
 abbrev start : tie.After-read → tie.Start
-start c = c .before .before .before .before .before .before .before .before
+start c = search
 
 abbrev reader : tie.After-tabulate-classes → tie.After-reading
 reader c = c .before .before .before .before .before .before
 
 abbrev wrote : tie.After-slice-known9 → tie.After-tabulate-classes
-wrote c = c .before .before .before .before .before .before .before .before
+wrote c = search
 
 -- what is left is what the reduced game's call leaves
 table : (c : tie.After-tabulate-classes)

@@ -2,18 +2,18 @@
 use mathlib.Core.Path.{_≡_, sym, ap, _∙_}
 use mathlib.Core.List.{[]}
 use native.Mathlib.Omega.{arith}
-use Rattle.theory.specs.Order.{orderMarks, orderPasses}
+use Rattle.theory.specs.order.Order.{orderMarks, orderPasses}
 use Rattle.table.specs.Table.{vertexCount}
-use Rattle.table.specs.Verdict.{accepted, judge}
+use Rattle.table.specs.Answers.{accepted, judge}
 use Rattle.table.specs.WellFormed.{WellSized}
 use Rattle.table.specs.Acceptance.{acceptanceAnswer}
 use Rattle.table.specs.Reading.{readAnswer, readingAnswer}
 use Rattle.table.specs.ReadingLaws.{reading-accepted}
 use Rattle.table.specs.declared.Reading.the-variants.{Accepted}
-use Rattle.pairs.specs.Marks.{marksLength}
+use Rattle.marks.specs.Marks.{marksLength}
 use Rattle.order.specs.OrderRules.{OrderFits}
 use Rattle.order.specs.OrderCallLaws.{order-handed, order-short-marks, order-short-spare}
-use Rattle.classes.specs.HoldingLaws.{ordered-done}
+use Rattle.classes.specs.OrderedMarksLaws.{ordered-done}
 use Rattle.plan.specs.Acceptance.{planRows}
 use Rattle.carry.specs.CarryCallLaws.{carry-order, carry-judged, own-can, carry-arrived}
 use borrow.Author.Needs.{needs}
@@ -42,7 +42,7 @@ fits c =
 
 -- the plan passed
 passed : (c : tie.After-enum-told2)
-    → let a = start (c .before .before .before .before .before .before .before .before .before) .args in
+    → let r : tie.After-read = search in let a = start r .args in
     accepted [] ≡ judge (planRows (a .game .now) (a .player) (a .plan .now)) []
 passed c = ap acceptanceAnswer (sym (c .enum-told2 .given .1)) ∙ c .before .before .judge-plan .ensures
 

@@ -2,8 +2,8 @@
 use mathlib.Core.Path.{_≡_, sym, ap, _∙_, subst}
 use mathlib.Core.List.{[]}
 use lib.Seq.{length-take-le}
-use Rattle.theory.specs.Reduction.{reduced}
-use Rattle.table.specs.Verdict.{accepted, judge}
+use Rattle.theory.specs.classes.Reduction.{reduced}
+use Rattle.table.specs.Answers.{accepted, judge}
 use Rattle.table.specs.WellFormed.{WellFormed}
 use Rattle.table.specs.Acceptance.{acceptanceAnswer}
 use Rattle.reduction.specs.TableCall.{classTable}
@@ -14,7 +14,7 @@ use Rattle.carry.proofs.carry_reduced.Statement.{statement}
 use Rattle.carry.proofs.carry_reduced.Tie as tie
 
 abbrev start : tie.After-judge-plan → tie.Start
-start c = c .before .before .before .before .before .before .before .before .before
+start c = search
 
 -- what the plan's judge said of the reduced game
 judged : (c : tie.After-judge-plan)
@@ -38,12 +38,15 @@ mul-size-2 c = search needs
 add-size-2 : tie.Need-add-size-2
 add-size-2 c = search needs
 
+abbrev at-start : tie.After-judge-plan-arg → tie.Start
+at-start c = search
+
 slice-aggregate-judge-plan : tie.Need-slice-aggregate-judge-plan
-slice-aggregate-judge-plan c = sym (length-take-le _ _ (c .before .before .before .before .before .before .before .before .pre .long))
+slice-aggregate-judge-plan c = sym (length-take-le _ _ (at-start c .pre .long))
 
 judge-plan-requires : tie.Need-judge-plan-requires
 judge-plan-requires c κs =
-    let s = c .before .before .before .before .before .before .before .before in
+    let s : tie.Start = search in
     subst WellFormed (sym (s .pre .table)) (reduced-well _ (s .pre .well))
 
 enum-known-judged : tie.Need-enum-known-judged

@@ -1,6 +1,6 @@
 -- Without `mirror`, the marks, the number of classes and the class words are by definition those of the order.
-use Rattle.theory.specs.Governed.{marksBy, relationBy}
-use Rattle.theory.specs.Reduction.{classOf}
+use Rattle.theory.specs.order.Governed.{marksBy, relationBy}
+use Rattle.theory.specs.classes.Reduction.{classOf}
 use Rattle.table.specs.Table.{gameOf}
 use Rattle.classes.specs.ClassesCall.{classTotal, classWords, totalOf, wordsOf}
 use borrow.Author.Needs.{needs}

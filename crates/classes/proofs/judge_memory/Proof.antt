@@ -3,8 +3,8 @@ use mathlib.Core.Path.{_≡_, sym, _∙_}
 use mathlib.Core.Bool.{false}
 use lib.Dec.{ltb}
 use borrow.Author.Tests.{lt-ltb, le-ltb}
-use Rattle.table.specs.VerdictLaws.{judge-hit, judge-next, judge-clean}
-use Rattle.pairs.specs.Marks.{marksLength}
+use Rattle.table.specs.AnswersLaws.{judge-hit, judge-next, judge-clean}
+use Rattle.marks.specs.Marks.{marksLength}
 use borrow.Author.Needs.{needs}
 use Rattle.classes.proofs.judge_memory.Statement.{statement}
 use Rattle.classes.proofs.judge_memory.Tie as tie

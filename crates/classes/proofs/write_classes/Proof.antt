@@ -1,6 +1,6 @@
 -- The reader's refusal is handed on; the rest is the part that both relations share.
-use Rattle.theory.specs.Governed.{marksBy, relationBy}
-use Rattle.theory.specs.Reduction.{classOf}
+use Rattle.theory.specs.order.Governed.{marksBy, relationBy}
+use Rattle.theory.specs.classes.Reduction.{classOf}
 use Rattle.table.specs.Table.{gameOf}
 use Rattle.classes.specs.ClassesCall.{classTotal, classWords, totalOf, wordsOf, totalAnswer}
 use Rattle.table.specs.WellFormed.{WellSized}

@@ -3,7 +3,7 @@ use mathlib.Core.Path.{_≡_, sym, ap, _∙_}
 use mathlib.Core.List.{[]}
 use native.Mathlib.Omega.{arith}
 use lib.ListN.{length}
-use Rattle.table.specs.Verdict.{judge}
+use Rattle.table.specs.Answers.{judge}
 use Rattle.table.specs.Table.{vertexCount}
 use Rattle.classes.specs.ClassesCall.{memoryRows, memoryAnswer}
 use Rattle.classes.specs.ClassesRules.{ClassesFit}
@@ -50,8 +50,11 @@ same-length-2 c = search needs
 same-length-3 : tie.Need-same-length-3
 same-length-3 c = search needs
 
+abbrev at-enum-told : tie.After-slice-known6 → tie.After-enum-told
+at-enum-told c = search
+
 returns-2 : tie.Need-returns-2
-returns-2 c = classes-done _ _ _ _ (fits (c .before .before .before .before .before .before .before .before .before .before)) _ _ _ _ (c .before .before .before .before .before .before .fill-numbered .ensures)
+returns-2 c = classes-done _ _ _ _ (fits (at-enum-told c)) _ _ _ _ (c .before .before .before .before .before .before .fill-numbered .ensures)
 
 pub write-numbered-spec : {M : Type 1} → statement M
 write-numbered-spec =

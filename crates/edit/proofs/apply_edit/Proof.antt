@@ -8,7 +8,7 @@ use lib.Seq.{length-take-le}
 use Rattle.table.specs.Limits.{vertexLimit, edgeLimit}
 use Rattle.table.specs.Table.{vertexCount, tableLength, tableIn}
 use Rattle.classes.specs.ClassesRules.{ClassesFit}
-use Rattle.edges.specs.Edges.{edited}
+use Rattle.edit_rules.specs.Edges.{edited}
 use Rattle.edit.specs.EditCallLaws.{made-vertices, made-well, made-fits, made-part, made-room}
 use borrow.Author.Needs.{needs}
 use Rattle.edit.proofs.apply_edit.Statement.{statement}

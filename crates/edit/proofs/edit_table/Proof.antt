@@ -6,13 +6,13 @@ use native.Mathlib.Omega.{arith}
 use lib.ListN.{length, take}
 use lib.Seq.{length-take-le}
 use Rattle.table.specs.Table.{tableLength, tableIn}
-use Rattle.table.specs.Verdict.{accepted, judge}
+use Rattle.table.specs.Answers.{accepted, judge}
 use Rattle.table.specs.Acceptance.{acceptanceAnswer}
 use Rattle.classes.specs.ClassesCall.{memoryRows, memoryAnswer}
 use Rattle.classes.specs.declared.Memory.the-variants.{Enough}
-use Rattle.edges.specs.Edges.{editRows}
-use Rattle.edges.specs.Making.{Formed}
-use Rattle.edges.specs.MadeLaws.{formed-room, formed-part}
+use Rattle.edit_rules.specs.Edges.{editRows}
+use Rattle.edit_rules.specs.EditParts.{Formed}
+use Rattle.edit_rules.specs.EditPartsLaws.{formed-room, formed-part}
 use Rattle.edit.specs.EditCallLaws.{passed-clean, call-short, call-judged, call-fits, call-done}
 use borrow.Author.Needs.{needs}
 use Rattle.edit.proofs.edit_table.Statement.{statement}
@@ -123,9 +123,12 @@ same-length-4 c = search needs
 same-length-5 : tie.Need-same-length-5
 same-length-5 c = search needs
 
+abbrev at-apply-edit : tie.After-slice-known8 → tie.After-apply-edit
+at-apply-edit c = search
+
 returns-3 : tie.Need-returns-3
 returns-3 c =
-    let x = c .before .before .before .before .before .before .before .before in
+    let x = at-apply-edit c in
     let u = x .before .before .before .before .before in
     let t = told-at (u .before .before) in
     call-done _ _ _ _ _ _ _ _ _ (entry t .pre) (enough t) (passed-clean _ (passed u)) _ refl refl _ _ _ _ _ (x .apply-edit .ensures)

@@ -2,8 +2,8 @@
 use borrow.Author.Needs.{needs}
 use Rattle.table.specs.WellFormed.{WellSized}
 use Rattle.table.specs.ReadingLaws.{reading-accepted}
-use Rattle.relation.specs.RelationCall.{pairBy}
-use Rattle.relation.specs.RelationCallLaws.{relation-handed}
+use Rattle.order_acceptor.specs.RelationCall.{pairBy}
+use Rattle.order_acceptor.specs.RelationCallLaws.{relation-handed}
 use Rattle.governed.proofs.accept_governed.Statement.{statement}
 use Rattle.governed.proofs.accept_governed.Tie as tie
 

@@ -1,6 +1,6 @@
 -- The reader's refusal is handed on; the rest is the part that both relations share.
 use borrow.Author.Needs.{needs}
-use Rattle.theory.specs.Governed.{marksBy, passesBy}
+use Rattle.theory.specs.order.Governed.{marksBy, passesBy}
 use Rattle.table.specs.WellFormed.{WellSized}
 use Rattle.table.specs.ReadingLaws.{reading-accepted}
 use Rattle.order.specs.OrderCallLaws.{order-handed}

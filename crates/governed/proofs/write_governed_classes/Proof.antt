@@ -1,5 +1,5 @@
 -- The reader's refusal is handed on; the rest is the part that both relations share.
-use Rattle.theory.specs.Governed.{marksBy, relationBy}
+use Rattle.theory.specs.order.Governed.{marksBy, relationBy}
 use Rattle.table.specs.WellFormed.{WellSized}
 use Rattle.table.specs.ReadingLaws.{reading-accepted}
 use Rattle.classes.specs.ClassesCallLaws.{classes-handed}

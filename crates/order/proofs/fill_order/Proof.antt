@@ -1,5 +1,5 @@
 -- Without `mirror`, the marks and the number of passes are by definition those of the order.
-use Rattle.theory.specs.Governed.{marksBy, passesBy}
+use Rattle.theory.specs.order.Governed.{marksBy, passesBy}
 use borrow.Author.Needs.{needs}
 use Rattle.order.proofs.fill_order.Statement.{statement}
 use Rattle.order.proofs.fill_order.Tie as tie

@@ -1,8 +1,8 @@
 -- The arrays hold the rows of any well-formed table.
 use borrow.Author.Needs.{needs}
 use native.Mathlib.Omega.{arith}
-use Rattle.bits.specs.MatrixLaws.{cell-zero}
-use Rattle.board.specs.Board.{edgeWords}
+use Rattle.order_rows.specs.MatrixLaws.{cell-zero}
+use Rattle.order_losses.specs.Losses.{edgeWords}
 use Rattle.order.specs.OrderWrittenLaws.{rows-done}
 use Rattle.order.proofs.fill_relation.Statement.{statement}
 use Rattle.order.proofs.fill_relation.Tie as tie
@@ -28,9 +28,12 @@ slice-aggregate-rounds-4 c = search needs
 slice-aggregate-rounds-5 : tie.Need-slice-aggregate-rounds-5
 slice-aggregate-rounds-5 c = search needs
 
+abbrev at-start : tie.After-next → tie.Start
+at-start c = search
+
 rounds-requires : tie.Need-rounds-requires
 rounds-requires c κs = let f = c .before .before .before .before .before .before .fill in
-    (c .before .before .before .before .before .before .before .before .before .before .before .pre .0, ((f .ensures, omega (arith, f .kept)), (omega arith, omega arith, omega arith, omega arith)))
+    (at-start c .pre .0, ((f .ensures, omega (arith, f .kept)), (omega arith, omega arith, omega arith, omega arith)))
 
 shared-slice-read-n : tie.Need-shared-slice-read-n
 shared-slice-read-n c = search needs
@@ -41,15 +44,21 @@ cast-n c = search needs
 slice-aggregate-write-marks : tie.Need-slice-aggregate-write-marks
 slice-aggregate-write-marks c = search needs
 
+abbrev at-start-from-write-marks-arg : tie.After-write-marks-arg → tie.Start
+at-start-from-write-marks-arg c = c .before .before .before .before .before .before .before .before .before .before .before .before .before .before .before .before .before .before .before
+
 write-marks-requires : tie.Need-write-marks-requires
-write-marks-requires c κs = let s = c .before .before .before .before .before .before .before .before .before .before .before .before .before .before .before .before .before .before .before in
+write-marks-requires c κs = let s = at-start-from-write-marks-arg c in
     (s .pre .0 .vertices, omega (arith, c .before .before .before .before .before .before .before .rounds .kept, s .pre .0 .vertices), s .pre .1 .0)
 
 length-for-requires : tie.Need-length-for-requires
 length-for-requires c κs = search needs
 
+abbrev at-start-from-length-for : tie.After-length-for → tie.Start
+at-start-from-length-for c = c .before .before .before .before .before .before .before .before .before .before .before .before .before .before .before .before .before .before .before .before .before .before .before .before .before
+
 copy-marks-requires : tie.Need-copy-marks-requires
-copy-marks-requires c κs = let s = c .before .before .before .before .before .before .before .before .before .before .before .before .before .before .before .before .before .before .before .before .before .before .before .before .before in
+copy-marks-requires c κs = let s = at-start-from-length-for c in
     let e = c .length-for .ensures in
     let k = c .before .before .before .before .before .write-marks .kept in (omega (arith, e, k, s .pre .1), omega (arith, e, s .pre .1))
 

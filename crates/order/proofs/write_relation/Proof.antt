@@ -3,7 +3,7 @@ use borrow.Author.Needs.{needs}
 use native.Mathlib.Omega.{arith}
 use mathlib.Core.Path.{_≡_, ap, _∙_}
 use Rattle.table.specs.Table.{vertexCount}
-use Rattle.pairs.specs.Marks.{marksLength}
+use Rattle.marks.specs.Marks.{marksLength}
 use Rattle.order.specs.OrderCallLaws.{order-short-marks, order-short-spare, order-done}
 use Rattle.order.proofs.write_relation.Statement.{statement}
 use Rattle.order.proofs.write_relation.Tie as tie
@@ -40,9 +40,9 @@ same-length-2 : tie.Need-same-length-2
 same-length-2 c = search needs
 
 returns-3 : tie.Need-returns-3
-returns-3 c =
-    let l = c .before .before .before .before .before .before .before .before .before in
-    order-done _ _ _ _ _ (start l .pre .0) (rw (needed l) at (c .before .before .before .before .before .before .before .before .if1 .left)) (rw (needed l) at (c .before .before .before .before .before .before .before .if2 .left)) _ _ _ (c .before .before .before .before .fill-relation .ensures)
+returns-3 c = let at-else1 : tie.Else1 = search in
+    let l : tie.After-length-for = search in
+    order-done _ _ _ _ _ (start l .pre .0) (rw (needed l) at (at-else1 .if1 .left)) (rw (needed l) at (c .before .before .before .before .before .before .before .if2 .left)) _ _ _ (c .before .before .before .before .fill-relation .ensures)
 
 pub write-relation-spec : {M : Type 1} → statement M
 write-relation-spec =

@@ -2,7 +2,7 @@
 use borrow.Author.Needs.{needs}
 use mathlib.Core.Path.{sym, _∙_}
 use borrow.Author.Tests.{lt-ltb, le-ltb}
-use Rattle.table.specs.VerdictLaws.{judge-hit, judge-next, judge-clean}
+use Rattle.table.specs.AnswersLaws.{judge-hit, judge-next, judge-clean}
 use Rattle.plan.specs.Acceptance.{planRows}
 use Rattle.plan.proofs.judge_indexed.Statement.{statement}
 use Rattle.plan.proofs.judge_indexed.Tie as tie

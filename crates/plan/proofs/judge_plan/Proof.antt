@@ -7,13 +7,13 @@ use lib.ListN.{getD, drop}
 use borrow.Author.Tests.{lt-ltb, le-ltb}
 use Prim.Native.Nat.{_≤_, _<_}
 use Rattle.table.specs.Table.{vertexCount}
-use Rattle.table.specs.Verdict.{judge}
-use Rattle.table.specs.VerdictLaws.{judge-hit, judge-next}
-use Rattle.links.specs.PlanTable.{positionCount, linkCount, planLength}
-use Rattle.links.specs.Refusals.{firstBeyond}
+use Rattle.table.specs.Answers.{judge}
+use Rattle.table.specs.AnswersLaws.{judge-hit, judge-next}
+use Rattle.plan_links.specs.PlanTable.{positionCount, linkCount, planLength}
+use Rattle.plan_links.specs.Refusals.{firstBeyond}
 use Rattle.plan.specs.Acceptance.{planRows}
-use Rattle.links.specs.PlanFormed.{PlanSized, PlanFormed}
-use Rattle.links.specs.PlanFormedLaws.{size-good, words-good}
+use Rattle.plan_links.specs.PlanFormed.{PlanSized, PlanFormed}
+use Rattle.plan_links.specs.PlanFormedLaws.{size-good, words-good}
 use Rattle.plan.proofs.judge_plan.Statement.{statement}
 use Rattle.plan.proofs.judge_plan.Tie as tie
 
@@ -26,14 +26,17 @@ past-size : (c : tie.Else2) → let e = c .before .before .before .before .befor
 unfolding planRows
 past-size c = judge-next _ _ _ (le-ltb _ _ (c .before .before .if1 .left)) ∙ judge-next _ _ _ (sym (c .before .bad-size .ensures) ∙ c .if2 .left)
 
+abbrev at-start : tie.Else3 → tie.Start
+at-start c = search
+
 -- past 13
-no-beyond : (c : tie.Else3) → let e = c .before .before .before .before .before .before .before .before .args in planLength (positionCount (e .plan .now)) (linkCount (e .plan .now)) ≤ firstBeyond (vertexCount (e .game .now)) (e .plan .now)
+no-beyond : (c : tie.Else3) → let e = at-start c .args in planLength (positionCount (e .plan .now)) (linkCount (e .plan .now)) ≤ firstBeyond (vertexCount (e .game .now)) (e .plan .now)
 no-beyond c = omega (arith, c .if3 .left, c .before .first-beyond .ensures, sized (c .before .before .before) .size)
 
-formed : (c : tie.Else3) → PlanFormed (getD (c .before .before .before .before .before .before .before .before .args .game .now) 0 0) (c .before .before .before .before .before .before .before .before .args .plan .now)
+formed : (c : tie.Else3) → PlanFormed (getD (at-start c .args .game .now) 0 0) (at-start c .args .plan .now)
 formed c = words-good _ _ (sized (c .before .before .before)) (no-beyond c)
 
-past-words : (c : tie.Else3) → let e = c .before .before .before .before .before .before .before .before .args in
+past-words : (c : tie.Else3) → let e = at-start c .args in
     judge (planRows (e .game .now) (e .player) (e .plan .now)) [] ≡ judge (drop 3 (planRows (e .game .now) (e .player) (e .plan .now))) []
 unfolding planRows
 past-words c = past-size (c .before .before .before) ∙ judge-next _ _ _ (le-ltb _ _ (no-beyond c))
@@ -71,8 +74,8 @@ refused-requires-3 c κs = search needs
 
 returns-3 : tie.Need-returns-3
 unfolding planRows
-returns-3 c =
-    let e = c .before .before .before .before .before .before .before .before .before .args in
+returns-3 c = let at-start : tie.Start = search in
+    let e = at-start .args in
     let h = c .before .before .first-beyond .ensures in
     let t : firstBeyond (vertexCount (e .game .now)) (e .plan .now) < planLength (positionCount (e .plan .now)) (linkCount (e .plan .now)) = omega (arith, c .before .if3 .taken, h, sized (c .before .before .before .before) .size) in
     rw (c .refused3 .ensures, h) (sym (past-size (c .before .before .before .before) ∙ judge-hit _ _ _ (lt-ltb _ _ t)))
@@ -83,8 +86,11 @@ shared-slice-read-l c = omega (arith, sized (c .before .before .before .before) 
 cast-l : tie.Need-cast-l
 cast-l c = omega (arith, sized (c .before .before .before .before) .links)
 
+abbrev at-start-from-shared-slice-known4 : tie.After-shared-slice-known4 → tie.Start
+at-start-from-shared-slice-known4 c = search
+
 first-stray-requires : tie.Need-first-stray-requires
-first-stray-requires c κs = (c .before .before .before .before .before .before .before .before .before .pre, formed (c .before))
+first-stray-requires c κs = (at-start-from-shared-slice-known4 c .pre, formed (c .before))
 
 refused-requires-4 : tie.Need-refused-requires-4
 refused-requires-4 c κs = search needs
@@ -95,8 +101,14 @@ returns-4 c =
     let h = c .before .before .first-stray .ensures in
     rw (c .refused4 .ensures, h) (sym (past-words (c .before .before .before .before) ∙ judge-hit _ _ _ (lt-ltb _ _ (rw h at (c .before .if4 .taken)))))
 
+abbrev at-start-from-else4 : tie.Else4 → tie.Start
+at-start-from-else4 c = search
+
+abbrev at-else1 : tie.Else4 → tie.Else1
+at-else1 c = search
+
 judge-positions-requires : tie.Need-judge-positions-requires
-judge-positions-requires c κs = record { game = c .before .before .before .before .before .before .before .before .before .before .before .pre; number = c .before .before .before .before .before .before .before .before .if1 .left; formed = formed (c .before .before .before) }
+judge-positions-requires c κs = record { game = at-start-from-else4 c .pre; number = at-else1 c .if1 .left; formed = formed (c .before .before .before) }
 
 returns-5 : tie.Need-returns-5
 unfolding planRows

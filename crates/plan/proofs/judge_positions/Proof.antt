@@ -2,7 +2,7 @@
 use borrow.Author.Needs.{needs}
 use native.Mathlib.Omega.{arith}
 use Prim.Native.Nat.{_+_}
-use Rattle.theory.specs.ListLaws.{zeros}
+use Rattle.theory.specs.logic.ListLaws.{zeros}
 use Rattle.table.specs.Limits.{positionLimit}
 use Rattle.plan.proofs.judge_positions.Statement.{statement}
 use Rattle.plan.proofs.judge_positions.Tie as tie

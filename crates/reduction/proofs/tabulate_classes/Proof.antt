@@ -3,7 +3,7 @@ use mathlib.Core.Path.{_≡_, sym, ap, _∙_}
 use mathlib.Core.List.{[]}
 use native.Mathlib.Omega.{arith}
 use lib.ListN.{length}
-use Rattle.table.specs.Verdict.{judge}
+use Rattle.table.specs.Answers.{judge}
 use Rattle.table.specs.Table.{vertexCount}
 use Rattle.classes.specs.ClassesCall.{memoryRows, memoryAnswer}
 use Rattle.classes.specs.ClassesCallLaws.{memory-fits}
@@ -81,9 +81,12 @@ same-length-3 c = search needs
 same-length-4 : tie.Need-same-length-4
 same-length-4 c = search needs
 
+abbrev at-fill-memory : tie.After-counts → tie.After-fill-memory
+at-fill-memory c = search
+
 returns-3 : tie.Need-returns-3
 returns-3 c =
-    let x = c .before .before .before .before .before .before .before .before .before in
+    let x = at-fill-memory c in
     table-written _ _ _ _ _ _ (all-fits (x .before .before .before .before .before)) _ _ _ _ _ _ (x .fill-memory .ensures)
 
 pub tabulate-classes-spec : {M : Type 1} → statement M

@@ -1,5 +1,5 @@
 -- The reader's refusal is the call's; an accepted game is well-formed, which is what the rest needs.
-use Rattle.class_edges.specs.Rows.{gameBy}
+use Rattle.reduction_edges.specs.Rows.{gameBy}
 use Rattle.reduction.specs.TableCallLaws.{sized, table-handed}
 use borrow.Author.Needs.{needs}
 use Rattle.reduction.proofs.write_quotient.Statement.{statement}
@@ -39,9 +39,12 @@ same-length-3 c = search needs
 same-length-4 : tie.Need-same-length-4
 same-length-4 c = search needs
 
+abbrev at-tabulate-classes : tie.After-slice-known8 → tie.After-tabulate-classes
+at-tabulate-classes c = search
+
 returns-2 : tie.Need-returns-2
 unfolding gameBy
-returns-2 c = c .before .before .before .before .before .before .before .before .tabulate-classes .ensures
+returns-2 c = at-tabulate-classes c .tabulate-classes .ensures
 
 pub write-quotient-spec : {M : Type 1} → statement M
 write-quotient-spec =

@@ -38,9 +38,12 @@ slice-aggregate-print-report-2 c = search needs
 slice-aggregate-print-report-3 : tie.Need-slice-aggregate-print-report-3
 slice-aggregate-print-report-3 c = search needs
 
+abbrev at-find-from-bytes : tie.After-edges3 → tie.After-find-from-bytes
+at-find-from-bytes c = search
+
 print-report-requires : tie.Need-print-report-requires
 print-report-requires c κs =
-    let d = c .before .before .before .before .before .before .before .before .before .before .find-from-bytes .ensures in
+    let d = at-find-from-bytes c .find-from-bytes .ensures in
     (reported-small d _ (omega arith), (omega (arith, reported-classes d), omega (arith, reported-classes d)))
 
 returns : tie.Need-returns

@@ -23,7 +23,7 @@ abbrev else : tie.After-write-reduced → tie.Else1
 else c = c .before .before .before .before .before
 
 abbrev wrote : tie.After-slice-known8 → tie.After-write-reduced
-wrote c = c .before .before .before .before .before .before .before .before
+wrote c = search
 
 -- where the reduced-game call accepted
 abbrev there : tie.After-written → tie.After-write-reduced

@@ -2,7 +2,7 @@
 use mathlib.Core.Path.{_≡_, sym, ap, _∙_}
 use mathlib.Core.List.{[]}
 use native.Mathlib.Omega.{arith}
-use Rattle.table.specs.Verdict.{accepted}
+use Rattle.table.specs.Answers.{accepted}
 use Rattle.table.specs.Acceptance.{acceptanceAnswer}
 use Rattle.plan.specs.Acceptance.{planAnswer}
 use Rattle.verdict.specs.VerdictCallLaws.{start-there, start-refused, start-wins, start-elsewhere}

@@ -1,10 +1,10 @@
 -- Invariant: the search from u on finds what the whole search finds.
 use mathlib.Core.Path.{_≡_, refl, sym, _∙_}
 use Prim.Native.Nat.{_-_, _≤_}
-use Rattle.theory.specs.RangeLaws.{first-step, first-hit, first-end}
-use Rattle.theory.specs.Range.{first}
-use Rattle.theory.specs.Reduction.{sameClass, lowest}
-use Rattle.pairs.specs.Marks.{relation}
+use Rattle.theory.specs.logic.RangeLaws.{first-step, first-hit, first-end}
+use Rattle.theory.specs.logic.Range.{first}
+use Rattle.theory.specs.classes.Reduction.{sameClass, lowest}
+use Rattle.marks.specs.Marks.{relation}
 use borrow.Author.Needs.{needs}
 use Rattle.classes.proofs.numbering.lowest_member.Statement.{statement}
 use Rattle.classes.proofs.numbering.lowest_member.Tie as tie

@@ -3,11 +3,11 @@ use mathlib.Core.Path.{_≡_, ap, _∙_}
 use Prim.Native.Nat.{_-_, _≤_}
 use native.Mathlib.Omega.{arith}
 use lib.ListN.{length, length-set}
-use Rattle.theory.specs.Range.{tabulate}
-use Rattle.theory.specs.Reduction.{classNumber}
-use Rattle.table.specs.Verdict.{written}
-use Rattle.table.specs.VerdictLaws.{written-start, written-more}
-use Rattle.pairs.specs.Marks.{relation}
+use Rattle.theory.specs.logic.Range.{tabulate}
+use Rattle.theory.specs.classes.Reduction.{classNumber}
+use Rattle.table.specs.Answers.{written}
+use Rattle.table.specs.AnswersLaws.{written-start, written-more}
+use Rattle.marks.specs.Marks.{relation}
 use Rattle.classes.specs.Numbering.{Numbered}
 use Rattle.classes.specs.NumberingLaws.{numbered-start}
 use borrow.Author.Needs.{needs}

@@ -3,9 +3,9 @@ use mathlib.Core.Path.{_≡_, sym, ap, _∙_}
 use Prim.Native.Nat.{ℕ, _≤_, _<_}
 use native.Mathlib.Omega.{arith}
 use lib.ListN.{getD, set}
-use Rattle.theory.specs.Order.{Preorder}
-use Rattle.theory.specs.Reduction.{classNumber}
-use Rattle.pairs.specs.Marks.{relation}
+use Rattle.theory.specs.order.Order.{Preorder}
+use Rattle.theory.specs.classes.Reduction.{classNumber}
+use Rattle.marks.specs.Marks.{relation}
 use Rattle.classes.specs.Numbering.{Numbered}
 use Rattle.classes.specs.NumberingLaws.{numbered-le, class-new, numbered-new, lowest-before, class-old, numbered-old}
 use borrow.Author.Needs.{needs}

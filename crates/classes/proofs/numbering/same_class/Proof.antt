@@ -1,7 +1,7 @@
 -- The marks of (u, v) and of (v, u) decide one after the other.
 use mathlib.Core.Path.{sym, _∙_}
-use Rattle.theory.specs.Bools.{_&_}
-use Rattle.theory.specs.Reduction.{sameClass}
+use Rattle.theory.specs.logic.Bools.{_&_}
+use Rattle.theory.specs.classes.Reduction.{sameClass}
 use borrow.Author.Needs.{needs}
 use Rattle.classes.proofs.numbering.same_class.Statement.{statement}
 use Rattle.classes.proofs.numbering.same_class.Tie as tie

@@ -2,7 +2,7 @@
 use borrow.Author.Needs.{needs}
 use native.Mathlib.Omega.{arith}
 use Prim.Native.Nat.{_+_}
-use Rattle.theory.specs.ListLaws.{zeros}
+use Rattle.theory.specs.logic.ListLaws.{zeros}
 use Rattle.table.specs.Limits.{vertexLimit}
 use Rattle.plan.proofs.answers.first_lacking.Statement.{statement}
 use Rattle.plan.proofs.answers.first_lacking.Tie as tie

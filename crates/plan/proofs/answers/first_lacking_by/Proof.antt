@@ -5,9 +5,9 @@ use Prim.Native.Nat.{ℕ, _≤_, _-_}
 use mathlib.Core.Path.{_≡_, refl, sym, _∙_}
 use mathlib.Core.List.{List}
 use lib.ListN.{length}
-use Rattle.theory.specs.Range.{first}
-use Rattle.theory.specs.RangeLaws.{first-step, first-hit, first-end}
-use Rattle.returns.specs.Search.{NoLater}
+use Rattle.theory.specs.logic.Range.{first}
+use Rattle.theory.specs.logic.RangeLaws.{first-step, first-hit, first-end}
+use Rattle.plan_returns.specs.Search.{NoLater}
 use Rattle.plan.specs.Acceptance.{lacksLink, firstLackingLink}
 use Rattle.plan.specs.AnswerLaws.{space-kept}
 use Rattle.plan.proofs.answers.first_lacking_by.Statement.{statement}
@@ -26,7 +26,7 @@ abbrev μ-loop : tie.MeasureT-loop
 μ-loop game player plan starts targets edge-starts edge-targets stamps₀ p i₀ stamps i = p - i
 
 abbrev start : tie.After-shared-slice-known7 Inv-loop μ-loop → tie.Start Inv-loop μ-loop
-start c = c .before .before .before .before .before .before .before .before
+start c = search
 
 -- the turn of a position
 abbrev turn : tie.After-lacks-link Inv-loop μ-loop → tie.In-loop Inv-loop μ-loop

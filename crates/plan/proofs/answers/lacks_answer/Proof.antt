@@ -4,7 +4,7 @@ use native.Mathlib.Omega.{arith}
 use Prim.Native.Nat.{ℕ, _<_, _+_}
 use mathlib.Core.Path.{_∙_}
 use lib.ListN.{getD}
-use Rattle.links.specs.PlanFormedLaws.{formed-wider}
+use Rattle.plan_links.specs.PlanFormedLaws.{formed-wider}
 use Rattle.plan.specs.StampsLaws.{stamped-le, unstamped-unanswered, among-ext}
 use Rattle.plan.proofs.answers.lacks_answer.Statement.{statement}
 use Rattle.plan.proofs.answers.lacks_answer.Tie as tie

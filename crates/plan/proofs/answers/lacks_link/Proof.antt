@@ -9,7 +9,7 @@ use Rattle.plan.proofs.answers.lacks_link.Statement.{statement}
 use Rattle.plan.proofs.answers.lacks_link.Tie as tie
 
 abbrev start : tie.After-shared-slice-known7 → tie.Start
-start c = c .before .before .before .before .before .before .before .before
+start c = search
 
 -- the vertex of position i
 below : (c : tie.After-vertex-of) → c .vertex-of .result < getD (start (c .before) .args .game .now) 0 0

@@ -5,9 +5,9 @@ use Prim.Native.Nat.{_≤_, _<_, _-_, _+_}
 use mathlib.Core.Path.{_≡_, sym}
 use mathlib.Core.Bool.{false}
 use lib.ListN.{getD}
-use Rattle.theory.specs.Range.{anyFrom}
+use Rattle.theory.specs.logic.Range.{anyFrom}
 use Rattle.index.specs.IndexLaws.{indexed-size, indexed-order}
-use Rattle.links.specs.LinkIndexLaws.{Target, indexed-target}
+use Rattle.plan_links.specs.LinkIndexLaws.{Target, indexed-target}
 use Rattle.plan.specs.Stamps.{unstampedTarget}
 use Rattle.plan.specs.StampsLaws.{unstamped-none, unstamped-not, unstamped-here, unstamped-all}
 use Rattle.plan.proofs.answers.some_unstamped.Statement.{statement}

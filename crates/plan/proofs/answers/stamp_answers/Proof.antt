@@ -6,7 +6,7 @@ use mathlib.Core.Path.{_≡_, refl}
 use mathlib.Core.List.{List}
 use lib.ListN.{length, getD, length-set}
 use Rattle.index.specs.IndexLaws.{indexed-size, indexed-order}
-use Rattle.links.specs.LinkIndexLaws.{Target, indexed-target}
+use Rattle.plan_links.specs.LinkIndexLaws.{Target, indexed-target}
 use Rattle.plan.specs.Stamps.{StampedTo}
 use Rattle.plan.specs.StampsLaws.{stamped-none, stamped-more, stamped-all}
 use Rattle.plan.proofs.answers.stamp_answers.Statement.{statement}

@@ -1,15 +1,15 @@
 -- The arrays hold the index of any well-formed table; what the rounds leave holds the order.
 use Prim.Native.Nat.{_+_}
 use native.Mathlib.Omega.{arith}
-use Rattle.theory.specs.ListLaws.{zeros}
+use Rattle.theory.specs.logic.ListLaws.{zeros}
 use Rattle.table.specs.Limits.{vertexLimit}
-use Rattle.classes.specs.HoldingLaws.{ordered-done}
+use Rattle.classes.specs.OrderedMarksLaws.{ordered-done}
 use borrow.Author.Needs.{needs}
 use Rattle.reduction.proofs.tables.fill_memory.Statement.{statement}
 use Rattle.reduction.proofs.tables.fill_memory.Tie as tie
 
 abbrev start : tie.After-fill-order → tie.Start
-start c = c .before .before .before .before .before .before .before .before
+start c = search
 
 abbrev ordered-at : tie.After-of-edges → tie.After-fill-order
 ordered-at c = c .before .before .before .before .before .before .before
@@ -52,9 +52,12 @@ same-length-3 c = search needs
 same-length-4 : tie.Need-same-length-4
 same-length-4 c = search needs
 
+abbrev at-of-edges : tie.After-fill-table → tie.After-of-edges
+at-of-edges c = search
+
 returns : tie.Need-returns
 returns c = let t = c .before .before .before .before in
-    record { order = ordered-at (t .before .before .before .before .before .before .before .before) .fill-order .ensures; table = t .fill-table .ensures }
+    record { order = ordered-at (at-of-edges t) .fill-order .ensures; table = t .fill-table .ensures }
 
 pub fill-memory-spec : {M : Type 1} → statement M
 fill-memory-spec =

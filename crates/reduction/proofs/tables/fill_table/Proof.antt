@@ -3,24 +3,24 @@ use mathlib.Core.Path.{_≡_, refl, _∙_}
 use mathlib.Core.List.{List}
 use Prim.Native.Nat.{ℕ, _≤_}
 use native.Mathlib.Omega.{arith}
-use Rattle.theory.specs.Order.{order}
-use Rattle.theory.specs.QuotientLaws.{order-preorder}
-use Rattle.theory.specs.ClassLaws.{classCount-le}
+use Rattle.theory.specs.order.Order.{order}
+use Rattle.theory.specs.classes.QuotientLaws.{order-preorder}
+use Rattle.theory.specs.classes.ClassLaws.{classCount-le}
 use Rattle.table.specs.Table.{vertexCount, tableEdges, gameOf}
 use Rattle.classes.specs.Numbering.{Numbered, Classed, classesIn, Represented}
 use Rattle.classes.specs.NumberingLaws.{numbered-classed, numbered-represented, numbered-total}
-use Rattle.classes.specs.HoldingLaws.{ordered-preorder, ordered-words, ordered-numbered}
-use Rattle.class_edges.specs.ListingLaws.{edges-few}
+use Rattle.classes.specs.OrderedMarksLaws.{ordered-preorder, ordered-words, ordered-numbered}
+use Rattle.reduction_edges.specs.ListingLaws.{edges-few}
 use Rattle.reduction.specs.TablesLaws.{table-filled}
 use borrow.Author.Needs.{needs}
 use Rattle.reduction.proofs.tables.fill_table.Statement.{statement}
 use Rattle.reduction.proofs.tables.fill_table.Tie as tie
 
 abbrev start : tie.After-number-classes → tie.Start
-start c = c .before .before .before .before .before .before .before .before .before .before
+start c = search
 
 abbrev numbered-at : tie.After-list-edges → tie.After-number-classes
-numbered-at c = c .before .before .before .before .before .before .before .before
+numbered-at c = search
 
 -- the class words and the representatives that were written
 abbrev words-at : tie.After-number-classes → List ℕ
@@ -70,9 +70,12 @@ cast-n c = search needs
 slice-aggregate-number-classes : tie.Need-slice-aggregate-number-classes
 slice-aggregate-number-classes c = search needs
 
+abbrev at-start : tie.After-reps → tie.Start
+at-start c = search
+
 number-classes-requires : tie.Need-number-classes-requires
 number-classes-requires c κs =
-    let p = c .before .before .before .before .before .before .before .before .before .pre in
+    let p = at-start c .pre in
     (ordered-preorder _ (p .0 .2) refl (p .0 .0), (p .1 .0, p .0 .0 .vertices))
 
 slice-aggregate-list-edges : tie.Need-slice-aggregate-list-edges

@@ -3,13 +3,13 @@ use mathlib.Core.Path.{_≡_, refl, _∙_}
 use Prim.Native.Nat.{ℕ, _≤_, _<_}
 use native.Mathlib.Omega.{arith}
 use lib.ListN.{length, getD, length-set}
-use Rattle.theory.specs.ListLaws.{length-tabulate}
-use Rattle.theory.specs.QuotientLaws.{order-preorder}
+use Rattle.theory.specs.logic.ListLaws.{length-tabulate}
+use Rattle.theory.specs.classes.QuotientLaws.{order-preorder}
 use Rattle.table.specs.Limits.{vertexLimit}
 use Rattle.table.specs.Table.{vertexCount, gameOf}
 use Rattle.reduction.specs.Tables.{tableBy}
 use Rattle.classes.specs.NumberingLaws.{represented-lt}
-use Rattle.classes.specs.HoldingLaws.{classes-few}
+use Rattle.classes.specs.OrderedMarksLaws.{classes-few}
 use Rattle.reduction.specs.TablesLaws.{table-parts}
 use borrow.Author.Needs.{needs}
 use Rattle.reduction.proofs.tables.write_table.Statement.{statement}

@@ -1,6 +1,6 @@
 -- The reader refuses, or the memory is filled, since it is enough, and the classes are counted.
 use Rattle.table.specs.WellFormed.{WellFormed}
-use Rattle.class_edges.specs.Rows.{gameBy}
+use Rattle.reduction_edges.specs.Rows.{gameBy}
 use Rattle.reduction.specs.TableCallLaws.{sized}
 use Rattle.report.specs.FindingsLaws.{table-fits, classes-fit, reported-refused, tabulated, reported-accepted}
 use borrow.Author.Needs.{needs}
@@ -9,7 +9,7 @@ use Rattle.report.proofs.findings.find.Tie as tie
 
 -- the entry, from where the reader has accepted, and what is known then
 abbrev start : tie.After-enum-told → tie.Start
-start c = c .before .before .before .before .before .before .before .before .before .before
+start c = search
 
 well : (c : tie.After-enum-told) → WellFormed (start c .args .game .now)
 well c = sized (c .enum-told .given .1) (c .before .before .read .ensures) .well
@@ -34,10 +34,13 @@ returns c =
 fill-memory-requires : tie.Need-fill-memory-requires
 fill-memory-requires c κs = let t = c .before .before .before .before in table-fits (start t .pre) (well t)
 
+abbrev at-fill-memory : tie.After-write-totals-arg4 → tie.After-fill-memory
+at-fill-memory c = search
+
 write-totals-requires : tie.Need-write-totals-requires
 unfolding gameBy
 write-totals-requires c κs =
-    let f = c .before .before .before .before .before .before .before .before .before .before .before .before .before in
+    let f = at-fill-memory c in
     let w = well (told f) in
     let enough = start (told f) .pre in
     (tabulated (f .fill-memory .ensures) w, (classes-fit _ w _ (enough .membersFit), classes-fit _ w _ (enough .edgesFit)))
@@ -60,11 +63,14 @@ same-length-5 c = search needs
 same-length-6 : tie.Need-same-length-6
 same-length-6 c = search needs
 
+abbrev at-fill-memory-from-write-totals : tie.After-write-totals → tie.After-fill-memory
+at-fill-memory-from-write-totals c = search
+
 returns-2 : tie.Need-returns-2
 unfolding gameBy
 returns-2 c =
     let d = c .before .before .before .before in
-    let f = d .before .before .before .before .before .before .before .before .before .before .before .before .before .before in
+    let f = at-fill-memory-from-write-totals d in
     let t = told f in
     reported-accepted (f .fill-memory .ensures) (d .write-totals .ensures) _ _ (t .enum-told .given .1) (t .before .before .read .ensures)
 

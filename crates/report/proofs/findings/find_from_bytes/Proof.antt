@@ -45,10 +45,16 @@ same-length-6 c = search needs
 same-length-7 : tie.Need-same-length-7
 same-length-7 c = search needs
 
+abbrev at-find : tie.After-slice-known14 → tie.After-find
+at-find c = search
+
+abbrev at-decode : tie.After-find → tie.After-decode
+at-decode c = search
+
 returns : tie.Need-returns
 returns c =
-    let f = c .before .before .before .before .before .before .before .before .before .before .before .before in
-    let d = f .before .before .before .before .before .before .before .before .before .before .decode .ensures in
+    let f = at-find c in
+    let d = at-decode f .decode .ensures in
     reported-same (decoded-words _ _ _ _ (d .0) (d .1)) (f .find .ensures)
 
 pub find-from-bytes-spec : {M : Type 1} → statement M

@@ -2,7 +2,7 @@
 use mathlib.Core.Path.{_≡_}
 use lib.ListN.{length}
 use Prim.Native.Nat.{_≤_, _-_}
-use Rattle.report.specs.Room.{OnPage}
+use Rattle.report.specs.ReportMemory.{OnPage}
 use native.Mathlib.Omega.{arith}
 use borrow.Author.Needs.{needs}
 use Rattle.report.proofs.print.classes.Statement.{statement}
@@ -32,8 +32,11 @@ mul-two c = search needs
 shared-slice-read-two : tie.Need-shared-slice-read-two Inv-loop μ-loop
 shared-slice-read-two c = search needs
 
+abbrev at-loop : tie.After-shared-slice-known3 Inv-loop μ-loop → tie.At-loop Inv-loop μ-loop
+at-loop c = search
+
 cast-two : tie.Need-cast-two Inv-loop μ-loop
-cast-two c = omega (arith, c .shared-slice-known3 .given (c .before .before .before .before .before .before .before .before .before .loop .c))
+cast-two c = omega (arith, c .shared-slice-known3 .given (at-loop c .loop .c))
 
 slice-aggregate-two-2 : tie.Need-slice-aggregate-two-2 Inv-loop μ-loop
 slice-aggregate-two-2 c = search needs
@@ -44,8 +47,11 @@ mul-two-2 c = search needs
 shared-slice-read-two-2 : tie.Need-shared-slice-read-two-2 Inv-loop μ-loop
 shared-slice-read-two-2 c = search needs
 
+abbrev at-loop-from-shared-slice-known4 : tie.After-shared-slice-known4 Inv-loop μ-loop → tie.At-loop Inv-loop μ-loop
+at-loop-from-shared-slice-known4 c = search
+
 cast-two-2 : tie.Need-cast-two-2 Inv-loop μ-loop
-cast-two-2 c = omega (arith, c .shared-slice-known4 .given (c .before .before .before .before .before .before .before .before .before .before .before .loop .c))
+cast-two-2 c = omega (arith, c .shared-slice-known4 .given (at-loop-from-shared-slice-known4 c .loop .c))
 
 two-requires : tie.Need-two-requires Inv-loop μ-loop
 two-requires c κs = search needs

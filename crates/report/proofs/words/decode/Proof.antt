@@ -3,10 +3,10 @@ use mathlib.Core.Path.{_≡_}
 use Prim.Native.Nat.{_+_, _*_, _-_, _≤_}
 use native.Mathlib.Omega.{arith}
 use lib.ListN.{length, length-set}
-use Rattle.theory.specs.Range.{tabulate}
-use Rattle.table.specs.Verdict.{written}
-use Rattle.table.specs.VerdictLaws.{written-start, written-more}
-use Rattle.theory.specs.ListLaws.{length-tabulate}
+use Rattle.theory.specs.logic.Range.{tabulate}
+use Rattle.table.specs.Answers.{written}
+use Rattle.table.specs.AnswersLaws.{written-start, written-more}
+use Rattle.theory.specs.logic.ListLaws.{length-tabulate}
 use Rattle.report.specs.Words.{wordAt, wordsIn, wordsOf}
 use Rattle.report.specs.WordsLaws.{words-end}
 use borrow.Author.Needs.{needs}

@@ -3,7 +3,7 @@ use Prim.Native.Nat.{_/_, _<_}
 use native.Mathlib.Omega.{arith}
 use lib.ListN.{length}
 use borrow.Author.Needs.{needs}
-use Rattle.word.specs.Word.{wordBits}
+use Rattle.words.specs.Word.{wordBits}
 use Rattle.table.specs.FlagsLaws.{edge-number-lt}
 use Rattle.table.proofs.flags.flag_edge.Statement.{statement}
 use Rattle.table.proofs.flags.flag_edge.Tie as tie

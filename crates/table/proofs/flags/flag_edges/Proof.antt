@@ -6,7 +6,7 @@ use Prim.Native.Nat.{ℕ, _+_, _-_, _≤_}
 use native.Mathlib.Omega.{arith}
 use lib.ListN.{length}
 use borrow.Author.Needs.{needs}
-use Rattle.theory.specs.Bools.{bit}
+use Rattle.theory.specs.logic.Bools.{bit}
 use Rattle.table.specs.Flags.{Flagged, differentBelow}
 use Rattle.table.specs.FlagsLaws.{flagged-none, flagged-more, different-none, different-step, different-all, edge-flags}
 use Rattle.table.proofs.flags.flag_edges.Statement.{statement}

@@ -1,6 +1,6 @@
 -- The shift moves flag i to the lowest place of its word, and the mask keeps only that bit.
-use Rattle.word.specs.Words.{has}
-use Rattle.word.specs.WordLaws.{digit-read}
+use Rattle.words.specs.Words.{has}
+use Rattle.words.specs.WordLaws.{digit-read}
 use borrow.Author.Needs.{needs}
 use Rattle.table.proofs.flags.is_flagged.Statement.{statement}
 use Rattle.table.proofs.flags.is_flagged.Tie as tie

@@ -1,5 +1,5 @@
 -- One bit of one word is set, and flag i alone is at that bit.
-use Rattle.word.specs.WordsLaws.{has-set}
+use Rattle.words.specs.WordsLaws.{has-set}
 use borrow.Author.Needs.{needs}
 use Rattle.table.proofs.flags.raise.Statement.{statement}
 use Rattle.table.proofs.flags.raise.Tie as tie

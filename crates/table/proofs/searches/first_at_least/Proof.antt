@@ -4,8 +4,8 @@ use Prim.Native.Nat.{_≤_, _-_}
 use native.Mathlib.Omega.{arith}
 use borrow.Author.Needs.{needs}
 use borrow.Author.Tests.{le-leb, lt-leb}
-use Rattle.theory.specs.Range.{first}
-use Rattle.theory.specs.RangeLaws.{first-step, first-hit, first-end}
+use Rattle.theory.specs.logic.Range.{first}
+use Rattle.theory.specs.logic.RangeLaws.{first-step, first-hit, first-end}
 use Rattle.table.specs.Flags.{atLeast}
 use Rattle.table.specs.HighestLaws.{highest-none}
 use Rattle.table.proofs.searches.first_at_least.Statement.{statement}

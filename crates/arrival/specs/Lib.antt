@@ -1,5 +1,0 @@
-pub mod PlanWords
-pub mod Arrival
-pub mod ArrivalLaws
-pub mod OutputLaws
-pub mod FoundLaws

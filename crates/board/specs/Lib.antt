@@ -1,4 +1,0 @@
-pub mod Board
-pub mod ValuesLaws
-pub mod EdgesLaws
-pub mod BoardLaws

@@ -1,0 +1,5 @@
+pub mod PlanWords
+pub mod CarryParts
+pub mod CarryPartsLaws
+pub mod OutputLaws
+pub mod SearchResultLaws

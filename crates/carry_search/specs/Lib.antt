@@ -1,0 +1,15 @@
+pub mod LastBelow
+pub mod LastBelowLaws
+pub mod Chains
+pub mod PairsInLaws
+pub mod ChainsLaws
+pub mod SearchMemory
+pub mod SearchMemoryLaws
+pub mod Work
+pub mod WorkLaws
+pub mod WalkLaws
+pub mod Search
+pub mod ExpandLaws
+pub mod FreshLaws
+pub mod SearchLaws
+pub mod RunLaws

@@ -1,9 +1,0 @@
-pub mod LowestTable
-pub mod LowestTableLaws
-pub mod ConvertCall
-pub mod ConvertCallLaws
-pub mod ConvertRules
-pub mod ConvertRulesLaws
-pub mod ConvertedLaws
-pub mod Room
-pub mod RoomLaws

@@ -1,0 +1,135 @@
+-- Each way out is what the judge says of the entry's edit.
+use mathlib.Core.Path.{_≡_, refl, sym, ap, _∙_, subst}
+use mathlib.Core.List.{List, []}
+use Prim.Native.Nat.{ℕ, _≤_}
+use native.Mathlib.Omega.{arith}
+use lib.ListN.{length, take}
+use lib.Seq.{length-take-le}
+use Rattle.table.specs.Table.{tableLength, tableIn}
+use Rattle.table.specs.Answers.{accepted, judge, Clean}
+use Rattle.table.specs.AnswersLaws.{judge-accepted}
+use Rattle.table.specs.Acceptance.{acceptanceAnswer}
+use Rattle.edit_rules.specs.Edges.{editRows}
+use Rattle.edit_rules.specs.EditParts.{Formed, Made}
+use Rattle.edit_rules.specs.EditPartsLaws.{formed-room, formed-part}
+use Rattle.edit_rules.specs.declared.Edit.{Edit}
+use Rattle.edit_trace.specs.Run.{toggle, entryRows}
+use borrow.Author.Needs.{needs}
+use Rattle.edit_trace.proofs.enter.Statement.{statement}
+use Rattle.edit_trace.proofs.enter.Tie as tie
+
+-- the table is there whole, and is the part that is lent
+room : (s : tie.Start) → let a = s .args in tableLength (a .n) (a .m) ≤ length (a .buffer .now)
+room s = let a = s .args in formed-room (a .buffer .now) (a .n) (a .m) (s .pre)
+
+part : (s : tie.Start) → let a = s .args in take (tableLength (a .n) (a .m)) (a .buffer .now) ≡ tableIn (a .buffer .now)
+part s = let a = s .args in formed-part (a .buffer .now) (a .n) (a .m) (s .pre)
+
+formed : (s : tie.Start) → let a = s .args in Formed (take (tableLength (a .n) (a .m)) (a .buffer .now)) (a .n) (a .m)
+formed s = let a = s .args in subst (λ (g : List ℕ). Formed g (a .n) (a .m)) (sym (part s)) (s .pre)
+
+abbrev entry : tie.After-judge-entry → tie.Start
+entry c = c .before .before .before .before .before
+
+-- the edit is that of the entry
+edit-is : (c : tie.After-judge-entry) → let a = entry c .args in c .before .before .find-edit .result ≡ toggle (tableIn (a .buffer .now)) (a .source, a .target)
+edit-is c = rw (part (entry c)) at (c .before .before .find-edit .ensures)
+
+-- what the judge said of the entry
+judged : (c : tie.After-judge-entry)
+    → let a = entry c .args in
+    acceptanceAnswer (c .judge-entry .result) ≡ judge (entryRows (tableIn (a .buffer .now)) (length (a .buffer .now)) (a .source, a .target)) []
+judged c =
+    let a = entry c .args in
+    (rw (part (entry c)) at (c .judge-entry .ensures))
+    ∙ ap (λ (e : Edit). judge (editRows e (tableIn (a .buffer .now)) (length (a .buffer .now)) (a .source) (a .target)) []) (edit-is c)
+
+passed : (c : tie.After-enum-told)
+    → let a = entry (c .before .before) .args in Clean (entryRows (tableIn (a .buffer .now)) (length (a .buffer .now)) (a .source, a .target))
+passed c = judge-accepted _ [] [] (sym (ap acceptanceAnswer (sym (c .enum-told .given .1)) ∙ judged (c .before .before))) .0
+
+mul-size : tie.Need-mul-size
+mul-size c = search needs
+
+add-size : tie.Need-add-size
+add-size c = search needs
+
+mul-size-2 : tie.Need-mul-size-2
+mul-size-2 c = search needs
+
+add-size-2 : tie.Need-add-size-2
+add-size-2 c = search needs
+
+slice-reshare-prefix-find-edit : tie.Need-slice-reshare-prefix-find-edit
+slice-reshare-prefix-find-edit c = omega (arith, room (c .before))
+
+slice-aggregate-find-edit : tie.Need-slice-aggregate-find-edit
+slice-aggregate-find-edit c = sym (length-take-le _ _ (room (c .before .before)))
+
+find-edit-requires : tie.Need-find-edit-requires
+find-edit-requires c κs = formed (c .before .before)
+
+slice-reshare-prefix-judge-entry : tie.Need-slice-reshare-prefix-judge-entry
+slice-reshare-prefix-judge-entry c = omega (arith, room (c .before .before .before))
+
+slice-aggregate-judge-entry : tie.Need-slice-aggregate-judge-entry
+slice-aggregate-judge-entry c = sym (length-take-le _ _ (room (c .before .before .before .before)))
+
+judge-entry-requires : tie.Need-judge-entry-requires
+judge-entry-requires c κs = (formed (c .before .before .before .before), c .before .find-edit .ensures)
+
+enum-known-judged : tie.Need-enum-known-judged
+enum-known-judged c = search needs
+
+same-length : tie.Need-same-length
+same-length c = search needs
+
+returns : tie.Need-returns
+returns c = let j = c .before .before .before in (ap acceptanceAnswer (sym (c .before .judged .given .1)) ∙ judged j, refl)
+
+enum-told : tie.Need-enum-told
+enum-told c = search needs
+
+make-edit-requires : tie.Need-make-edit-requires
+make-edit-requires c κs =
+    let e = c .before in
+    let j = e .before .before in
+    let a = entry j .args in (
+      entry j .pre,
+      subst (λ (d : Edit). Clean (editRows d (tableIn (a .buffer .now)) (length (a .buffer .now)) (a .source) (a .target))) (sym (edit-is j)) (passed e),
+    )
+
+same-length-2 : tie.Need-same-length-2
+same-length-2 c = search needs
+
+returns-2 : tie.Need-returns-2
+returns-2 c =
+    let x = c .before .before in
+    let e = x .before .before in
+    let a = entry (e .before .before) .args in (
+      passed e,
+      subst (λ (d : Edit). Made d (a .buffer .now) (a .source) (a .target) (x .make-edit .result) (x .make-edit .last .0))
+          (edit-is (e .before .before)) (x .make-edit .ensures),
+    )
+
+pub enter-spec : {M : Type 1} → statement M
+enter-spec =
+    tie.close
+    (tie.spec
+    mul-size
+    add-size
+    mul-size-2
+    add-size-2
+    slice-reshare-prefix-find-edit
+    slice-aggregate-find-edit
+    find-edit-requires
+    slice-reshare-prefix-judge-entry
+    slice-aggregate-judge-entry
+    judge-entry-requires
+    enum-known-judged
+    same-length
+    returns
+    enum-told
+    make-edit-requires
+    same-length-2
+    returns-2)

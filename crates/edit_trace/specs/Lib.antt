@@ -1,0 +1,10 @@
+pub mod Trace
+pub mod Run
+pub mod RunState
+pub mod TraceLaws
+pub mod PaddedLaws
+pub mod RunLaws
+pub mod RunningLaws
+pub mod TraceRules
+pub mod TraceRulesLaws
+pub mod ParityLaws

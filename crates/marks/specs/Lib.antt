@@ -1,0 +1,7 @@
+pub mod Marks
+pub mod MarksLaws
+pub mod MarkSearch
+pub mod PairLaws
+pub mod PairInput
+pub mod MarkWriting
+pub mod MarkWritingLaws

@@ -1,0 +1,4 @@
+pub mod Losses
+pub mod ValuesLaws
+pub mod EdgesLaws
+pub mod LossesLaws

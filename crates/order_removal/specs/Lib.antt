@@ -1,0 +1,4 @@
+pub mod RowRemoval
+pub mod RowRemovalLaws
+pub mod ReverseLosses
+pub mod ReverseLossesLaws

@@ -1,7 +1,0 @@
-pub mod Marks
-pub mod MarksLaws
-pub mod Search
-pub mod PairLaws
-pub mod Ready
-pub mod Writing
-pub mod WritingLaws

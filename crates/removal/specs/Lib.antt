@@ -1,4 +1,0 @@
-pub mod Taking
-pub mod TakingLaws
-pub mod Mirroring
-pub mod MirroringLaws

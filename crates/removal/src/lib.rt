@@ -1,3 +1,0 @@
-// What a round takes out of a relation: what fails and, for the governed bisimulation, its reverse. Parts of the calls; no host calls these.
-pub mod mirroring;
-pub mod taking;

@@ -1,0 +1,9 @@
+pub mod LowestTable
+pub mod LowestTableLaws
+pub mod ConvertCall
+pub mod ConvertCallLaws
+pub mod ConvertRules
+pub mod ConvertRulesLaws
+pub mod ConversionLaws
+pub mod PriorityRange
+pub mod PriorityRangeLaws

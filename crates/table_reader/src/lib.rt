@@ -1,0 +1,70 @@
+// The reader of game tables, and the kinds of refusals.
+use table::Reading;
+use table::Refusal;
+use table::Sizes;
+use table::limits::EDGES;
+use table::limits::VERTICES;
+use table::searches;
+ghost use mathlib.Core.Path.{_≡_};
+ghost use Rattle.table.specs.Lent.{old};
+ghost use Rattle.table.specs.Reading.{readAnswer, readingAnswer};
+ghost use Rattle.table.specs.Kind.{kindOf};
+
+// Judges a game table: refusals 1 to 6 and 8 in order, each over the whole table before the next.
+pub fn read(game: &[u16]) -> Reading
+    ensures { λ r. ⌜ readingAnswer r ≡ readAnswer (old game) ⌝ }
+{
+    let len = game.len();
+    if len < 2 {
+        return refused(1, len);
+    }
+    let n = game[0] as usize;
+    let m = game[1] as usize;
+    if n == 0 || VERTICES < n {
+        return refused(2, 0);
+    }
+    if EDGES < m {
+        return refused(3, 1);
+    }
+    if len != 2 + 2 * n + 2 * m {
+        return refused(4, len);
+    }
+    let owner = searches::first_owner(game, n);
+    if owner < 2 + 2 * n {
+        return refused(5, owner);
+    }
+    let end = searches::first_end(game, n, m);
+    if end < len {
+        return refused(6, end);
+    }
+    let different = searches::count_different(game, n, m);
+    let lacking = searches::first_lacking(game, n, m);
+    if lacking < n {
+        return refused(8, lacking);
+    }
+    Reading::Accepted(Sizes {
+        vertices: n,
+        edges: m,
+        different,
+    })
+}
+
+fn refused(number: u32, place: usize) -> Reading
+    ensures { λ r. ⌜ r ≡ Reading.Refused (record { number = number; place = place }) ⌝ }
+{
+    Reading::Refused(Refusal { number, place })
+}
+
+// The kind of a refusal: 1 the game, 2 the relation, 3 the plan, 4 the memory, 5 later additions, 0 for any other number.
+pub fn kind(number: u32) -> u32
+    ensures { λ r. ⌜ r ≡ kindOf number ⌝ }
+{
+    match number {
+        1..=8 => 1,
+        9..=10 => 2,
+        11..=16 => 3,
+        21..=24 => 4,
+        31..=99 => 5,
+        _ => 0,
+    }
+}

@@ -1,6 +1,0 @@
-pub mod Word
-pub mod WordLaws
-pub mod Words
-pub mod WordsLaws
-pub mod LeftLaws
-pub mod NumberLaws
