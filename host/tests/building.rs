@@ -10,7 +10,6 @@ use rattle::{Build, Product};
 use std::collections::BTreeSet;
 use std::fs::{self, File};
 use std::io::{self, Write};
-use std::os::unix::fs::PermissionsExt;
 use std::os::unix::process::CommandExt;
 use std::path::{Path, PathBuf};
 use std::process::{Child, Command, Stdio};
@@ -76,9 +75,14 @@ fn write(path: &Path, text: &str) {
     fs::write(path, text).expect("a file");
 }
 
+/// Writes a program by another process: one that this process has written can't be started while another thread's child, not
+/// yet at its own program, has it open.
 fn write_program(path: &Path, text: &str) {
-    write(path, text);
-    fs::set_permissions(path, fs::Permissions::from_mode(0o755)).expect("a program");
+    let text_file = path.with_extension("text");
+    write(&text_file, text);
+    let mut copy = Command::new("/bin/sh");
+    copy.args(["-c", "cat \"$0\" >\"$1\" && chmod 755 \"$1\""]).arg(text_file).arg(path);
+    assert!(copy.status().expect("a shell").success());
 }
 
 fn archive(name: &str) -> Product<'_> {
@@ -320,18 +324,30 @@ fn a_change_is_proved_with_what_builds_on_it_alone() {
     assert_eq!(sorted(&folder), "check order,staticlib abi_edit");
 }
 
-/// Sources that change while they are proved may be in the archive or not, so it is made again.
+/// Sources that change while they are proved may be in the archive or not, so it is made again, even where they are as before.
 #[test]
 fn what_changes_meanwhile_is_proved_again() {
-    let folder =
-        repository("building-meanwhile", "[ $2 = order ] && echo >>$at/crates/order/src/lib.rt");
+    let script = "[ $2 = order ] && echo more >>$at/crates/order/src/lib.rt";
+    let folder = repository("building-meanwhile", script);
     made(&folder);
+    write(&folder.join("crates/order/src/lib.rt"), "some text");
     let rt = fs::read_to_string(folder.join("bin/rt")).expect("rt");
-    write_program(&folder.join("bin/rt"), &rt.replace("echo >>", "echo "));
-    let mut runs = made(&folder);
-    runs.sort();
-    assert_eq!(runs.join(","), "check edit,check order,staticlib abi,staticlib abi_edit");
+    write_program(&folder.join("bin/rt"), &rt.replace(script, ""));
+    let again = ["check order", "check edit", "staticlib abi", "staticlib abi_edit"];
+    assert_eq!(made(&folder), again);
     assert_eq!(made(&folder), [""; 0]);
+}
+
+#[test]
+fn two_builds_at_once_prove_each_crate_once() {
+    let folder = repository("building-twice", "sleep 0.05");
+    let start = |at: PathBuf| thread::spawn(move || told(&at, 2, &BOTH));
+    let builds = [start(folder.clone()), start(folder.clone())];
+    let ended = builds.map(|build| build.join().expect("it ends"));
+    assert!(ended.iter().all(|(_, ended)| ended.is_ok()), "{ended:?}");
+    assert_in_sequence(&folder, &logged(&folder), 2);
+    let proving = ended.iter().filter(|(text, _)| text.contains(" at a time; ")).count();
+    assert_eq!(proving, 1, "{ended:?}");
 }
 
 #[test]
