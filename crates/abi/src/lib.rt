@@ -1,5 +1,5 @@
 // The exports for a Rust host: numbers and slices in, one answer by value out. A slice passes as a pointer and a length. Those that carry a plan,
-// are about governed bisimulations or edit a table stand in crates of their own, so that a check of each is short.
+// are about governed bisimulations, edit a table or give a verdict stand in crates of their own, so that a check of each is short.
 use abi_answer::RaskjomiAnswer;
 use abi_answer::of_acceptance;
 use abi_answer::of_classification;

@@ -18,7 +18,9 @@ ghost use Rattle.classes.specs.ClassesCall.{classificationAnswer};
 ghost use Rattle.reduction.specs.TableCall.{tabulationAnswer};
 ghost use Rattle.carry_output.specs.PlanWords.{carryingAnswer};
 ghost use Rattle.carry.specs.CarryCall.{classCarryingAnswer};
-ghost use Rattle.abi_answer.specs.Fields.{counted, turnedDown, readFields, orderFields, acceptFields, classesFields, tableFields, fillFields, carryFields, classCarryFields, replayFields, SmallSizes, SmallFilling, SmallCount, SmallCounts, SmallCarrying, SmallClassCarrying, SmallReplaying};
+ghost use Rattle.abi_answer.specs.Fields.{counted, turnedDown, readFields, orderFields, acceptFields, classesFields, tableFields};
+ghost use Rattle.abi_answer.specs.Fields.{fillFields, carryFields, classCarryFields, replayFields, SmallSizes, SmallFilling, SmallCount};
+ghost use Rattle.abi_answer.specs.Fields.{SmallCounts, SmallCarrying, SmallClassCarrying, SmallReplaying};
 
 // Number 0 for accepted, with the counts of the call; otherwise the refusal. All other fields are 0, but that a replay tells its entries with a
 // refusal too. `shown` is 1 where the verdict call says "wins".

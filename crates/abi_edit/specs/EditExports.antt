@@ -1,4 +1,4 @@
--- The promises of the exports that edit a table or preview an edit: the library's answer, its fields, and the library's promise.
+-- The promises of the exports that edit a table, preview an edit or replay a trace: the library's answer, its fields, and the library's promise.
 use mathlib.Core.Path.{_≡_}
 use mathlib.Core.List.{List}
 use Prim.Native.Nat.{ℕ}

@@ -1,4 +1,4 @@
-// The exports that edit a table or preview an edit, in the form of those of `abi`.
+// The exports that edit a table, preview an edit or replay a trace, in the form of those of `abi`.
 use abi_answer::RaskjomiAnswer;
 use abi_answer::of_replaying;
 use abi_answer::of_tabulation;

@@ -1,5 +1,4 @@
-// What arrives at the new vertex: 33 to 35, and the words of the plan that is found. Parts of the calls that carry a plan; no host calls
-// these.
+// The plan that is carried to the new vertex: 33 to 35, and its words. Parts of the calls that carry a plan; no host calls these.
 mod output;
 mod seats;
 
@@ -102,8 +101,8 @@ pub fn carry_to(
     requires { ⌜ Carriable «by_class» (now game) (now plan) (now marks) × (player ≤ 1) ⌝ }
     ensures { λ r. ⌜
         Arrived (arrivalRows «by_class» (old game) player (old plan) y (old output))
-        (planCounts (carriedBy «by_class» (old game) player (old plan) y)) (planWords (carriedBy «by_class» (old game) player (old plan) y))
-        (old output) (carryingAnswer r)
+        (planCounts (carriedBy «by_class» (old game) player (old plan) y))
+        (planWords (carriedBy «by_class» (old game) player (old plan) y)) (old output) (carryingAnswer r)
         (new output)
         ⌝ }
 {

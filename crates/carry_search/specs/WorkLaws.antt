@@ -119,7 +119,7 @@ module _ (work : List ℕ) (counts : Counts) where
       ∙ ap (λ (m : Memory). memory (m .olds) (set (m .vertices) pairs u) (m .heads) (m .nexts) (m .sources) (m .targets) (m .pairs) (m .links))
       (store-old work counts pairs i hp))))
 
--- ---- in memory that is ready
+-- ---- in memory with room for the search
 
 pub stored-pair : (work : List ℕ) (counts : Counts) (k : ℕ) → k < pairRoom
     → storedPair work k ≡ (getD (memoryIn work counts .olds) k 0, getD (memoryIn work counts .vertices) k 0)

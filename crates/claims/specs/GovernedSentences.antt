@@ -1,4 +1,4 @@
--- What is claimed of the governed calls, about slices after them, as the promises of this crate's functions state it.
+-- What is claimed of the governed calls, about slices after them, as the promises of the functions of `claims_calls` state it.
 use mathlib.Core.Path.{_≡_}
 use mathlib.Core.Logic.{_↔_}
 use mathlib.Core.List.{List, []}

@@ -1,5 +1,5 @@
--- CR 11's sentences, about slices after the reduced-game call, as the promise of `minimizes` states them. Another game is any game of
--- finitely many vertices: no limit of a table holds for it, and it need not be total.
+-- CR 11's sentences, about slices after the reduced-game call, as the promise of `minimizes` of `claims_calls` states them. Another game is any
+-- game of finitely many vertices: no limit of a table holds for it, and it need not be total.
 use mathlib.Core.Path.{_≡_}
 use mathlib.Core.Bool.{So}
 use mathlib.Core.List.{List, [], _∷_}

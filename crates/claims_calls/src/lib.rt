@@ -1,5 +1,5 @@
-// What is claimed of the library, upheld. A function for each call that leaves the order: it makes the call, and its promise is what demand 3
-// says of the slices after it, proved from the library's contracts alone.
+// What is claimed of the library. A function for each call that leaves the order: it makes the call, and its promise is what demand 3 says of
+// the slices after it; two for the governed calls, by `GovernedSentences`. All is proved from the library's contracts alone.
 pub mod smallest;
 
 use carry::ClassCarrying;

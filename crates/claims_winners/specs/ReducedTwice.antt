@@ -1,5 +1,5 @@
--- A reducer that is done when it is done, about the words of two calls in a row: the second reduces the table that the first wrote, in a second
--- set of buffers.
+-- The reduced game reduced again, about the words of two calls in a row: the second reduces the table that the first wrote, in a second set of
+-- buffers.
 use mathlib.Core.Path.{_≡_}
 use mathlib.Core.Logic.{_↔_}
 use mathlib.Core.List.{List, [], _∷_}

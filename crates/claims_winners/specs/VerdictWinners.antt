@@ -1,5 +1,5 @@
--- What "not shown" leaves open is a matter of the plan and not of the game: document 02, CR 14. The verdict call's "wins" is open to exactly one player at
--- each vertex, whatever the memory holds that it is lent.
+-- What "not shown" leaves open is a matter of the plan and not of the game: document 02, CR 14. The verdict call's "wins" is open to exactly one
+-- player at each vertex, whatever the memory holds that it is lent.
 use mathlib.Core.Path.{_≡_}
 use mathlib.Core.List.{List}
 use Prim.Native.Nat.{ℕ}

@@ -1,5 +1,5 @@
--- The class of the vertex is decided in the written table, for the same player, and the verdict call says "wins" exactly where such a plan is handed in.
--- It never says so for both players.
+-- The class of the vertex is decided in the written table, for the same player, and the verdict call says "wins" exactly where such a plan is
+-- handed in. It never says so for both players.
 use mathlib.Core.Path.{_≡_, sym, ap, _∙_}
 use mathlib.Core.List.{List, []}
 use Prim.Native.Nat.{ℕ, _<_}

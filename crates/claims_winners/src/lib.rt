@@ -1,4 +1,4 @@
-// Who wins, upheld. Each function makes a call of the library, or two in a row, and its promise is what specs/ says of the slices after it: at
+// Who wins. Each function makes a call of the library, or two in a row, and its promise is what specs/ says of the slices after it: at
 // each vertex exactly one player wins, the winner at a vertex is the winner at its class, and the reduced game reduced again is itself.
 use carry::ClassCarrying;
 use order::Ordering;
@@ -120,8 +120,8 @@ pub fn reduces_twice(
     next_output: &mut [u16],
 ) -> Twice
     ensures { λ r. ⌜
-        ReducesTwice (old game) (old marks) (old spare) (old classes) (old output) (old «next_marks») (old «next_spare») (old «next_classes»)
-        (old «next_output») r
+        ReducesTwice (old game) (old marks) (old spare) (old classes) (old output)
+        (old «next_marks») (old «next_spare») (old «next_classes») (old «next_output») r
         (new marks) (new spare) (new classes) (new output) (new «next_marks») (new «next_spare») (new «next_classes») (new «next_output»)
         ⌝ }
 {

@@ -69,7 +69,8 @@ pub fn fill_numbered(
 ) -> usize
     requires { ⌜ ClassesFit (now game) (now marks) (now spare) (now classes) × (n ≡ vertexCount (now game)) ⌝ }
     ensures { λ r. ⌜
-        NumberedDone (marksBy mirror) (totalOf (relationBy mirror)) (wordsOf (relationBy mirror)) (old game) (old marks) (old spare) (old classes) r
+        NumberedDone (marksBy mirror) (totalOf (relationBy mirror)) (wordsOf (relationBy mirror))
+        (old game) (old marks) (old spare) (old classes) r
         (new marks) (new spare) (new classes)
         ⌝ }
 {
@@ -104,8 +105,8 @@ pub fn write_numbered(
 ) -> Classification
     requires { ⌜ WellFormed (now game) × (n ≡ vertexCount (now game)) ⌝ }
     ensures { λ r. ⌜
-        NumberedCall (marksBy mirror) (totalOf (relationBy mirror)) (wordsOf (relationBy mirror)) (old game) (old marks) (old spare) (old classes)
-        (classificationAnswer r)
+        NumberedCall (marksBy mirror) (totalOf (relationBy mirror)) (wordsOf (relationBy mirror))
+        (old game) (old marks) (old spare) (old classes) (classificationAnswer r)
         (new marks) (new spare) (new classes)
         ⌝ }
 {

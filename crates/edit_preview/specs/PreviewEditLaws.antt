@@ -1,7 +1,6 @@
--- A preview is the edit on a copy. For a second table of at least 2 + 2n + 2m words the preview and the edit on that table with the first laid
--- over its start give the same answer, and, accepted, leave the same words in all four buffers. Of a first table that 1 to 8 refuse there is
--- nothing to lay: there the preview answers as the edit on the first buffer does. A shorter second table is 24, unless 21 to 23 refuse, which they
--- do alike whatever its length. There is no other case (`preview-cases`).
+-- A preview is the edit on a copy: where the second table is long enough, it and the edit on that table with the first laid over its start give
+-- the same answer and, accepted, leave the same words in all four buffers. Where 1 to 8 refuse the first table, it answers as the edit on the first
+-- buffer. A shorter second table is 24, unless 21 to 23 refuse, which don't go by its length. There is no other case (`preview-cases`).
 use mathlib.Core.Path.{_≡_, refl, sym, ap, _∙_}
 use mathlib.Core.Bool.{Bool, true, false}
 use mathlib.Core.List.{List, [], _∷_, _++_}

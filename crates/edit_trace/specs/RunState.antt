@@ -1,4 +1,4 @@
--- What the parts of the call promise each other. No public promise cites these.
+-- A run in a buffer, before each entry and when it is over: what the parts of the call promise each other. No public promise cites these.
 use mathlib.Core.Path.{_≡_}
 use mathlib.Core.List.{List, []}
 use Prim.Native.Nat.{ℕ, _+_, _-_, _≤_}

@@ -1,4 +1,4 @@
--- Memory for any accepted game, and how many vertices an accepted game has.
+-- Memory for any accepted game, how many vertices such a game has, and where a page goes on.
 use mathlib.Core.Path.{_≡_}
 use mathlib.Core.List.{List}
 use Prim.Native.Nat.{ℕ, _≤_, _<_}

@@ -1,4 +1,4 @@
--- What a table that the reader accepts is like. Every layer above starts from this. An edge may be listed more than once.
+-- What a table that the reader accepts is like. Every crate above starts from this. An edge may be listed more than once.
 use mathlib.Core.Path.{_≡_}
 use mathlib.Core.List.{List}
 use Prim.Native.Nat.{ℕ, _≤_, _<_}

@@ -1,4 +1,4 @@
--- Laws of a table that is being written. Each store is of a final word, so it unsettles no word that is final.
+-- Laws of a table that is being written. Each store is of a final word, so no word that is final changes.
 use mathlib.Core.Path.{_≡_, refl, sym, ap, _∙_}
 use mathlib.Core.List.{List}
 use Prim.Native.Nat.{ℕ, _+_, _*_, _/_, _%_, _≤_, _<_}

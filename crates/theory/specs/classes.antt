@@ -16,5 +16,6 @@ pub mod TotalsLaws
 -- the smallest game that represents a game: `represents-in`, `represents-out`, `reduced-represents`, `reduced-smallest`
 pub mod Minimal
 pub mod MinimalLaws
--- the reduced game reduced again: `reduced-order`, `reduced-antisymmetric`, `reduced-class`, `reduced-twice`, `quotient-twice`
+-- the reduced game reduced again: `reduced-order`, `reduced-compares`, `reduced-antisymmetric`, `reduced-class`, `reduced-twice`;
+-- `quotient-class`, `quotient-twice`
 pub mod FixedPointLaws

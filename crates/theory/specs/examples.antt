@@ -1,4 +1,5 @@
--- Worked games and plans. `Compute` opens all computed definitions by one name.
+-- Worked games and plans: C and D of document 01, plans carried, games that represent D, and who wins in D. `Compute` opens all computed
+-- definitions by one name.
 
 pub mod Compute
 pub mod Examples

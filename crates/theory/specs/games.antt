@@ -3,8 +3,8 @@
 -- players and games
 pub mod Game
 pub mod GameLaws
--- games that agree on their vertices, in all or but for priorities: `agreeBy-wins`, `agree-winner`, `agree-orderMarks`, `agree-passes`,
--- `agree-class`, `agree-quotient`, `agree-reduced`
+-- games that agree on their vertices, in all or but for priorities: `agreeBy-wins`, `agree-wins`, `agree-winner`, `agree-orderMarks`,
+-- `agree-passes`, `agree-class`, `agree-quotient`, `agree-reduced`
 pub mod Agreement
 pub mod AgreementLaws
 -- maps of priorities that keep the winner; only laws use them: `seen-parity`, `highest-lowest`, `lowest-highest`

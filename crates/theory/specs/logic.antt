@@ -5,7 +5,7 @@ pub mod Bools
 pub mod BoolsLaws
 pub mod Range
 pub mod RangeLaws
--- counting: the pigeonhole, sums; lists
+-- counting, and the `pigeonhole`; sums; lists
 pub mod CountLaws
 pub mod SumLaws
 pub mod ListLaws

@@ -9,13 +9,15 @@ pub mod SimulationLaws
 -- the order: `order-in`, `order-out`, `order-simulation`, `order-largest`, `order-refl`, `order-trans`, `orderPasses-le`
 pub mod Order
 pub mod OrderLaws
--- governed bisimulation beside the order: `governed-in`, `governed-out`, `governed-largest`, `governed-equivalence`, `governed-class`,
--- `governed-winner`
+-- governed bisimulation beside the order: `governed-in`, `governed-out`, `governed-bisimulation`, `governed-largest`, `governed-equivalence`,
+-- `governed-class`, `governed-winner`, `governedPasses-le`
 pub mod Governed
 pub mod GovernedLaws
--- passes as rounds, by rows of a relation; only inner functions promise them: `last-passes`, `last-marks`, `counts-add`, `last-clears`;
--- `test-rows`, `round-passes`, `round-next`, `last-left`, `order-counts`
+-- passes as rounds over relations; only inner functions promise them: `after-start`, `after-next`, `last-passes`, `last-marks`, `cleared-le`,
+-- `counts-add`, `last-clears`
 pub mod Rounds
 pub mod RoundsLaws
+-- rounds by rows of a relation, likewise: `test-rows`, `fall-is`, `loses-none`, `round-passes`, `round-start`, `round-next`, `round-count`,
+-- `mirrored-next`, `last-count`, `last-left`, `order-counts`
 pub mod Rows
 pub mod RowsLaws

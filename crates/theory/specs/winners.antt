@@ -4,8 +4,9 @@
 pub mod WinnerLaws
 -- the transfer of a plan, core and step: `winning-projects` (core), `step-own`, `step-opponent` (step)
 pub mod TransferLaws
--- demand 3 about games; the winner is the same: all of the first; `winner-up`, `winner-down`, `winner-quotient`, `winner-reduced`
+-- demand 3 about games: all of it
 pub mod KeptWinners
+-- the winner is the same: `winner-up`, `winner-down`, `winner-quotient`, `winner-reduced`
 pub mod SameWinner
 -- exactly one winner at each vertex of a total game, and who it is: `winner-is`, `determined`, `won-small`, `won-lost`, `won-decided`; `Region` is
 -- for the proof alone

@@ -1,5 +1,5 @@
 // The crate is its specs/: parity games, direct simulation, reduction and the transfer of winners.
-// A crate needs one function; this one is the player's number in a game table, 0 for Even and 1 for Odd, turned over.
+// A crate needs one function; this one gives the opponent's number in a game table, where Even is 0 and Odd 1.
 ghost use mathlib.Core.Path.{_≡_};
 ghost use Prim.Native.Nat.{_+_, _≤_};
 

@@ -1,5 +1,5 @@
--- What the answers of the verdict call mean: "wins" is given exactly where the plan passes and starts at the vertex's class, and is true of the original
--- game.
+-- What the answers of the verdict call mean: "wins" is given exactly where the plan passes and starts at the vertex's class, and is true of the
+-- original game.
 use mathlib.Core.Path.{_≡_, refl, sym, ap, _∙_}
 use mathlib.Core.Logic.{_↔_, _≢_}
 use mathlib.Core.Bool.{Bool}

@@ -1,5 +1,5 @@
--- Laws of the verdict call: it refuses k at p exactly as its table says, gives an answer exactly otherwise, and leaves memory old after 1 to 8, 33 and
--- 21 to 24 alone.
+-- Laws of the verdict call: it refuses k at p exactly as its table says, gives an answer exactly otherwise, and leaves memory old after 1 to 8,
+-- 33 and 21 to 24 alone.
 use mathlib.Core.Path.{_≡_, refl, sym, _∙_}
 use mathlib.Core.Logic.{_↔_}
 use mathlib.Core.List.{List, []}
@@ -140,7 +140,8 @@ module _ {game : List ℕ} {vertex player : ℕ} {plan marks spare classes reduc
       let c = front-fits game vertex marks spare classes reduction (f .tableFits) (f .vertexIn) in
       call .verdict ∙ judge-clean rows (verdictCounts game vertex plan) (clean-append front _ c (clean-plan c (f .accepts)))
 
-  -- ---- after 1 to 8, 33 and 21 to 24 all memory is old; "After 11 to 16 and after either answer, the working memory holds order, classes and reduction."
+  -- ---- after 1 to 8, 33 and 21 to 24 all memory is old; "After 11 to 16 and after either answer, the working memory holds order, classes and
+  -- reduction."
 
   front-numbers : Numbers (λ k. ¬ OfPlan k) front
   unfolding beforePlanRows

@@ -1,4 +1,4 @@
--- A refusal of the reader or of the memory stands; otherwise what the reduced game's call leaves, and what arrives.
+-- A refusal of the reader or of the memory stands; otherwise what the reduced-game call leaves, and what `carry_reduced` answers and writes.
 use mathlib.Core.Path.{ap, refl}
 use Rattle.theory.specs.classes.Reduction.{reduced}
 use Rattle.reduction_edges.specs.Rows.{gameBy}
@@ -18,7 +18,7 @@ reader c = c .before .before .before .before .before .before
 abbrev wrote : tie.After-slice-known9 → tie.After-tabulate-classes
 wrote c = search
 
--- what is left is what the reduced game's call leaves
+-- what is left is what the reduced-game call leaves
 table : (c : tie.After-tabulate-classes)
     → let a = start (reader c .before .before) .args in
     TableCall reduced (a .game .now) (a .marks .now) (a .spare .now) (a .classes .now) (a .reduction .now) (tabulationAnswer (c .tabulate-classes .result))

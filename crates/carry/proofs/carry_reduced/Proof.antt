@@ -1,4 +1,4 @@
--- A refusal of the plan stands; otherwise what arrives, with the counts of the reduced game.
+-- A refusal of the plan stands; otherwise what `carry_to` answers and writes, with the counts of the reduced game.
 use mathlib.Core.Path.{_≡_, sym, ap, _∙_, subst}
 use mathlib.Core.List.{[]}
 use lib.Seq.{length-take-le}

@@ -54,11 +54,11 @@ add-u c = search needs
 mul-u : tie.Need-mul-u Inv-loop μ-loop
 mul-u c = search needs
 
-abbrev at-start-from-slice-known3 : tie.After-slice-known3 Inv-loop μ-loop → tie.Start Inv-loop μ-loop
-at-start-from-slice-known3 c = search
+abbrev vertex-start : tie.After-slice-known3 Inv-loop μ-loop → tie.Start Inv-loop μ-loop
+vertex-start c = search
 
 slice-read-u : tie.Need-slice-read-u Inv-loop μ-loop
-slice-read-u c = expandable-long (at-start-from-slice-known3 c .pre .1)
+slice-read-u c = expandable-long (vertex-start c .pre .1)
 
 cast-u : tie.Need-cast-u Inv-loop μ-loop
 cast-u c = search needs
@@ -71,7 +71,7 @@ start c = before-search (c .before)
 
 next-successor-requires : tie.Need-next-successor-requires Inv-loop μ-loop
 next-successor-requires c κs =
-    let e = at-start-from-slice-known3 c in
+    let e = vertex-start c in
     (e .pre .1 .inside .new-lt, omega arith, e .pre .0 .links .board .well .vertices, e .pre .0 .flags .long)
 
 loop-holds : tie.Need-loop-holds Inv-loop μ-loop

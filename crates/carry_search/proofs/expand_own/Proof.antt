@@ -37,11 +37,11 @@ add-u c = search needs
 mul-u : tie.Need-mul-u
 mul-u c = search needs
 
-abbrev at-start-from-slice-known3 : tie.After-slice-known3 → tie.Start
-at-start-from-slice-known3 c = search
+abbrev vertex-start : tie.After-slice-known3 → tie.Start
+vertex-start c = search
 
 slice-read-u : tie.Need-slice-read-u
-slice-read-u c = expandable-long (at-start-from-slice-known3 c .pre .1)
+slice-read-u c = expandable-long (vertex-start c .pre .1)
 
 cast-u : tie.Need-cast-u
 cast-u c = search needs

@@ -29,15 +29,15 @@ same-length-2 c = search needs
 same-length-3 : tie.Need-same-length-3
 same-length-3 c = search needs
 
-abbrev at-start-from-slice-known6 : tie.After-slice-known6 → tie.Start
-at-start-from-slice-known6 c = search
+abbrev returns-start : tie.After-slice-known6 → tie.Start
+returns-start c = search
 
 abbrev at-fill-relation : tie.After-slice-known6 → tie.After-fill-relation
 at-fill-relation c = search
 
 returns : tie.Need-returns
 returns c =
-    let s = at-start-from-slice-known6 c in
+    let s = returns-start c in
     let x = c .before .before in
     relation-classes _ _ _ _ (s .args .mirror) (s .pre .0) _ _ _ _ _ _ (s .pre .1) (at-fill-relation c .fill-relation .ensures) (x .fill-classes .ensures .0) (x .fill-classes .ensures .1)
 

@@ -38,19 +38,19 @@ lose-all-requires c κs = let s = at-start c in
       ),
     )
 
-abbrev at-start-from-complete-arg2 : tie.After-complete-arg2 → tie.Start
-at-start-from-complete-arg2 c = c .before .before .before .before .before .before .before .before .before .before .before .before .before .before .before .before .before .before .before .before .before .before .before .before .before .before
+abbrev complete-start : tie.After-complete-arg2 → tie.Start
+complete-start c = c .before .before .before .before .before .before .before .before .before .before .before .before .before .before .before .before .before .before .before .before .before .before .before .before .before .before
 
-abbrev at-put-from-complete-arg2 : tie.After-complete-arg2 → tie.After-put
-at-put-from-complete-arg2 c = search
+abbrev complete-put : tie.After-complete-arg2 → tie.After-put
+complete-put c = search
 
 complete-requires : tie.Need-complete-requires
-complete-requires c κs = let p = at-start-from-complete-arg2 c .pre in
+complete-requires c κs = let p = complete-start c .pre in
     let k = c .before .before .before .before .before .before .lose-all .kept in
-    (omega (arith, p .1, k), omega (arith, p .0, at-put-from-complete-arg2 c .put .kept .0, k))
+    (omega (arith, p .1, k), omega (arith, p .0, complete-put c .put .kept .0, k))
 
-abbrev at-start-from-take-all-arg5 : tie.After-take-all-arg5 → tie.Start
-at-start-from-take-all-arg5 c = c .before .before .before .before .before .before .before .before .before .before .before .before .before .before .before .before .before .before .before .before .before .before .before .before .before .before .before .before .before .before .before .before .before .before .before .before
+abbrev take-all-start : tie.After-take-all-arg5 → tie.Start
+take-all-start c = c .before .before .before .before .before .before .before .before .before .before .before .before .before .before .before .before .before .before .before .before .before .before .before .before .before .before .before .before .before .before .before .before .before .before .before .before
 
 abbrev at-lose-all : tie.After-take-all-arg5 → tie.After-lose-all
 at-lose-all c = search
@@ -58,15 +58,15 @@ at-lose-all c = search
 abbrev at-complete : tie.After-take-all-arg5 → tie.After-complete
 at-complete c = search
 
-abbrev at-put-from-take-all-arg5 : tie.After-take-all-arg5 → tie.After-put
-at-put-from-take-all-arg5 c = c .before .before .before .before .before .before .before .before .before .before .before .before .before .before .before .before .before .before .before .before .before .before .before .before .before
+abbrev take-all-put : tie.After-take-all-arg5 → tie.After-put
+take-all-put c = c .before .before .before .before .before .before .before .before .before .before .before .before .before .before .before .before .before .before .before .before .before .before .before .before .before
 
 take-all-requires : tie.Need-take-all-requires
-take-all-requires c κs = let p = at-start-from-take-all-arg5 c .pre in
+take-all-requires c κs = let p = take-all-start c .pre in
     let fit = p .1 in
     let k = at-lose-all c .lose-all .kept in
     let q = at-complete c .complete .kept in
-    ((p .0 .0, omega (arith, fit, k, q), omega (arith, p .0, at-put-from-take-all-arg5 c .put .kept .0, k, q)), (fit .0, fit .1, fit .2))
+    ((p .0 .0, omega (arith, fit, k, q), omega (arith, p .0, take-all-put c .put .kept .0, k, q)), (fit .0, fit .1, fit .2))
 
 same-length : tie.Need-same-length
 same-length c = search needs
@@ -83,8 +83,8 @@ same-length-4 c = search needs
 same-length-5 : tie.Need-same-length-5
 same-length-5 c = search needs
 
-abbrev at-start-from-slice-known13 : tie.After-slice-known13 → tie.Start
-at-start-from-slice-known13 c = c .before .before .before .before .before .before .before .before .before .before .before .before .before .before .before .before .before .before .before .before .before .before .before .before .before .before .before .before .before .before .before .before .before .before .before .before .before .before .before .before .before .before .before
+abbrev returns-start : tie.After-slice-known13 → tie.Start
+returns-start c = c .before .before .before .before .before .before .before .before .before .before .before .before .before .before .before .before .before .before .before .before .before .before .before .before .before .before .before .before .before .before .before .before .before .before .before .before .before .before .before .before .before .before .before
 
 abbrev at-row : tie.After-slice-known13 → tie.After-row
 at-row c = c .before .before .before .before .before .before .before .before .before .before .before .before .before .before .before .before .before .before .before .before .before .before .before .before .before .before .before .before .before .before .before .before .before .before .before
@@ -92,16 +92,16 @@ at-row c = c .before .before .before .before .before .before .before .before .be
 abbrev at-unite : tie.After-slice-known13 → tie.After-unite
 at-unite c = c .before .before .before .before .before .before .before .before .before .before .before .before .before .before .before .before .before .before .before .before .before .before .before .before .before .before .before .before .before .before .before .before .before .before
 
-abbrev at-lose-all-from-slice-known13 : tie.After-slice-known13 → tie.After-lose-all
-at-lose-all-from-slice-known13 c = c .before .before .before .before .before .before .before .before .before .before .before .before .before .before .before .before .before .before .before .before .before .before .before
+abbrev returns-lose-all : tie.After-slice-known13 → tie.After-lose-all
+returns-lose-all c = c .before .before .before .before .before .before .before .before .before .before .before .before .before .before .before .before .before .before .before .before .before .before .before
 
-abbrev at-complete-from-slice-known13 : tie.After-slice-known13 → tie.After-complete
-at-complete-from-slice-known13 c = search
+abbrev returns-complete : tie.After-slice-known13 → tie.After-complete
+returns-complete c = search
 
 returns : tie.Need-returns
-returns c = let a = at-start-from-slice-known13 c .args in
+returns c = let a = returns-start c .args in
     λ G r f m.
-    round-of G _ _ _ _ _ _ _ _ _ r f (λ x h. at-row c .row .ensures x h ∙ cell-row (a .changed .now) x) (at-unite c .unite .ensures) (at-lose-all-from-slice-known13 c .lose-all .ensures) _ _ _ (at-complete-from-slice-known13 c .complete .ensures) m _ _ _ _ (c .before .before .before .before .before .before .take-all .ensures)
+    round-of G _ _ _ _ _ _ _ _ _ r f (λ x h. at-row c .row .ensures x h ∙ cell-row (a .changed .now) x) (at-unite c .unite .ensures) (returns-lose-all c .lose-all .ensures) _ _ _ (returns-complete c .complete .ensures) m _ _ _ _ (c .before .before .before .before .before .before .take-all .ensures)
 
 pub round-spec : {M : Type 1} → statement M
 round-spec =

@@ -19,14 +19,14 @@ begin-requires c κs = let s = at-start c in
 slice-aggregate-settle : tie.Need-slice-aggregate-settle
 slice-aggregate-settle c = search needs
 
-abbrev at-start-from-changed3 : tie.After-changed3 → tie.Start
-at-start-from-changed3 c = c .before .before .before .before .before .before .before .before .before .before .before .before .before .before .before .before .before .before .before .before .before .before .before
+abbrev settle-start : tie.After-changed3 → tie.Start
+settle-start c = c .before .before .before .before .before .before .before .before .before .before .before .before .before .before .before .before .before .before .before .before .before .before .before
 
 abbrev at-begin : tie.After-changed3 → tie.After-begin
 at-begin c = search
 
 settle-requires : tie.Need-settle-requires
-settle-requires c κs = let s = at-start-from-changed3 c in
+settle-requires c κs = let s = settle-start c in
     let fit = s .pre .1 .1 in
     let b = at-begin c .begin in
     let k = b .kept in (

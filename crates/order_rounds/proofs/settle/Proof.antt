@@ -81,20 +81,20 @@ returns : tie.Need-returns Inv-loop μ-loop
 returns c = let r = at-round c in
     after-last _ _ _ _ _ _ _ _ _ _ _ (r .before .before .before .before .before .before .loop .inv .6) (done r) (c .if1 .taken)
 
-abbrev at-round-from-else1 : tie.Else1 Inv-loop μ-loop → tie.After-round Inv-loop μ-loop
-at-round-from-else1 c = search
+abbrev again-round : tie.Else1 Inv-loop μ-loop → tie.After-round Inv-loop μ-loop
+again-round c = search
 
 -- one pass more
-more : (c : tie.Else1 Inv-loop μ-loop) → let r = at-round-from-else1 c in
+more : (c : tie.Else1 Inv-loop μ-loop) → let r = again-round c in
     AfterRound (start (r .before .before .before .before .before .before) .args .mirror) (gameOf (start (r .before .before .before .before .before .before) .args .game .now)) (r .before .before .before .before .before .before .loop .passes + 1) (cell (r .round .last .1 .0)) (struck (r .round .last .1 .1 .1 .1 .1 .0) (r .round .last .1 .1 .0))
-more c = let r = at-round-from-else1 c in after-more _ _ _ _ _ _ _ _ _ _ _ (r .before .before .before .before .before .before .loop .inv .6) (done r) (c .if1 .left)
+more c = let r = again-round c in after-more _ _ _ _ _ _ _ _ _ _ _ (r .before .before .before .before .before .before .loop .inv .6) (done r) (c .if1 .left)
 
 loop-less : tie.Need-loop-less Inv-loop μ-loop
 unfolding gameOf
 loop-less c = omega (arith, more c .pass .few)
 
 loop-again : tie.Need-loop-again Inv-loop μ-loop
-loop-again c = let r = at-round-from-else1 c in
+loop-again c = let r = again-round c in
     let i = r .before .before .before .before .before .before .loop .inv in
     let k = r .round .kept in (
       k .1 .0 ∙ i .0,

@@ -51,12 +51,12 @@ first-returning-requires c κs =
       zeros positionLimit,
     )
 
-abbrev at-start-from-queue2 : tie.After-queue2 → tie.Start
-at-start-from-queue2 c = search
+abbrev returns-start : tie.After-queue2 → tie.Start
+returns-start c = search
 
 returns : tie.Need-returns
 returns c =
-    let e = at-start-from-queue2 c in
+    let e = returns-start c in
     c .before .before .first-returning .ensures ∙ first-return-same (e .args .plan .now) (e .args .starts .now) (e .args .targets .now) (e .pre .1) (e .args .game .now) _ (e .args .player) (c .before .before .before .before .before .before .before .fill-priorities .ensures)
 
 pub first-return-spec : {M : Type 1} → statement M

@@ -1,4 +1,4 @@
--- A reducer that is done when it is done. In a game of classes the order compares two classes as the order of the game compares their lowest
+-- The reduced game reduced again. In a game of classes the order compares two classes as the order of the game compares their lowest
 -- members. So it is antisymmetric, each class is a class by itself, and has as quotient edges its edges. In the reduced game no edge
 -- stands beside one that is at least as good for the owner, so nothing is dropped either: reduced again, it is itself.
 use mathlib.Core.Path.{_≡_, sym, ap, ap₂, _∙_, subst}

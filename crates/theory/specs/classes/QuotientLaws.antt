@@ -85,9 +85,6 @@ module _ (g : Game) where
 
   -- ---- lemma 1: a quotient edge above each successor. c is a's, with successor c′. Among the successors of a's members of c's class
   -- that are no worse than c′ take a maximal one, m′, of the member m: every member x of the class has a successor in the class of m′.
-  -- If x is a's: m is no better than x, so some successor of x is no worse than m′, and by maximality it is no better either.
-  -- If x is the opponent's: m is no better than x, so m′ is no better than any successor of x; x is no better than m, so some successor x₁
-  -- of x is no better than some successor m₁ of m. So m′, x₁, m₁ ascend, and by maximality m₁ is no better than m′: all three share a class.
 
   module _ (a : Player) (c c′ : ℕ) (hc : c < g .n) (oc : So (own g a c)) (move : Succ g c c′) where
     le : Rel
@@ -113,6 +110,9 @@ module _ (g : Game) where
           maximal y (s .inside)
           (candidate-in x y hx ox xc (s .along) (noBetter-trans a c′ m′ y (move .inside) hm′ (s .inside) up b)) b
 
+      -- If x is a's, some successor of x is no worse than m′, since m is no better than x, and by maximality it is no better either. If x is the
+      -- opponent's, m′ is no better than any successor of x, and some successor x₁ of x is no better than some successor m₁ of m, since x is no
+      -- better than m. So m′, x₁, m₁ ascend, and by maximality m₁ is no better than m′: all three share a class.
       member : (x : ℕ) → x < g .n → So (sameClass (order g) x c) → (p q : Bool) → own g a m ≡ p → So p → own g a x ≡ q
           → Moves p q (Succ g m) (Succ g x) (Below a g g) → Moves q p (Succ g x) (Succ g m) (Below a g g)
           → (y : ℕ) × Succ g x y × So (sameClass (order g) y m′)

@@ -1,5 +1,5 @@
 -- Tests as Bools, and their connectives. A test b holds where `So b`, that is `b ≡ true`.
--- The connectives are the library's `&&` and `||` and an implication, as definitions that stay shut: a statement about them keeps its parts.
+-- The connectives are the library's `&&` and `||` and an implication, as definitions that unfold only where asked: a statement keeps its parts.
 use mathlib.Core.Bool.{Bool, true, false}
 use Prim.Native.Nat.{ℕ}
 

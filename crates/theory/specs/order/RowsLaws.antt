@@ -1,7 +1,6 @@
--- Laws of rows: the pair test by rows is the pair test (`test-rows`); what leaves the controllable predecessors of a set (`fall-is`); under all
--- pairs every pair passes (`fallen-start`); a round takes out exactly what fails under the rows before it (`round-passes`), leaves the ground
--- for the next round (`fallen-next`, `mirrored-next`), and leaves alone each row no successor of which lost anything (`loses-none`). So rounds are
--- the passes of either relation (`round-start`, `round-next`, `last-count`, `last-left`).
+-- Laws of rows: the pair test by rows is the pair test (`test-rows`); under all pairs every pair passes (`fallen-start`); a round takes out
+-- what fails under the rows before it (`round-passes`), so that the next can follow (`fallen-next`, `mirrored-next`), and no row whose successors
+-- lost nothing changes (`loses-none`). So rounds are the passes of either relation (`round-start`, `round-next`, `last-count`, `last-left`).
 use mathlib.Core.Path.{_≡_, refl, sym, ap, ap₂, _∙_}
 use mathlib.Core.Logic.{_⊎_, inl, inr}
 use mathlib.Core.Bool.{Bool, true, false, not, cond, So}

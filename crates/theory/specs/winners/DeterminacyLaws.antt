@@ -1,7 +1,6 @@
 -- Determinacy: each vertex of a total game is won by exactly one player, who has a plan of the game's size for it. By Zielonka's recursion:
--- a is the player of the lowest priority's parity, A what a attracts to the vertices that have it. Solve the subgame without A. If the opponent
--- wins nothing there, a wins everywhere: a play stays there for ever, or comes to the lowest priority again and again. Else what the opponent wins
--- there the opponent wins in the subgame; solve what is left without that and its attractor. Either way the subgame gets smaller.
+-- a is the player of the lowest priority's parity, A what a attracts to the vertices that have it, and the subgame without A is solved. Where
+-- the opponent wins nothing there, a wins everywhere; else the opponent wins that in the whole, and the subgame without its attractor is solved.
 use mathlib.Core.Path.{_≡_, refl, sym, ap, _∙_, subst}
 use mathlib.Core.Logic.{_⊎_, inl, inr, _↔_}
 use mathlib.Core.Bool.{Bool, true, false, not, cond, So, false≢true, Bool·not-not}

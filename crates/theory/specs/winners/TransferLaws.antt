@@ -1,7 +1,6 @@
--- A winning plan is carried along a simulation: if H relates x to y for a player, a plan of that player's from x gives one from y.
+-- A winning plan is carried along a simulation that relates x to y for a player: from x to y (`CarryLaws` puts the two parts together).
 -- Core: a plan that projects to a winning one wins, since its closed walks project to closed walks with the same priorities.
 -- Step: at a related pair of a position and a vertex the simulation finds the next pair, or one for each move of the opponent's.
--- (`CarryLaws` puts them together.)
 use mathlib.Core.Path.{_≡_, refl, sym, subst}
 use mathlib.Core.Bool.{Bool, true, false, So, true≢false, false≢true}
 use mathlib.Core.List.{map}

@@ -37,11 +37,11 @@ returns-3 c = let a = at-start c .args in
 is-marked-requires-2 : tie.Need-is-marked-requires-2
 is-marked-requires-2 c κs = search needs
 
-abbrev at-start-from-is-marked2 : tie.After-is-marked2 → tie.Start
-at-start-from-is-marked2 c = search
+abbrev reverse-start : tie.After-is-marked2 → tie.Start
+reverse-start c = search
 
 returns-4 : tie.Need-returns-4
-returns-4 c = let a = at-start-from-is-marked2 c .args in
+returns-4 c = let a = reverse-start c .args in
     ap not (c .is-marked2 .ensures)
     ∙ sym (fails-reverse (a .game .now) (a .marks .now) (a .v) (a .w) (a .mirror) (c .before .before .before .before .if2 .left) (sym (c .before .before .before .before .before .before .test-fails .ensures) ∙ c .before .before .before .before .before .if1 .left)
     (sym (c .before .before .is-marked .ensures) ∙ not-false _ (c .before .if3 .left)))

@@ -50,12 +50,12 @@ at-start c = search
 row-requires-2 : tie.Need-row-requires-2 Inv-loop μ-loop
 row-requires-2 c κs = let i = c .before .before .loop .inv in omega (arith, i .1, at-start c .pre, c .before .loop-test .taken)
 
-abbrev at-start-from-lose-column-arg2 : tie.After-lose-column-arg2 Inv-loop μ-loop → tie.Start Inv-loop μ-loop
-at-start-from-lose-column-arg2 c = search
+abbrev lose-column-start : tie.After-lose-column-arg2 Inv-loop μ-loop → tie.Start Inv-loop μ-loop
+lose-column-start c = search
 
 lose-column-requires : tie.Need-lose-column-requires Inv-loop μ-loop
 lose-column-requires c κs = let i = c .before .before .before .before .before .loop .inv in
-    let p = at-start-from-lose-column-arg2 c .pre in (omega (arith, i .1, p), omega (arith, i .2, p), c .before .before .before .before .loop-test .taken)
+    let p = lose-column-start c .pre in (omega (arith, i .1, p), omega (arith, i .2, p), c .before .before .before .before .loop-test .taken)
 
 slice-aggregate-first-from-2 : tie.Need-slice-aggregate-first-from-2 Inv-loop μ-loop
 slice-aggregate-first-from-2 c = search needs
@@ -97,12 +97,12 @@ same-length c = search needs
 same-length-2 : tie.Need-same-length-2 Inv-loop μ-loop
 same-length-2 c = search needs
 
-abbrev at-start-from-loop : tie.After-loop Inv-loop μ-loop → tie.Start Inv-loop μ-loop
-at-start-from-loop c = search
+abbrev returns-start : tie.After-loop Inv-loop μ-loop → tie.Start Inv-loop μ-loop
+returns-start c = search
 
 returns-2 : tie.Need-returns-2 Inv-loop μ-loop
 returns-2 c = let i = c .before .loop .inv in
-    let a = at-start-from-loop c .args in
+    let a = returns-start c .args in
     mirror-end _ (a .next .now) (a .losing .now) (c .before .before .before .before .row .ensures) (a .mirror) (c .before .before .before .before .before .before .if1 .left) _ _ _ (omega (arith, i .0 .0, c .loop-test .left)) (i .3)
 
 pub complete-spec : {M : Type 1} → statement M

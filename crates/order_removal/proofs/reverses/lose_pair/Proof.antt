@@ -43,8 +43,8 @@ same-length-3 c = search needs
 same-length-4 : tie.Need-same-length-4
 same-length-4 c = search needs
 
-abbrev at-start-from-slice-known6 : tie.After-slice-known6 → tie.Start
-at-start-from-slice-known6 c = c .before .before .before .before .before .before .before .before .before .before .before .before .before .before .before .before .before
+abbrev new-start : tie.After-slice-known6 → tie.Start
+new-start c = c .before .before .before .before .before .before .before .before .before .before .before .before .before .before .before .before .before
 
 abbrev at-holds : tie.After-slice-known6 → tie.After-holds
 at-holds c = search
@@ -56,9 +56,9 @@ abbrev at-put : tie.After-slice-known6 → tie.After-put
 at-put c = search
 
 returns-2 : tie.Need-returns-2
-returns-2 c = let a = at-start-from-slice-known6 c .args in
+returns-2 c = let a = new-start c .args in
     let off = sym (at-holds c .holds .ensures) ∙ at-else1 c .if1 .left in
-    pair-new _ _ _ _ _ _ _ _ (at-start-from-slice-known6 c .pre .2) (sym (cell-row (a .losing .now) (a .w)) ∙ off) (has-zero rowWords) (at-put c .put .ensures) (c .before .before .before .before .before .before .add2 .ensures) (c .before .before .add3 .ensures)
+    pair-new _ _ _ _ _ _ _ _ (new-start c .pre .2) (sym (cell-row (a .losing .now) (a .w)) ∙ off) (has-zero rowWords) (at-put c .put .ensures) (c .before .before .before .before .before .before .add2 .ensures) (c .before .before .add3 .ensures)
 
 pub lose-pair-spec : {M : Type 1} → statement M
 lose-pair-spec =

@@ -69,14 +69,14 @@ add-first-from c = search needs
 first-from-requires-2 : tie.Need-first-from-requires-2 Inv-loop μ-loop
 first-from-requires-2 c κs = search needs
 
-abbrev at-loop-from-first-from2 : tie.After-first-from2 Inv-loop μ-loop → tie.At-loop Inv-loop μ-loop
-at-loop-from-first-from2 c = search
+abbrev next-loop : tie.After-first-from2 Inv-loop μ-loop → tie.At-loop Inv-loop μ-loop
+next-loop c = search
 
 abbrev at-in-loop : tie.After-first-from2 Inv-loop μ-loop → tie.In-loop Inv-loop μ-loop
 at-in-loop c = search
 
 loop-less : tie.Need-loop-less Inv-loop μ-loop
-loop-less c = let l = at-loop-from-first-from2 c in
+loop-less c = let l = next-loop c in
     omega (arith, first-ge (has (start l .args .losing .now)) (l .loop .a + 1) rowBits, c .first-from2 .ensures, at-in-loop c .loop-test .taken)
 
 loop-again : tie.Need-loop-again Inv-loop μ-loop

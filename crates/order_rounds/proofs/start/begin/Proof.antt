@@ -63,15 +63,15 @@ row-requires c κs = let l = at-loop c in
 is-some-requires : tie.Need-is-some-requires Inv-loop μ-loop
 is-some-requires c κs = search needs
 
-abbrev at-loop-from-is-some : tie.After-is-some Inv-loop μ-loop → tie.At-loop Inv-loop μ-loop
-at-loop-from-is-some c = search
+abbrev add-loop : tie.After-is-some Inv-loop μ-loop → tie.At-loop Inv-loop μ-loop
+add-loop c = search
 
-abbrev at-in-loop-from-is-some : tie.After-is-some Inv-loop μ-loop → tie.In-loop Inv-loop μ-loop
-at-in-loop-from-is-some c = search
+abbrev add-in-loop : tie.After-is-some Inv-loop μ-loop → tie.In-loop Inv-loop μ-loop
+add-in-loop c = search
 
 add-requires : tie.Need-add-requires Inv-loop μ-loop
-add-requires c κs = let l = at-loop-from-is-some c in
-    let s = start l in (omega (arith, l .loop .inv .4, s .pre .1 .1 .1 .0), omega (arith, at-in-loop-from-is-some c .loop-test .taken, s .pre .0 .vertices))
+add-requires c κs = let l = add-loop c in
+    let s = start l in (omega (arith, l .loop .inv .4, s .pre .1 .1 .1 .0), omega (arith, add-in-loop c .loop-test .taken, s .pre .0 .vertices))
 
 add-v : tie.Need-add-v Inv-loop μ-loop
 add-v c = search needs
@@ -79,20 +79,20 @@ add-v c = search needs
 loop-less : tie.Need-loop-less Inv-loop μ-loop
 loop-less c = search needs
 
-abbrev at-loop-from-slice-known8 : tie.After-slice-known8 Inv-loop μ-loop → tie.At-loop Inv-loop μ-loop
-at-loop-from-slice-known8 c = c .before .before .before .before .before .before .before .before .before .before .before .before .before .before .before .before .before .before
+abbrev again-loop : tie.After-slice-known8 Inv-loop μ-loop → tie.At-loop Inv-loop μ-loop
+again-loop c = c .before .before .before .before .before .before .before .before .before .before .before .before .before .before .before .before .before .before
 
-abbrev at-start-row-from-slice-known8 : tie.After-slice-known8 Inv-loop μ-loop → tie.After-start-row Inv-loop μ-loop
-at-start-row-from-slice-known8 c = search
+abbrev again-start-row : tie.After-slice-known8 Inv-loop μ-loop → tie.After-start-row Inv-loop μ-loop
+again-start-row c = search
 
-abbrev at-in-loop-from-slice-known8 : tie.After-slice-known8 Inv-loop μ-loop → tie.In-loop Inv-loop μ-loop
-at-in-loop-from-slice-known8 c = c .before .before .before .before .before .before .before .before .before .before .before .before .before .before .before .before .before
+abbrev again-in-loop : tie.After-slice-known8 Inv-loop μ-loop → tie.In-loop Inv-loop μ-loop
+again-in-loop c = c .before .before .before .before .before .before .before .before .before .before .before .before .before .before .before .before .before
 
 loop-again : tie.Need-loop-again Inv-loop μ-loop
-loop-again c = let l = at-loop-from-slice-known8 c in
+loop-again c = let l = again-loop c in
     let i = l .loop .inv in
-    let r = at-start-row-from-slice-known8 c .start-row in (
-      omega (arith, at-in-loop-from-slice-known8 c .loop-test .taken),
+    let r = again-start-row c .start-row in (
+      omega (arith, again-in-loop c .loop-test .taken),
       r .kept .1 .1 .0 ∙ i .1,
       r .kept .1 .1 .1 .0 ∙ i .2,
       r .kept .1 .1 .1 .1 .0 ∙ i .3,

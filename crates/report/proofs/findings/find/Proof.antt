@@ -63,14 +63,14 @@ same-length-5 c = search needs
 same-length-6 : tie.Need-same-length-6
 same-length-6 c = search needs
 
-abbrev at-fill-memory-from-write-totals : tie.After-write-totals → tie.After-fill-memory
-at-fill-memory-from-write-totals c = search
+abbrev returns-fill-memory : tie.After-write-totals → tie.After-fill-memory
+returns-fill-memory c = search
 
 returns-2 : tie.Need-returns-2
 unfolding gameBy
 returns-2 c =
     let d = c .before .before .before .before in
-    let f = at-fill-memory-from-write-totals d in
+    let f = returns-fill-memory d in
     let t = told f in
     reported-accepted (f .fill-memory .ensures) (d .write-totals .ensures) _ _ (t .enum-told .given .1) (t .before .before .read .ensures)
 

@@ -47,11 +47,11 @@ mul-two-2 c = search needs
 shared-slice-read-two-2 : tie.Need-shared-slice-read-two-2 Inv-loop μ-loop
 shared-slice-read-two-2 c = search needs
 
-abbrev at-loop-from-shared-slice-known4 : tie.After-shared-slice-known4 Inv-loop μ-loop → tie.At-loop Inv-loop μ-loop
-at-loop-from-shared-slice-known4 c = search
+abbrev edges-loop : tie.After-shared-slice-known4 Inv-loop μ-loop → tie.At-loop Inv-loop μ-loop
+edges-loop c = search
 
 cast-two-2 : tie.Need-cast-two-2 Inv-loop μ-loop
-cast-two-2 c = omega (arith, c .shared-slice-known4 .given (at-loop-from-shared-slice-known4 c .loop .c))
+cast-two-2 c = omega (arith, c .shared-slice-known4 .given (edges-loop c .loop .c))
 
 two-requires : tie.Need-two-requires Inv-loop μ-loop
 two-requires c κs = search needs
