@@ -4,7 +4,7 @@ pub mod RunState
 pub mod TraceLaws
 pub mod PaddedLaws
 pub mod RunLaws
-pub mod RunningLaws
+pub mod RunStateLaws
 pub mod TraceRules
 pub mod TraceRulesLaws
 pub mod ParityLaws

@@ -6,7 +6,7 @@ use lib.ListN.{length}
 use Rattle.edit_trace.specs.Trace.{entryCount}
 use Rattle.edit_trace.specs.TraceLaws.{trace-length, trace-few}
 use Rattle.edit_trace.specs.RunState.{RunState}
-use Rattle.edit_trace.specs.RunningLaws.{running-start, running-next, running-end, running-stop}
+use Rattle.edit_trace.specs.RunStateLaws.{running-start, running-next, running-end, running-stop}
 use borrow.Author.Needs.{needs}
 use Rattle.edit_trace.proofs.run_entries.Statement.{statement}
 use Rattle.edit_trace.proofs.run_entries.Tie as tie
