@@ -1,7 +1,5 @@
 pub mod Winners
 pub mod WinnersLaws
-pub mod ReducedTwice
-pub mod ReducedTwiceLaws
 pub mod VerdictWinners
 pub mod VerdictWinnersLaws
 pub mod SameVerdictLaws

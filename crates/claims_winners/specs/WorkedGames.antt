@@ -1,28 +1,18 @@
--- The sentences applied to game D of `claims`: Even wins at vertex 5, and so at its class; and D reduced twice.
+-- The sentences applied to game D of `claims`: Even wins at vertex 5, and so at its class.
 use mathlib.Core.Path.{_≡_, refl, sym, _∙_}
 use mathlib.Core.List.{List, [], _∷_}
 use Prim.Native.Nat.{ℕ}
 use native.Mathlib.Omega.{arith}
 use Rattle.theory.specs.games.Game.{even}
 use Rattle.theory.specs.winners.DeterminacyLaws.{winner, winner-is}
-use Rattle.theory.specs.classes.Reduction.{reduced}
 use Rattle.table.specs.Table.{gameOf}
 use Rattle.table.specs.TableLaws.{game-total}
-use Rattle.table.specs.Answers.{Row, accepted, judge, after}
 use Rattle.table.specs.WellFormed.{WellFormed}
-use Rattle.order.specs.OrderCall.{orderBytes}
-use Rattle.classes.specs.ClassesCall.{classWords}
-use Rattle.reduction.specs.TableCall.{tableRows, tableCounts, classTable, TableCall}
 use Rattle.reduction.specs.TableRulesLaws.{table-accepted}
-use Rattle.claims.specs.WrittenMemory.{writtenTable}
 use Rattle.claims.specs.Demands.{reduced-faithful}
 use Rattle.claims.specs.WorkedGames.{gameD, callD, won-5}
 use Rattle.claims_winners.specs.Winners.{Decided}
 use Rattle.claims_winners.specs.WinnersLaws.{decided, table-winners}
-use Rattle.claims_winners.specs.ReducedTwice.{Room}
-use Rattle.claims_winners.specs.ReducedTwiceLaws.{accepts-again, same-again}
-
--- ---- who wins
 
 wellD : WellFormed gameD
 wellD = table-accepted callD _ refl .0 .classesFit .orderFits .game
@@ -41,21 +31,3 @@ tableD = 5 ∷ 6 ∷ 2 ∷ 0 ∷ 0 ∷ 1 ∷ 4 ∷ 0 ∷ 0 ∷ 0 ∷ 0 ∷ 0 ∷
 
 pub winner-class : winner (gameOf tableD) 0 ≡ even
 winner-class = sym (table-winners reduced-faithful callD 5 5 6 refl .same 5 (omega arith)) ∙ winner-5
-
--- ---- the second call, whatever it finds in its buffers: where they are long enough for 5 vertices and 6 edges it writes the same table again
-
-module _ (marks spare classes output : List ℕ) where
-  abbrev rows : List Row
-  rows = tableRows tableD marks spare classes output
-
-  call-again : TableCall reduced tableD marks spare classes output (judge rows (tableCounts reduced tableD))
-      (after rows (orderBytes tableD) marks) (after rows (orderBytes tableD) spare) (after rows (classWords tableD) classes)
-      (after rows (classTable reduced tableD) output)
-  call-again = record { verdict = refl; marks-after = refl; spare-after = refl; classes-after = refl; output-after = refl }
-
-  module _ (room : Room 5 6 marks spare classes output) where
-    pub again-counts : judge rows (tableCounts reduced tableD) ≡ accepted (5 ∷ 5 ∷ 6 ∷ [])
-    again-counts = accepts-again callD 5 5 6 refl call-again room
-
-    pub again-table : writtenTable 5 6 (after rows (classTable reduced tableD) output) ≡ tableD
-    again-table = same-again callD 5 5 6 refl call-again _ again-counts .table

@@ -1,5 +1,5 @@
-// Who wins. Each function makes a call of the library, or two in a row, and its promise is what specs/ says of the slices after it: at
-// each vertex exactly one player wins, the winner at a vertex is the winner at its class, and the reduced game reduced again is itself.
+// Who wins. Each function makes a call of the library, and its promise is what specs/ says of the slices after it: at each vertex exactly one
+// player wins, and the winner at a vertex is the winner at its class.
 use carry::ClassCarrying;
 use order::Ordering;
 use reduction::Tabulation;
@@ -11,13 +11,6 @@ ghost use Rattle.reduction.specs.TableCall.{tabulationAnswer};
 ghost use Rattle.carry.specs.CarryCall.{classCarryingAnswer};
 ghost use Rattle.verdict.specs.VerdictCall.{verdictAnswer};
 ghost use Rattle.claims_winners.specs.Winners.{OrderDecides, TableDecides, CarryDecides, VerdictDecides};
-ghost use Rattle.claims_winners.specs.ReducedTwice.{ReducesTwice};
-
-// The verdicts of two calls in a row.
-pub struct Twice {
-    pub first: Tabulation,
-    pub second: Tabulation,
-}
 
 // Writes the order.
 pub fn orders(game: &[u16], marks: &mut [u8], spare: &mut [u8]) -> Ordering
@@ -105,40 +98,4 @@ pub fn gives_verdict(
         ⌝ }
 {
     verdict::give_verdict(game, vertex, player, plan, marks, spare, classes, reduction)
-}
-
-// Writes the reduced game, and then the reduced game of what was written, in a second set of buffers.
-pub fn reduces_twice(
-    game: &[u16],
-    marks: &mut [u8],
-    spare: &mut [u8],
-    classes: &mut [u16],
-    output: &mut [u16],
-    next_marks: &mut [u8],
-    next_spare: &mut [u8],
-    next_classes: &mut [u16],
-    next_output: &mut [u16],
-) -> Twice
-    ensures { λ r. ⌜
-        ReducesTwice (old game) (old marks) (old spare) (old classes) (old output)
-        (old «next_marks») (old «next_spare») (old «next_classes») (old «next_output») r
-        (new marks) (new spare) (new classes) (new output) (new «next_marks») (new «next_spare») (new «next_classes») (new «next_output»)
-        ⌝ }
-{
-    let first = reduction::write_reduced(game, marks, spare, classes, output);
-    let Tabulation::Accepted(counts) = first else {
-        return Twice {
-            first,
-            second: first,
-        };
-    };
-    let size = 2 + 2 * counts.vertices + 2 * counts.edges;
-    let second = reduction::write_reduced(
-        &output[..size],
-        next_marks,
-        next_spare,
-        next_classes,
-        next_output,
-    );
-    Twice { first, second }
 }

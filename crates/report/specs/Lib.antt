@@ -1,6 +1,1 @@
-pub mod Words
-pub mod WordsLaws
-pub mod Findings
-pub mod ReportMemory
-pub mod FindingsLaws
-pub mod LinesLaws
+pub mod Page

@@ -1,10 +1,9 @@
-// The report on a game table: reads it from standard input and prints what `findings::find_from_bytes` answers.
-mod findings;
+// The report on a game table: reads it from standard input and prints what `report_findings` finds.
 mod print;
-mod words;
 
 use libc::STDIN_FILENO;
-use reduction_totals::Totals;
+use report_findings::Report;
+use report_findings::findings;
 use table::Reading;
 use table::Sizes;
 use table::limits::PAIR_BYTES;
@@ -13,25 +12,15 @@ use table::limits::VERTICES;
 ghost use Prim.Native.Nat.{_*_, _≤_};
 ghost use lib.ListN.{length};
 ghost use Rattle.table.specs.Lent.{old};
-ghost use Rattle.report.specs.Words.{readLimit};
-ghost use Rattle.report.specs.ReportMemory.{AtMost, OnPage};
+ghost use Rattle.report_findings.specs.Words.{readLimit};
+ghost use Rattle.report_findings.specs.ReportMemory.{AtMost};
+ghost use Rattle.report.specs.Page.{OnPage};
 
 // Reading stops after a word more than the longest table has.
 const READ_WORDS: usize = TABLE_WORDS + 1;
 
 // Output is written in blocks of so many bytes.
 const PAGE: usize = 4096;
-
-// The reader's verdict; for an accepted game also the counts of passes and of classes, the sums of the classes' members and edges, and the
-// counts of the reduced game's vertices and edges.
-pub struct Report {
-    pub verdict: Reading,
-    pub passes: u32,
-    pub classes: usize,
-    pub totals: Totals,
-    pub vertices: usize,
-    pub edges: usize,
-}
 
 // The first lines of an accepted game: its sizes, passes and classes. Like those below, returns where the page goes on.
 fn print_sizes(page: &mut [u8], at: usize, sizes: Sizes, passes: u32, classes: usize) -> usize

@@ -3,7 +3,7 @@ use libc::STDOUT_FILENO;
 ghost use Prim.Native.Nat.{_<_, _≤_};
 ghost use lib.ListN.{length};
 ghost use Rattle.table.specs.Lent.{old};
-ghost use Rattle.report.specs.ReportMemory.{OnPage};
+ghost use Rattle.report.specs.Page.{OnPage};
 
 // Writes what the page holds before `at`.
 pub fn flush(page: &[u8], at: usize)

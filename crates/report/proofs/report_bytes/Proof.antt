@@ -1,6 +1,6 @@
 -- The arrays are enough for any accepted game, and its vertices and classes are few enough to print.
 use native.Mathlib.Omega.{arith}
-use Rattle.report.specs.FindingsLaws.{reported-small, reported-classes}
+use Rattle.report_findings.specs.FindingsLaws.{reported-small, reported-classes}
 use borrow.Author.Needs.{needs}
 use Rattle.report.proofs.report_bytes.Statement.{statement}
 use Rattle.report.proofs.report_bytes.Tie as tie

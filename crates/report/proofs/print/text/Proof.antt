@@ -3,7 +3,7 @@ use mathlib.Core.Path.{_≡_}
 use lib.ListN.{length}
 use Prim.Native.Nat.{_≤_, _-_}
 use borrow.Author.Needs.{needs}
-use Rattle.report.specs.ReportMemory.{OnPage}
+use Rattle.report.specs.Page.{OnPage}
 use Rattle.report.proofs.print.text.Statement.{statement}
 use Rattle.report.proofs.print.text.Tie as tie
 

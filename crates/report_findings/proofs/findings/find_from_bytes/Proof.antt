@@ -3,11 +3,11 @@ use mathlib.Core.Path.{sym}
 use Prim.Native.Nat.{_≤_}
 use lib.ListN.{length}
 use lib.Seq.{length-take-le}
-use Rattle.report.specs.FindingsLaws.{reported-same}
-use Rattle.report.specs.WordsLaws.{decoded-inside, decoded-words}
+use Rattle.report_findings.specs.FindingsLaws.{reported-same}
+use Rattle.report_findings.specs.WordsLaws.{decoded-inside, decoded-words}
 use borrow.Author.Needs.{needs}
-use Rattle.report.proofs.findings.find_from_bytes.Statement.{statement}
-use Rattle.report.proofs.findings.find_from_bytes.Tie as tie
+use Rattle.report_findings.proofs.findings.find_from_bytes.Statement.{statement}
+use Rattle.report_findings.proofs.findings.find_from_bytes.Tie as tie
 
 inside : (c : tie.After-decode) → c .decode .result ≤ length (c .decode .last .1 .0)
 inside c = decoded-inside _ _ _ _ (c .decode .ensures .0) (c .decode .ensures .1)

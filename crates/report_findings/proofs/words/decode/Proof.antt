@@ -7,11 +7,11 @@ use Rattle.theory.specs.logic.Range.{tabulate}
 use Rattle.table.specs.Answers.{written}
 use Rattle.table.specs.AnswersLaws.{written-start, written-more}
 use Rattle.theory.specs.logic.ListLaws.{length-tabulate}
-use Rattle.report.specs.Words.{wordAt, wordsIn, wordsOf}
-use Rattle.report.specs.WordsLaws.{words-end}
+use Rattle.report_findings.specs.Words.{wordAt, wordsIn, wordsOf}
+use Rattle.report_findings.specs.WordsLaws.{words-end}
 use borrow.Author.Needs.{needs}
-use Rattle.report.proofs.words.decode.Statement.{statement}
-use Rattle.report.proofs.words.decode.Tie as tie
+use Rattle.report_findings.proofs.words.decode.Statement.{statement}
+use Rattle.report_findings.proofs.words.decode.Tie as tie
 
 abbrev Inv-loop : tie.InvT-loop
 Inv-loop bytes words₀ i₀ words i =

@@ -19,9 +19,9 @@ use Rattle.reduction.specs.TableCallLaws.{sized}
 use Rattle.reduction_totals.specs.Totals.{memberWords, edgeWords, memberTotal, edgeTotal}
 use Rattle.reduction_totals.specs.TotalsLaws.{member-total-all, edge-total-all}
 use Rattle.reduction_totals.specs.CountingLaws.{sum-written}
-use Rattle.report.specs.declared.Report.{Report}
-use Rattle.report.specs.Findings.{number, Reported}
-use Rattle.report.specs.FindingsLaws.{number-accepted}
+use Rattle.report_findings.specs.declared.Report.{Report}
+use Rattle.report_findings.specs.Findings.{number, Reported}
+use Rattle.report_findings.specs.FindingsLaws.{number-accepted}
 
 module _ {g classes members edges classes′ members′ edges′ : List ℕ} {r : Report} (d : Reported g classes members edges r classes′ members′ edges′) where
   -- the edges of `total` are those of `reduced`, whatever the verdict

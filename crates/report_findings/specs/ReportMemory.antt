@@ -1,7 +1,7 @@
--- Memory for any accepted game, how many vertices such a game has, and where a page goes on.
+-- Memory for any accepted game, and how many vertices such a game has.
 use mathlib.Core.Path.{_≡_}
 use mathlib.Core.List.{List}
-use Prim.Native.Nat.{ℕ, _≤_, _<_}
+use Prim.Native.Nat.{ℕ, _≤_}
 use lib.ListN.{length}
 use Rattle.table.specs.Limits.{vertexLimit, tableLimit}
 use Rattle.table.specs.declared.Sizes.{Sizes}
@@ -20,7 +20,3 @@ pub record Enough (marks spare output classes members edges : List ℕ) : Type 0
 -- a game that is accepted has at most n vertices
 pub record AtMost (n : ℕ) (verdict : Reading) : Type 0 where
   pub fits : (c : Sizes) → verdict ≡ Reading.Accepted c → c .vertices ≤ n
-
--- output goes on at a place of a page of so many bytes, which isn't empty
-abbrev pub OnPage : ℕ → ℕ → Type 0
-OnPage size at = (at ≤ size) × (0 < size)

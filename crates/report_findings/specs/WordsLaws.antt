@@ -6,7 +6,7 @@ use native.Mathlib.Omega.{arith}
 use lib.ListN.{length, getD, take, drop, length-append, List·getD-eq-default}
 use lib.Seq.{take-at}
 use Rattle.table.specs.Answers.{written}
-use Rattle.report.specs.Words.{wordAt, wordsIn, wordsOf}
+use Rattle.report_findings.specs.Words.{wordAt, wordsIn, wordsOf}
 
 -- the last half word
 pub half-word : (bytes : List ℕ) (i : ℕ) → length bytes ≤ 2 * i + 1 → wordAt bytes i ≡ getD bytes (2 * i) 0

@@ -32,7 +32,7 @@ use Rattle.reduction.specs.declared.Tabulation.{Tabulation}
 use Rattle.reduction.specs.TableRulesLaws.{table-accepted, table-accepts, table-clean}
 use Rattle.claims.specs.WrittenMemory.{writtenTable}
 use Rattle.claims.specs.Demands.{reduced-faithful, counts, table-is, table-edges, table-read, table-leaves-marks, table-leaves-classes, written-mark, class-word}
-use Rattle.claims_winners.specs.ReducedTwice.{Room, SameAgain, ReducesTwice}
+use Rattle.claims_twice.specs.ReducedTwice.{SecondFits, SameAgain, ReducesTwice}
 
 -- an output that holds a table of n vertices and e edges, which are within the limits
 pub record Held (n e : ℕ) (output : List ℕ) : Type 0 where
@@ -100,7 +100,7 @@ module _ {game marks spare classes output : List ℕ} {answer : Answer} {marks�
   module _ {marks₂ spare₂ classes₂ output₂ : List ℕ} {answer₂ : Answer} {marks₂′ spare₂′ classes₂′ output₂′ : List ℕ}
       (call₂ : TableCall reduced T marks₂ spare₂ classes₂ output₂ answer₂ marks₂′ spare₂′ classes₂′ output₂′) where
     -- with buffers that are long enough for n and e the second call accepts
-    pub accepts-again : Room n e marks₂ spare₂ classes₂ output₂ → answer₂ ≡ accepted (n ∷ n ∷ e ∷ [])
+    pub accepts-again : SecondFits n e marks₂ spare₂ classes₂ output₂ → answer₂ ≡ accepted (n ∷ n ∷ e ∷ [])
     accepts-again room =
         table-accepts call₂ (record {
           classesFit = record {

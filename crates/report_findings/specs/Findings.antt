@@ -10,7 +10,7 @@ use Rattle.table.specs.Answers.{Answer, accepted, refused, after}
 use Rattle.table.specs.Reading.{gameRows, readAnswer, readingAnswer}
 use Rattle.classes.specs.ClassesCall.{classTotal, classWords}
 use Rattle.reduction_totals.specs.Totals.{memberWords, edgeWords, memberTotal, edgeTotal}
-use Rattle.report.specs.declared.Report.{Report}
+use Rattle.report_findings.specs.declared.Report.{Report}
 
 -- a number of an accepted game; 0 after a refusal
 unfoldable pub number : Answer → ℕ → ℕ

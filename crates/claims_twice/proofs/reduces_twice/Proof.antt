@@ -3,10 +3,10 @@ use mathlib.Core.Path.{sym, ap}
 use native.Mathlib.Omega.{arith}
 use lib.Seq.{length-take-le}
 use Rattle.reduction.specs.TableCall.{tabulationAnswer}
-use Rattle.claims_winners.specs.ReducedTwiceLaws.{Held, held, twice-refused, twice-accepted}
+use Rattle.claims_twice.specs.ReducedTwiceLaws.{Held, held, twice-refused, twice-accepted}
 use borrow.Author.Needs.{needs}
-use Rattle.claims_winners.proofs.reduces_twice.Statement.{statement}
-use Rattle.claims_winners.proofs.reduces_twice.Tie as tie
+use Rattle.claims_twice.proofs.reduces_twice.Statement.{statement}
+use Rattle.claims_twice.proofs.reduces_twice.Tie as tie
 
 abbrev wrote : tie.After-known-told → tie.After-write-reduced
 wrote c = search

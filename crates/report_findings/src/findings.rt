@@ -8,9 +8,9 @@ use table::Reading;
 ghost use Prim.Native.Nat.{_*_, _≤_};
 ghost use lib.ListN.{length};
 ghost use Rattle.table.specs.Lent.{old, new};
-ghost use Rattle.report.specs.Words.{readLimit, wordsOf};
-ghost use Rattle.report.specs.Findings.{Reported};
-ghost use Rattle.report.specs.ReportMemory.{Enough};
+ghost use Rattle.report_findings.specs.Words.{readLimit, wordsOf};
+ghost use Rattle.report_findings.specs.Findings.{Reported};
+ghost use Rattle.report_findings.specs.ReportMemory.{Enough};
 
 // Judges the game, counts the passes, classes and the reduced game's vertices and edges, writes the class of each vertex and the members
 // and edges of each class, and sums these up. The other buffers are working memory. All are enough for any game that the reader accepts.

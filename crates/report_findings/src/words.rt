@@ -4,7 +4,7 @@ ghost use Prim.Native.Nat.{_+_, _*_, _<_, _≤_};
 ghost use lib.ListN.{length};
 ghost use Rattle.table.specs.Lent.{old, new};
 ghost use Rattle.table.specs.Answers.{written};
-ghost use Rattle.report.specs.Words.{readLimit, wordAt, wordsOf};
+ghost use Rattle.report_findings.specs.Words.{readLimit, wordAt, wordsOf};
 
 fn word(low: u8, high: u8) -> u16
     ensures { λ r. ⌜ r ≡ low + 256 * high ⌝ }

@@ -2,10 +2,10 @@
 use Rattle.table.specs.WellFormed.{WellFormed}
 use Rattle.reduction_edges.specs.Rows.{gameBy}
 use Rattle.reduction.specs.TableCallLaws.{sized}
-use Rattle.report.specs.FindingsLaws.{table-fits, classes-fit, reported-refused, tabulated, reported-accepted}
+use Rattle.report_findings.specs.FindingsLaws.{table-fits, classes-fit, reported-refused, tabulated, reported-accepted}
 use borrow.Author.Needs.{needs}
-use Rattle.report.proofs.findings.find.Statement.{statement}
-use Rattle.report.proofs.findings.find.Tie as tie
+use Rattle.report_findings.proofs.findings.find.Statement.{statement}
+use Rattle.report_findings.proofs.findings.find.Tie as tie
 
 -- the entry, from where the reader has accepted, and what is known then
 abbrev start : tie.After-enum-told → tie.Start

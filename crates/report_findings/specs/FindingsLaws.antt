@@ -25,9 +25,9 @@ use Rattle.reduction_totals.specs.Totals.{memberWords, edgeWords}
 use Rattle.reduction_totals.specs.Counting.{Tabulated, Totalled}
 use Rattle.reduction_totals.specs.CountingLaws.{few-classes}
 use Rattle.reduction_totals.specs.declared.Totals.{Totals}
-use Rattle.report.specs.declared.Report.{Report}
-use Rattle.report.specs.Findings.{number, Reported}
-use Rattle.report.specs.ReportMemory.{Enough, AtMost}
+use Rattle.report_findings.specs.declared.Report.{Report}
+use Rattle.report_findings.specs.Findings.{number, Reported}
+use Rattle.report_findings.specs.ReportMemory.{Enough, AtMost}
 
 pub number-accepted : {a : Answer} {counts : List ℕ} (x : ℕ) → a ≡ accepted counts → number a x ≡ x
 unfolding number

@@ -12,10 +12,10 @@ use Rattle.marks.specs.Marks.{marksLength, Marked}
 use Rattle.reduction.specs.TableCall.{tabulationAnswer, TableCall}
 use Rattle.claims.specs.WrittenMemory.{writtenTable}
 use Rattle.claims.specs.Sentences.{OnAcceptance}
-use Rattle.claims_winners.specs.declared.Twice.{Twice}
+use Rattle.claims_twice.specs.declared.Twice.{Twice}
 
 -- the second set is long enough for a table of n vertices and e edges: rows 21 to 24
-pub record Room (n e : ℕ) (marks spare classes output : List ℕ) : Type 0 where
+pub record SecondFits (n e : ℕ) (marks spare classes output : List ℕ) : Type 0 where
   pub marks-fit : marksLength n ≤ length marks
   pub spare-fit : marksLength n ≤ length spare
   pub classes-fit : n ≤ length classes
@@ -43,7 +43,7 @@ pub record ReducesTwice (game marks spare classes output marks₂ spare₂ class
   pub second : (k n e : ℕ) → tabulationAnswer (r .first) ≡ accepted (k ∷ n ∷ e ∷ [])
       → TableCall reduced (writtenTable n e output′) marks₂ spare₂ classes₂ output₂ (tabulationAnswer (r .second)) marks₂′ spare₂′ classes₂′ output₂′
   -- where its buffers are long enough the second accepts, and where it accepts nothing is new
-  pub accepts : (k n e : ℕ) → tabulationAnswer (r .first) ≡ accepted (k ∷ n ∷ e ∷ []) → Room n e marks₂ spare₂ classes₂ output₂
+  pub accepts : (k n e : ℕ) → tabulationAnswer (r .first) ≡ accepted (k ∷ n ∷ e ∷ []) → SecondFits n e marks₂ spare₂ classes₂ output₂
       → tabulationAnswer (r .second) ≡ accepted (n ∷ n ∷ e ∷ [])
   pub same : (k n e : ℕ) → tabulationAnswer (r .first) ≡ accepted (k ∷ n ∷ e ∷ [])
       → OnAcceptance (tabulationAnswer (r .second)) (SameAgain game marks′ classes′ output′ n e (tabulationAnswer (r .second)) marks₂′ classes₂′ output₂′)

@@ -1,10 +1,10 @@
 -- Past the last byte the definition reads 0, the high byte of a half word.
-use Rattle.report.specs.Words.{wordAt}
-use Rattle.report.specs.WordsLaws.{half-word}
+use Rattle.report_findings.specs.Words.{wordAt}
+use Rattle.report_findings.specs.WordsLaws.{half-word}
 use native.Mathlib.Omega.{arith}
 use borrow.Author.Needs.{needs}
-use Rattle.report.proofs.words.word_at.Statement.{statement}
-use Rattle.report.proofs.words.word_at.Tie as tie
+use Rattle.report_findings.proofs.words.word_at.Statement.{statement}
+use Rattle.report_findings.proofs.words.word_at.Tie as tie
 
 mul-at : tie.Need-mul-at
 mul-at c = search needs

@@ -1,0 +1,3 @@
+pub mod ReducedTwice
+pub mod ReducedTwiceLaws
+pub mod WorkedGames
