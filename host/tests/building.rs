@@ -181,7 +181,7 @@ fn the_longest_way_of_work_is_first() {
     let usual = "check theory,check table,check order,check edit,check seed,staticlib abi,staticlib abi_edit";
     assert_eq!(made(&folder).join(","), usual);
     let folder = repository("building-large", "");
-    write(&folder.join("crates/table_seed/specs/Large.antt"), &"more ".repeat(100));
+    write(&folder.join("crates/seed/specs/Large.antt"), &"more ".repeat(100));
     let large = "check theory,check table,check seed,check order,check edit,staticlib abi,staticlib abi_edit";
     assert_eq!(made(&folder).join(","), large);
 }
@@ -310,7 +310,7 @@ fn a_change_is_proved_with_what_builds_on_it_alone() {
     fs::rename(folder.join("crates/order/proofs/more"), folder.join("crates/order/proofs/most"))
         .expect("renamed");
     assert_eq!(sorted(&folder), above_order);
-    write(&folder.join("crates/table_seed/src/lib.rt"), "other text");
+    write(&folder.join("crates/seed/src/lib.rt"), "other text");
     assert_eq!(sorted(&folder), "check seed,staticlib abi");
     write(&folder.join("crates.txt"), &CRATES.replace("edit: order", "edit: order table"));
     assert_eq!(sorted(&folder), "check edit,staticlib abi_edit");
