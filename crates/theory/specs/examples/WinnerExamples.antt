@@ -117,7 +117,7 @@ beside-compares = reduced-compares beside 2 3 (omega arith) (omega arith)
 -- and so class 2 isn't below class 1
 pub beside-apart : ¬ So (order (reduced beside) 2 1)
 unfolding compute beside
-beside-apart t = let e = reduced-antisymmetric beside 1 2 (omega arith) (omega arith) refl t in omega (arith, e)
+beside-apart t = let e = reduced-antisymmetric beside 1 2 (omega arith) (omega arith) (beside-order ∙ beside-holds) t in omega (arith, e)
 
 -- reduced again: each vertex its own class, and the same edges
 pub beside-class : classOf (reduced beside) 4 ≡ 4
