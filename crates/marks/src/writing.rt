@@ -65,30 +65,14 @@ fn write_parts(marks: &mut [u8], at: usize, word: u64, count: usize)
     write_part(marks, at + done, rest, count - done);
 }
 
-// Writes all 64 bits of a word as marks, from mark `at` on, the first of a byte. The stores stand one by one, so that the compiler joins them.
-fn write_word(marks: &mut [u8], at: usize, word: u64)
-    requires { ⌜ (at % 8 ≡ 0) × (at / 8 + 8 ≤ length (now marks)) ⌝ }
-    ensures { λ r. ⌜ BitsWritten word at wordBits (old marks) (new marks) ⌝ }
-{
-    let first = at / 8;
-    marks[first + 0] = ((word >> 0) & 255) as u8;
-    marks[first + 1] = ((word >> 8) & 255) as u8;
-    marks[first + 2] = ((word >> 16) & 255) as u8;
-    marks[first + 3] = ((word >> 24) & 255) as u8;
-    marks[first + 4] = ((word >> 32) & 255) as u8;
-    marks[first + 5] = ((word >> 40) & 255) as u8;
-    marks[first + 6] = ((word >> 48) & 255) as u8;
-    marks[first + 7] = ((word >> 56) & 255) as u8;
-}
-
 // Writes the first `count` bits of a word as marks, from mark `at` on.
 fn write_bits(marks: &mut [u8], at: usize, word: u64, count: usize)
     requires { ⌜ (count ≤ wordBits) × (at + count ≤ pairLimit) × (bytesFor (at + count) ≤ length (now marks)) ⌝ }
     ensures { λ r. ⌜ BitsWritten word at count (old marks) (new marks) ⌝ }
 {
-    // all of the word, at the start of a byte
+    // all of the word, at the start of a byte: the compiler makes one store of it
     if at % 8 + 64 == count {
-        write_word(marks, at, word);
+        write_whole(marks, at, word, 8);
         return;
     }
     write_parts(marks, at, word, count);

@@ -9,8 +9,8 @@ use Rattle.marks.proofs.writing.write_bits.Tie as tie
 add-if1 : tie.Need-add-if1
 add-if1 c = search needs
 
-write-word-requires : tie.Need-write-word-requires
-write-word-requires c κs = search needs
+write-whole-requires : tie.Need-write-whole-requires
+write-whole-requires c κs = search needs
 
 same-length : tie.Need-same-length
 same-length c = search needs
@@ -19,7 +19,7 @@ returns : tie.Need-returns
 returns c =
     let t = c .before .before .before .before in
     let n : t .before .before .args .count ≡ wordBits = omega (arith, t .if1 .taken, t .before .before .pre) in
-    rw n (c .before .before .write-word .ensures)
+    rw n (c .before .before .write-whole .ensures .1)
 
 write-parts-requires : tie.Need-write-parts-requires
 write-parts-requires c κs = search needs
@@ -35,7 +35,7 @@ write-bits-spec =
     tie.close
     (tie.spec
     add-if1
-    write-word-requires
+    write-whole-requires
     same-length
     returns
     write-parts-requires
