@@ -4,6 +4,7 @@ use mathlib.Core.Path.{_≡_, refl, sym, ap, subst, _∙_}
 use mathlib.Core.List.{List, [], _∷_, map}
 use Prim.Native.Nat.{ℕ}
 use Rattle.theory.specs.games.Game.{Game}
+use Rattle.theory.specs.plans.Reach.{reaches}
 use Rattle.theory.specs.examples.Compute.{compute}
 use Rattle.words.specs.Word.{digit, number}
 use Rattle.table.specs.Table.{gameOf, playerOf, isEdge}
@@ -15,7 +16,7 @@ use Rattle.order.specs.OrderCall.{orderRows, passesAnswer, OrderCall}
 use Rattle.order_acceptor.specs.RelationCall.{directPair, fails, firstFailing, acceptorRows, acceptorAnswer}
 use Rattle.plan_links.specs.PlanTable.{anyLink, hasLink}
 use Rattle.plan_links.specs.Refusals.{badSize, beyond, firstBeyond, strays, firstStray}
-use Rattle.plan_returns.specs.Returns.{reaches, returns, positionPriority, returnsWrong, firstReturn}
+use Rattle.plan_returns.specs.Returns.{returns, positionPriority, returnsWrong, firstReturn}
 use Rattle.plan.specs.Acceptance.{answers, lacksLink, firstLackingLink, planRows, planAnswer}
 use Rattle.classes.specs.ClassesCall.{classRows, classTotal, classWords, totalAnswer, ClassesCall}
 use Rattle.reduction.specs.TableCall.{tableRows, TableCall}

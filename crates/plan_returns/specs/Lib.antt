@@ -1,6 +1,4 @@
 pub mod Returns
-pub mod Reach
-pub mod ReachLaws
 pub mod ReturnsLaws
 pub mod Search
 pub mod SearchLaws

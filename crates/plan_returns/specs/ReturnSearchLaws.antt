@@ -13,11 +13,12 @@ use Rattle.theory.specs.logic.Bools.{_&_}
 use Rattle.theory.specs.logic.Range.{first}
 use Rattle.theory.specs.logic.RangeLaws.{first-ext}
 use Rattle.theory.specs.games.Game.{parity}
+use Rattle.theory.specs.plans.Reach.{reaches}
 use Rattle.table.specs.Table.{playerOf}
 use Rattle.plan_links.specs.PlanTable.{positionCount, hasLink}
 use Rattle.plan_links.specs.LinkIndex.{LinkIndex}
 use Rattle.plan_links.specs.LinkIndexLaws.{among-link}
-use Rattle.plan_returns.specs.Returns.{reaches, returns, positionPriority, returnsWrong, firstReturn}
+use Rattle.plan_returns.specs.Returns.{returns, positionPriority, returnsWrong, firstReturn}
 use Rattle.plan_returns.specs.ReturnsLaws.{returns-ext}
 use Rattle.plan_returns.specs.Search.{linkBy}
 use Rattle.plan_returns.specs.ReturnSearch.{Workspace, listedPriority, notBelow, wrongBy}

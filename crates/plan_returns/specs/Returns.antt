@@ -1,18 +1,14 @@
 -- Refusal 16 of the plan acceptor: closed walks of the wrong parity. Its condition and its place.
 use mathlib.Core.Bool.{Bool, not}
 use mathlib.Core.List.{List}
-use Prim.Native.Nat.{ℕ, zero, suc}
+use Prim.Native.Nat.{ℕ}
 use lib.Dec.{leb}
-use Rattle.theory.specs.logic.Bools.{_&_, _or_}
-use Rattle.theory.specs.logic.Range.{anyBelow, first}
+use Rattle.theory.specs.logic.Bools.{_&_}
+use Rattle.theory.specs.logic.Range.{first}
 use Rattle.theory.specs.games.Game.{parity}
+use Rattle.theory.specs.plans.Reach.{reaches}
 use Rattle.table.specs.Table.{priorityAt, playerOf}
 use Rattle.plan_links.specs.PlanTable.{positionCount, vertexAt, hasLink}
-
--- of p positions, j is reached from i by at most k + 1 links, and each position between them passes
-unfoldable pub reaches : ℕ → (ℕ → ℕ → Bool) → (ℕ → Bool) → ℕ → ℕ → ℕ → Bool
-reaches p link pass zero i j = link i j
-reaches p link pass (suc k) i j = link i j or anyBelow p (λ m. link i m & pass m & reaches p link pass k m j)
 
 -- Position i is reached from itself by one link or more, through positions of priority at least its own. More than p + 1 links are
 -- never needed: a longer walk passes some position twice.

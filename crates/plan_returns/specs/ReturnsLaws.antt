@@ -10,9 +10,9 @@ use Rattle.theory.specs.logic.BoolsLaws.{and-in, and-out, not-in, not-out}
 use Rattle.theory.specs.games.Game.{Player, parity}
 use Rattle.theory.specs.plans.Plan.{Walk}
 use Rattle.theory.specs.plans.Returns.{Return}
+use Rattle.theory.specs.plans.Reach.{Each}
+use Rattle.theory.specs.plans.ReachLaws.{each-in, each-out, reaches-in, reaches-out, reaches-ext}
 use Rattle.plan_returns.specs.Returns.{returns}
-use Rattle.plan_returns.specs.Reach.{Each}
-use Rattle.plan_returns.specs.ReachLaws.{each-in, each-out, reaches-in, reaches-out, reaches-ext}
 
 module _ (p : ℕ) (link : ℕ → ℕ → Bool) (inside : (i j : ℕ) → So (link i j) → (i < p) × (j < p)) (a : Player) (c : ℕ → ℕ) where
   pub return-out : (i : ℕ) → So (not (parity a (c i)) & returns p link c i) → Return a c link i

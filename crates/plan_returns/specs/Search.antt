@@ -9,8 +9,8 @@ use lib.Dec.{eqb}
 use lib.ListN.{getD, set}
 use Rattle.theory.specs.logic.Bools.{_&_, bit}
 use Rattle.theory.specs.logic.Range.{anyFrom, count}
+use Rattle.theory.specs.plans.Reach.{Reach}
 use Rattle.index.specs.Index.{among}
-use Rattle.plan_returns.specs.Reach.{Reach}
 
 -- an indexed link leads from i to j
 unfoldable pub linkBy : List ℕ → List ℕ → ℕ → ℕ → Bool

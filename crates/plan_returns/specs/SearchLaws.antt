@@ -18,10 +18,9 @@ use Rattle.theory.specs.logic.RangeLaws.{from-in, from-end, from-more, from-les
 use Rattle.theory.specs.logic.CountLaws.{count-ext, count-none, count-le}
 use Rattle.theory.specs.logic.ListLaws.{after-set}
 use Rattle.theory.specs.plans.Plan.{Walk}
+use Rattle.theory.specs.plans.Reach.{Each, Reach, reaches}
+use Rattle.theory.specs.plans.ReachLaws.{reaches-in, reaches-out, reach-more}
 use Rattle.index.specs.Index.{among}
-use Rattle.plan_returns.specs.Returns.{reaches}
-use Rattle.plan_returns.specs.Reach.{Each, Reach}
-use Rattle.plan_returns.specs.ReachLaws.{reaches-in, reaches-out, reach-more}
 use Rattle.plan_returns.specs.Search.{linkBy, stamped, fresh, Visited, Queued, Grown, followed, follows, Searched}
 
 -- ---- one visit

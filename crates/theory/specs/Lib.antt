@@ -6,6 +6,7 @@ pub mod games
 pub mod order
 pub mod plans
 pub mod winners
+pub mod solutions
 pub mod classes
 pub mod carry
 pub mod examples

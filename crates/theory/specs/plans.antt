@@ -7,6 +7,9 @@ pub mod WalkLaws
 -- closed walks of the wrong parity, by positions that return: `wrongWalk-return`
 pub mod Returns
 pub mod ReturnsLaws
+-- what is reached by links, and that a test computes it: `reaches-in`, `reaches-out`
+pub mod Reach
+pub mod ReachLaws
 -- plays and strategies of document 004: `along-won`, `play-one-winner`, `outcome`; `strategy-along`, `won-strategy`
 pub mod Plays
 pub mod PlaysLaws

@@ -9,7 +9,7 @@ pub mod KeptWinners
 -- the winner is the same: `winner-up`, `winner-down`, `winner-quotient`, `winner-reduced`
 pub mod SameWinner
 -- exactly one winner at each vertex of a total game, and who it is: `winner-is`, `determined`, `won-small`, `won-lost`, `won-decided`; `Region` is
--- for the proof alone
+-- for this proof and the laws of `solutions` alone
 pub mod Region
 pub mod RegionLaws
 pub mod AttractorLaws

@@ -20,7 +20,7 @@ use Rattle.theory.specs.plans.Returns.{In, Return}
 use Rattle.theory.specs.plans.ReturnsLaws.{closed-in}
 use Rattle.theory.specs.plans.PlanTest.{eachLink, len, at, goodLink, answered, moved, surelyWins}
 
-eachLink-out : (p : Rel) (ls : List (ℕ × ℕ)) (i j : ℕ) → So (eachLink p ls) → So (linked ls i j) → So (p i j)
+pub eachLink-out : (p : Rel) (ls : List (ℕ × ℕ)) (i j : ℕ) → So (eachLink p ls) → So (linked ls i j) → So (p i j)
 unfolding eachLink linked
 eachLink-out p [] i j t l = absurd (false≢true l)
 eachLink-out p (x ∷ ls) i j t l = go (or-out l) (eachLink-out p ls i j (and-out t .1))

@@ -5,22 +5,20 @@ use mathlib.Core.Path.{_≡_, refl, sym, ap, _∙_, subst}
 use mathlib.Core.Logic.{_⊎_, inl, inr, _↔_}
 use mathlib.Core.Bool.{Bool, true, false, not, cond, So, false≢true, Bool·not-not}
 use Prim.Native.Nat.{ℕ, zero, suc, _≤_, _<_}
-use native.Mathlib.Nat.{not-suc-le-zero, le-refl}
-use native.Mathlib.Decide.{decLt}
+use native.Mathlib.Nat.{le-refl}
 use native.Mathlib.Omega.{arith}
 use lib.Dec.{eqb}
 use borrow.Author.Tests.{eqb-true, eq-eqb}
 use Rattle.theory.specs.logic.Bools.{_&_}
-use Rattle.theory.specs.logic.BoolsLaws.{decide, clash, So-not, and-in, and-out}
+use Rattle.theory.specs.logic.BoolsLaws.{decide, clash, and-in, and-out}
 use Rattle.theory.specs.logic.Range.{anyBelow, count}
-use Rattle.theory.specs.logic.RangeLaws.{below-suc, any-out, any-fails}
-use Rattle.theory.specs.logic.CountLaws.{count-less}
+use Rattle.theory.specs.logic.RangeLaws.{any-out, any-fails}
 use Rattle.theory.specs.games.Game.{Player, even, odd, other, same, parity, Game, own, Total, isTotal}
 use Rattle.theory.specs.games.GameLaws.{same-out, same-fails, same-other, parity-other, total-in, total-out}
 use Rattle.theory.specs.plans.Plan.{Won, WonSmall}
 use Rattle.theory.specs.winners.WinnerLaws.{one-winner}
-use Rattle.theory.specs.winners.Region.{Set, none, union, minus, whole, Subgame, Region, Attractor, Solution}
-use Rattle.theory.specs.winners.RegionLaws.{union-left, union-right, minus-in, minus-out, region-layer, layer-region, region-target, region-whole, region-recurs}
+use Rattle.theory.specs.winners.Region.{Set, none, union, minus, whole, Lowest, Subgame, Region, Attractor, Solution}
+use Rattle.theory.specs.winners.RegionLaws.{union-left, union-right, minus-in, minus-less, lowest, region-layer, layer-region, region-target, region-whole, region-recurs}
 use Rattle.theory.specs.winners.AttractorLaws.{attractor, subgame-rest, region-trap}
 use Rattle.theory.specs.winners.RegionPlanLaws.{whole-in, whole-subgame, region-won}
 
@@ -52,35 +50,7 @@ turn G S even odd s = swap G S even odd refl refl s
 turn G S odd even s = swap G S odd even refl refl s
 turn G S odd odd s = s
 
--- ---- a vertex of the lowest priority among those below k
-
-record Lowest (G : Game) (S : Set) (k : ℕ) : Type 0 where
-  at : ℕ
-  member : So (S at)
-  least : (v : ℕ) → v < k → So (S v) → G .priority at ≤ G .priority v
-
-lowest : (G : Game) (S : Set) (k : ℕ) → ((v : ℕ) → v < k → S v ≡ false) ⊎ Lowest G S k
-lowest G S zero = inl (λ v h. absurd (not-suc-le-zero h))
-lowest G S (suc k) = go (decide (S k)) (lowest G S k)
-  where
-    more : (i : ℕ) → So (S i) → ((v : ℕ) → v < k → So (S v) → G .priority i ≤ G .priority v) → (So (S k) → G .priority i ≤ G .priority k)
-        → ((v : ℕ) → v < suc k → S v ≡ false) ⊎ Lowest G S (suc k)
-    more i s f g = inr (record { at = i; member = s; least = below-suc (λ (v : ℕ). So (S v) → G .priority i ≤ G .priority v) f g })
-
-    go : So (S k) ⊎ (S k ≡ false) → ((v : ℕ) → v < k → S v ≡ false) ⊎ Lowest G S k → ((v : ℕ) → v < suc k → S v ≡ false) ⊎ Lowest G S (suc k)
-    go (inl s) (inl f) = more k s (λ v h t. clash t (f v h)) (λ t. le-refl (G .priority k))
-    go (inr g) (inl f) = inl (below-suc (λ (v : ℕ). S v ≡ false) f g)
-    go (inl s) (inr l) = elim (decLt (G .priority k) (G .priority (l .at))) [
-      | yes h ↦ more k s (λ v i t. omega (arith, l .least v i t)) (λ t. le-refl (G .priority k))
-      | no h ↦ more (l .at) (l .member) (l .least) (λ t. omega arith)
-    ]
-    go (inr g) (inr l) = more (l .at) (l .member) (l .least) (λ t. clash t g)
-
 -- ---- the step: from smaller subgames to S
-
-minus-less : (G : Game) (S B : Set) (u : ℕ) → u < G .n → So (S u) → So (B u) → count (G .n) (minus S B) < count (G .n) S
-minus-less G S B u h s b =
-    count-less (G .n) (minus S B) S (λ v l t. minus-out S B v t .0) u h (So-not (λ t. clash b (minus-out S B u t .1))) s
 
 module _ (G : Game) (S : Set) (sub : Subgame G S) where
   abbrev Smaller : Type 0
@@ -114,7 +84,7 @@ module _ (G : Game) (S : Set) (sub : Subgame G S) where
 
     rest : Solution G a (minus S (A .set))
     rest = turn G (minus S (A .set)) even a (rec (minus S (A .set)) (subgame-rest G a S (A .set) sub (A .saturated))
-        (minus-less G S (A .set) (low .at) (sub .inside (low .at) (low .member)) (low .member) (A .extends (low .at) low-in)))
+        (minus-less G S (A .set) (low .at) (low .inside) (low .member) (A .extends (low .at) low-in)))
 
     -- the opponent wins nothing in the rest
     all-mine : anyBelow (G .n) (rest .theirs) ≡ false → Solution G a S

@@ -1,10 +1,10 @@
 -- What determinacy is proved with: sets of vertices, subgames, and regions on which a player wins by a positional strategy. They serve
--- `DeterminacyLaws` alone; no statement of a call names them.
+-- `DeterminacyLaws` and the laws of `solutions` alone; no statement of a call names them.
 use mathlib.Core.Path.{_≡_}
 use mathlib.Core.Logic.{_⊎_}
 use mathlib.Core.Bool.{Bool, false, not, So, cond}
 use mathlib.Core.List.{List, _∷_}
-use Prim.Native.Nat.{ℕ, _<_, min}
+use Prim.Native.Nat.{ℕ, _≤_, _<_, min}
 use lib.Dec.{eqb, ltb}
 use Rattle.theory.specs.logic.Bools.{_&_, _or_, imp}
 use Rattle.theory.specs.logic.Range.{allBelow, anyBelow, count, nth, tabulate, pairsOf}
@@ -29,6 +29,13 @@ minus S B v = S v & not (B v)
 
 unfoldable pub whole : Game → Set
 whole G v = ltb v (G .n)
+
+-- a vertex of the lowest priority in S among those below k
+pub record Lowest (G : Game) (S : Set) (k : ℕ) : Type 0 where
+  pub at : ℕ
+  pub inside : at < k
+  pub member : So (S at)
+  pub least : (v : ℕ) → v < k → So (S v) → G .priority at ≤ G .priority v
 
 -- S is closed enough to be played in: each of its vertices has a successor in it
 pub record Subgame (G : Game) (S : Set) : Type 0 where

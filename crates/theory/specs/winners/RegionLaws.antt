@@ -4,16 +4,21 @@ use mathlib.Core.Path.{_≡_, refl, subst}
 use mathlib.Core.Logic.{_⊎_, inl, inr}
 use mathlib.Core.Bool.{false, not, So, false≢true}
 use mathlib.Core.List.{List, [], _∷_}
-use Prim.Native.Nat.{ℕ, _≤_, min}
-use native.Mathlib.Nat.{le-antisymm}
+use Prim.Native.Nat.{ℕ, zero, suc, _≤_, _<_, min}
+use native.Mathlib.Nat.{le-refl, le-antisymm, not-suc-le-zero}
+use native.Mathlib.Decide.{decLt}
+use native.Mathlib.Omega.{arith}
 use Rattle.theory.specs.logic.Bools.{_&_, _or_}
-use Rattle.theory.specs.logic.BoolsLaws.{decide, clash, not-in, not-out, and-in, and-out, or-left, or-right, or-out}
+use Rattle.theory.specs.logic.BoolsLaws.{decide, clash, So-not, not-in, not-out, and-in, and-out, or-left, or-right, or-out}
+use Rattle.theory.specs.logic.Range.{count}
+use Rattle.theory.specs.logic.RangeLaws.{below-suc}
+use Rattle.theory.specs.logic.CountLaws.{count-less}
 use Rattle.theory.specs.order.Passes.{Rel}
 use Rattle.theory.specs.games.Game.{Player, parity, Game, own}
 use Rattle.theory.specs.plans.Plan.{Walk, seen}
 use Rattle.theory.specs.plans.Returns.{In}
 use Rattle.theory.specs.plans.WalkLaws.{seen-le, seen-ge}
-use Rattle.theory.specs.winners.Region.{Set, none, union, minus, Subgame, Region, Layer, layered}
+use Rattle.theory.specs.winners.Region.{Set, none, union, minus, Lowest, Subgame, Region, Layer, layered}
 
 -- ---- sets
 
@@ -36,6 +41,29 @@ minus-in S B v s f = and-in s (not-in f)
 pub minus-out : (S B : Set) (v : ℕ) → So (minus S B v) → So (S v) × (B v ≡ false)
 unfolding minus
 minus-out S B v t = let p = and-out t in (p .0, not-out (p .1))
+
+-- S without a set that holds u of S has fewer vertices
+pub minus-less : (G : Game) (S B : Set) (u : ℕ) → u < G .n → So (S u) → So (B u) → count (G .n) (minus S B) < count (G .n) S
+minus-less G S B u h s b =
+    count-less (G .n) (minus S B) S (λ v l t. minus-out S B v t .0) u h (So-not (λ t. clash b (minus-out S B u t .1))) s
+
+-- S has a vertex of the lowest priority among those below k, or none below k at all
+pub lowest : (G : Game) (S : Set) (k : ℕ) → ((v : ℕ) → v < k → S v ≡ false) ⊎ Lowest G S k
+lowest G S zero = inl (λ v h. absurd (not-suc-le-zero h))
+lowest G S (suc k) = go (decide (S k)) (lowest G S k)
+  where
+    more : (i : ℕ) → i < suc k → So (S i) → ((v : ℕ) → v < k → So (S v) → G .priority i ≤ G .priority v) → (So (S k) → G .priority i ≤ G .priority k)
+        → ((v : ℕ) → v < suc k → S v ≡ false) ⊎ Lowest G S (suc k)
+    more i h s f g = inr (record { at = i; inside = h; member = s; least = below-suc (λ (v : ℕ). So (S v) → G .priority i ≤ G .priority v) f g })
+
+    go : So (S k) ⊎ (S k ≡ false) → ((v : ℕ) → v < k → S v ≡ false) ⊎ Lowest G S k → ((v : ℕ) → v < suc k → S v ≡ false) ⊎ Lowest G S (suc k)
+    go (inl s) (inl f) = more k (omega arith) s (λ v h t. clash t (f v h)) (λ t. le-refl (G .priority k))
+    go (inr g) (inl f) = inl (below-suc (λ (v : ℕ). S v ≡ false) f g)
+    go (inl s) (inr l) = elim (decLt (G .priority k) (G .priority (l .at))) [
+      | yes h ↦ more k (omega arith) s (λ v i t. omega (arith, l .least v i t)) (λ t. le-refl (G .priority k))
+      | no h ↦ more (l .at) (omega (arith, l .inside)) (l .member) (l .least) (λ t. omega arith)
+    ]
+    go (inr g) (inr l) = more (l .at) (omega (arith, l .inside)) (l .member) (l .least) (λ t. clash t g)
 
 -- ---- walks by the links of B, which never lead out of it, and by others that start outside
 

@@ -9,16 +9,15 @@ use native.Mathlib.Nat.{not-suc-le-zero, le-of-suc-le-suc}
 use native.Mathlib.Decide.{decLe}
 use native.Mathlib.Omega.{arith}
 use lib.ListN.{length, getD, take, drop, length-append, length-take, length-drop}
 use Rattle.theory.specs.logic.Bools.{_&_, _or_}
 use Rattle.theory.specs.logic.BoolsLaws.{and-in, and-out, or-left, or-right, or-out}
 use Rattle.theory.specs.logic.Range.{anyBelow}
 use Rattle.theory.specs.logic.RangeLaws.{any-in, any-out, any-ext}
 use Rattle.theory.specs.logic.CountLaws.{pigeonhole}
 use Rattle.theory.specs.plans.Plan.{Walk}
 use Rattle.theory.specs.plans.Returns.{In}
 use Rattle.theory.specs.plans.WalkLaws.{walk-join}
-use Rattle.plan_returns.specs.Returns.{reaches}
-use Rattle.plan_returns.specs.Reach.{Each, Reach}
+use Rattle.theory.specs.plans.Reach.{Each, Reach, reaches}
 
 -- ---- what holds of each in a list
 
