@@ -1,4 +1,4 @@
--- The verdict of a call that fills a game table, in document 01's numbers: accepted with the table's vertices and edges, or refused.
+-- The verdict of a call that fills a game table or reads one, in document 01's numbers: accepted with the table's vertices and edges, or refused.
 use mathlib.Core.List.{[], _∷_}
 use Rattle.table.specs.Answers.{Answer, accepted, refused}
 use Rattle.table.specs.declared.Filling.{Filling}

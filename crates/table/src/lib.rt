@@ -34,7 +34,7 @@ pub enum Acceptance {
     Refused(Refusal),
 }
 
-// Vertices and edges of a table that a call writes, where these are all its counts.
+// Vertices and edges of a table that a call writes or reads, where these are all its counts.
 pub struct FilledSizes {
     pub vertices: usize,
     pub edges: usize,

@@ -1,0 +1,5 @@
+pub mod Words
+pub mod Reading
+pub mod LargeRules
+pub mod ReadingLaws
+pub mod WordsLaws
