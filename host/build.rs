@@ -9,7 +9,8 @@ use std::path::Path;
 use std::process::ExitCode;
 
 /// The crates of exports, each with an archive of its own.
-const ARCHIVES: [&str; 5] = ["abi", "abi_carry", "abi_governed", "abi_edit", "abi_verdict"];
+const ARCHIVES: [&str; 6] =
+    ["abi", "abi_carry", "abi_governed", "abi_edit", "abi_verdict", "abi_large"];
 
 fn main() -> ExitCode {
     match link() {

@@ -1,12 +1,12 @@
 /* Calls of a proved reducer of parity games, for C and C++ on x86-64 Linux.
  *
- * Link libabi.a, libabi_carry.a, libabi_governed.a, libabi_edit.a and libabi_verdict.a of target/staticlib; `rt staticlib
- * abi`, and so on, writes each. docs/CONTRACT.md has the definitions, every refusal, and what each buffer holds after each
- * call.
+ * Link libabi.a, libabi_carry.a, libabi_governed.a, libabi_edit.a, libabi_verdict.a and libabi_large.a of target/staticlib;
+ * `rt staticlib abi`, and so on, writes each. docs/CONTRACT.md has the definitions, every refusal, and what each buffer holds
+ * after each call.
  *
  * A game is a table of 16-bit words: the numbers n of vertices and m of edges, then n priorities, n owners (0 Even,
  * 1 Odd), m sources and m targets. The lowest priority seen for ever decides, and even favours Even. An edge may stand
- * there several times; it counts as one.
+ * there several times; it counts as one. A large game has the same table with words of 32 bits, and no limits.
  *
  * Every input is allowed: any length and content, and any number. A slice goes as a pointer and a length in
  * elements: the pointer is aligned and not null, also where the length is 0, and no slice that is written overlaps
@@ -26,7 +26,7 @@
 extern "C" {
 #endif
 
-/* Limits. */
+/* Limits of all games but large ones. */
 #define RASKJOMI_MOST_VERTICES 512
 #define RASKJOMI_MOST_EDGES 4096
 #define RASKJOMI_MOST_POSITIONS 4096
@@ -41,6 +41,10 @@ extern "C" {
 /* The words of a table of n vertices and m edges, and of a plan of p positions and l links. */
 #define RASKJOMI_TABLE_WORDS(n, m) (2 + 2 * (size_t)(n) + 2 * (size_t)(m))
 #define RASKJOMI_PLAN_WORDS(p, l) (2 + (size_t)(p) + 2 * (size_t)(l))
+
+/* The words of a solution of a large game of n vertices, and of its certificate. */
+#define RASKJOMI_SOLUTION_WORDS(n) (2 * (size_t)(n))
+#define RASKJOMI_CERTIFICATE_WORDS(n) (3 * (size_t)(n))
 
 /* Marks are bits, eight in a byte: that of the pair (v, w) of n vertices is number i = v * n + w, bit i % 8 of byte i / 8,
  * where bit 0 is the lowest. The bytes of all of them; and whether a pair is marked, 1 or 0. */
@@ -192,6 +196,24 @@ RaskjomiAnswer raskjomi_accept_governed(const uint16_t *game, size_t game_len, c
 /* As raskjomi_classes, with the largest governed bisimulation in place of the order. */
 RaskjomiAnswer raskjomi_governed_classes(const uint16_t *game, size_t game_len, uint8_t *marks, size_t marks_len,
                                          uint8_t *spare, size_t spare_len, uint16_t *classes, size_t classes_len);
+
+/* Judges the table of a large game, as raskjomi_read does without its limits. Counts: vertices and edges. Refusals: 1 fewer
+ * than 2 words, 2 no vertices, 4 the length doesn't fit the sizes, 5 an owner above 1, 6 an edge to a vertex that isn't
+ * there. A vertex without an edge out is no refusal here. */
+RaskjomiAnswer raskjomi_large_read(const uint32_t *game, size_t game_len);
+
+/* Judges a solution of a large game by a certificate; where it accepts, the winner named at each vertex wins there. A
+ * solution is the winner at each vertex, then for each vertex the number of an edge out of it, its move where the winner
+ * owns it. A certificate is the place of each vertex in an order, the vertex at each place, and the last place of each
+ * place's run: of the place itself and the next ones, as far as all have a higher priority than it, or the same one where
+ * that is the winner's. An edge is kept if its source isn't its winner's, or it is the source's move. The call writes
+ * nothing, and has no counts. Refusals: those of raskjomi_large_read, then of the solution 81 its length, 82 a winner
+ * above 1, at the vertex, 83 an edge that isn't the vertex's, at the vertex, 84 a kept edge to a vertex of the other
+ * winner, at the edge; of the certificate 85 its length, 86 a word not below n, 87 another vertex at a vertex's place, at
+ * the vertex, 88 another last place than that of the run, at the highest such place, 89 a kept edge that goes up beyond
+ * the run of its source's place, or doesn't go down from a priority of the loser's to one no lower, at the edge. */
+RaskjomiAnswer raskjomi_large_solution(const uint32_t *game, size_t game_len, const uint32_t *solution,
+                                       size_t solution_len, const uint32_t *certificate, size_t certificate_len);
 
 /* What a refusal number is about: 1 the game, 2 the relation, 3 the plan, 4 the lent memory, 5 a later addition, 0 no
  * refusal. */

@@ -161,6 +161,12 @@ extern "C" {
         spare: *mut u8, spare_len: usize,
         classes: *mut u16, classes_len: usize,
     ) -> RaskjomiAnswer;
+    fn raskjomi_large_read(game: *const u32, game_len: usize) -> RaskjomiAnswer;
+    fn raskjomi_large_solution(
+        game: *const u32, game_len: usize,
+        solution: *const u32, solution_len: usize,
+        certificate: *const u32, certificate_len: usize,
+    ) -> RaskjomiAnswer;
     fn raskjomi_kind(number: u32) -> u32;
 }
 
@@ -391,6 +397,16 @@ pub fn governed_classes(
     classes: &mut [u16],
 ) -> RaskjomiAnswer {
     call!(raskjomi_governed_classes; shared game; lent marks, spare, classes)
+}
+
+/// The reader of large games, on any words.
+pub fn large_read(game: &[u32]) -> RaskjomiAnswer {
+    call!(raskjomi_large_read; shared game; lent)
+}
+
+/// The check of a large game's solution with its certificate.
+pub fn large_solution(game: &[u32], solution: &[u32], certificate: &[u32]) -> RaskjomiAnswer {
+    call!(raskjomi_large_solution; shared game, solution, certificate; lent)
 }
 
 /// The kind of a refusal number.

@@ -1,6 +1,6 @@
 //! Safe calls of a proved reducer of parity games.
 //!
-//! A game has at most 512 vertices and 4,096 edges. The lowest priority seen for ever decides a play,
+//! A game has at most 512 vertices and 4,096 edges, but for [`large`] games. The lowest priority seen for ever decides a play,
 //! and even favours Even; a game of a tool that lets the highest decide goes through [`convert`] first.
 //!
 //! A parity game is lent as a table of 16-bit words: the numbers n of vertices and m of edges, then
@@ -15,6 +15,9 @@
 //! definitions, each call's checks in order, every refusal, and what each buffer holds afterwards.
 //!
 //! [`Game`], [`Plan`] and [`Trace`] own their words, for hosts that need not lend memory.
+//!
+//! A solution of a game of any size, of 32-bit words, is checked by [`large_solution`], with an order of the vertices for a certificate:
+//! see [`large`].
 //!
 //! No call uses the heap, and none keeps anything: calls may run on several threads at once. A thread that
 //! calls needs [`LEAST_STACK`] bytes of stack. Time is bounded by the sizes: the order, and all that writes
@@ -38,12 +41,15 @@
 #![deny(missing_docs)]
 
 pub mod exports;
+pub mod large;
 mod marks;
 mod owned;
 mod player;
 mod refusal;
 
 use exports::RaskjomiAnswer;
+pub use large::{large_read, large_solution, Certificate, Flaw, LargeGame, LargeSize};
+pub use large::{LargeSolution, SavedError, Uncertified};
 pub use marks::{is_marked, mark_bytes, pack_marks};
 pub use owned::{Game, GameBuilder, Order, Plan, Reduced, Trace};
 pub use player::Player;
@@ -178,7 +184,7 @@ fn written(answer: RaskjomiAnswer) -> Size {
     size(answer, answer.edges)
 }
 
-/// The numbers of vertices and of edges in a table that a call has filled.
+/// The numbers of vertices and of edges in a table that a call has filled, or in a large one that it has read.
 fn filled(answer: RaskjomiAnswer) -> (usize, usize) {
     (answer.vertices as usize, answer.edges as usize)
 }

@@ -134,6 +134,8 @@ pub fn explain(number: u32) -> Option<Explanation> {
         37..=39 => &EDIT[number as usize - 37],
         40 => &TRACE,
         41 => &UNUSED,
+        81..=84 => &SOLUTION[number as usize - 81],
+        85..=89 => &CERTIFICATE[number as usize - 85],
         _ => return None,
     };
     Some(*row)
@@ -146,9 +148,9 @@ const GAME: [Explanation; 8] = [
         "begin the table with its sizes: the number of vertices, then the number of edges",
     ),
     row(
-        "the number of vertices is 0 or above 512",
+        "the number of vertices is 0 or, but for a large game, above 512",
         "word 0, which holds it",
-        "give the table 1 to 512 vertices",
+        "give the table a vertex, and at most 512 where it isn't a large game's",
     ),
     row(
         "the number of edges is above 4,096",
@@ -316,3 +318,57 @@ const UNUSED: Explanation = row(
     "the last byte that the marks need, from 0",
     "clear the bits behind mark n × n − 1, the last one; if marks are meant there, the relation is of another game",
 );
+
+const SOLUTION: [Explanation; 4] = [
+    row(
+        "the solution's length isn't twice the number of vertices",
+        "the number of words",
+        "write the winner at each vertex, then the number of an edge for each: 2n words",
+    ),
+    row(
+        "a winner is above 1",
+        "the lowest such vertex",
+        "write 0 where Even wins and 1 where Odd does",
+    ),
+    row(
+        "the edge that is named for a vertex isn't there, or leaves another vertex",
+        "the lowest such vertex",
+        "name an edge out of the vertex by its number in the table, from 0; give a vertex that has none a \
+         loop where play ends",
+    ),
+    row(
+        "a move leads from a vertex that one player is said to win to one that the other is: the winner's own move, or any move of the loser",
+        "the number of the first such edge, from 0",
+        "the solution is wrong at one of the two vertices, or in the winner's move: take another edge for it, or another winner",
+    ),
+];
+
+const CERTIFICATE: [Explanation; 5] = [
+    row(
+        "the certificate's length isn't three times the number of vertices",
+        "the number of words",
+        "write the place of each vertex, the vertex at each place, and the last place of each place's run: 3n words",
+    ),
+    row(
+        "a word of the certificate isn't below the number of vertices",
+        "the first such word",
+        "places and vertices count from 0, so write a number below the number of vertices",
+    ),
+    row(
+        "another vertex stands at a vertex's place",
+        "the lowest such vertex",
+        "at the place of each vertex write the vertex, so that both parts of the certificate give one order",
+    ),
+    row(
+        "the last place that is named for a place isn't that of its run",
+        "the highest such place",
+        "go on from the place while the priority is higher than its own, or the same where that is the winner's, and name the last such \
+         place; the place itself where the next one isn't so",
+    ),
+    row(
+        "a kept edge climbs: it goes up beyond the run of its source's place, or it doesn't go down, though it leaves a priority of the \
+         loser's for one no lower",
+        "the number of the first such edge, from 0",
+        "make the certificate anew; where there is none, the solution is wrong, and the loser wins a closed walk of kept edges",
+    ),
+];

@@ -74,7 +74,7 @@ fn declared(parameter: &str) -> Vec<String> {
 
 fn exports_in_rattle() -> BTreeMap<String, Signature> {
     let source = |name: &str| plain(&rattle(&root().join(format!("crates/{name}/src"))));
-    let crates = ["abi", "abi_carry", "abi_governed", "abi_edit", "abi_verdict"];
+    let crates = ["abi", "abi_carry", "abi_governed", "abi_edit", "abi_verdict", "abi_large"];
     let source = crates.map(source).join(" ");
     let exports = functions(&source, "pub extern \"C\" fn ");
     let in_rust = |(name, (parameters, result)): (String, Signature)| {
@@ -94,7 +94,7 @@ fn functions_are_those_of_the_exports() {
     let block = between(&declarations, "extern \"C\" {", "}");
     let declared = functions(block, "fn ");
     assert_eq!(declared, exports_in_rattle());
-    assert_eq!(declared.len(), 21);
+    assert_eq!(declared.len(), 23);
 }
 
 /// The header without comments and directives, with single blanks.

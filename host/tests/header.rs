@@ -9,6 +9,7 @@ use generator::{
     REFUSALS,
 };
 use raskjomi::exports::{self, RaskjomiAnswer};
+use std::collections::BTreeSet;
 use std::fmt::Write as _;
 use std::io::Write as _;
 use std::path::PathBuf;
@@ -22,6 +23,8 @@ struct Case {
     vertex: u32,
     edge: (u32, u32),
     trace: Vec<u16>,
+    /// A large game, a solution and a certificate.
+    large: [Vec<u32>; 3],
 }
 
 fn cases() -> Vec<Case> {
@@ -49,9 +52,24 @@ fn cases() -> Vec<Case> {
             vertex: if lcg.once_in(3) { lcg.below(table.n() + 1) } else { start } as u32,
             edge,
             trace: trace_words(&entries[..entries.len().min(20)]),
+            large: large(&mut lcg),
         });
     }
     cases
+}
+
+/// A large game with a right solution and its certificate, or with one word changed or left out.
+fn large(lcg: &mut Lcg) -> [Vec<u32>; 3] {
+    let game = vec![3, 4, 1, 0, 70_000, 0, 1, 1, 0, 0, 1, 2, 0, 1, 0, 2];
+    let mut lists = [game, vec![0, 0, 0, 1, 2, 3], vec![1, 0, 2, 1, 0, 2, 2, 2, 2]];
+    let list = &mut lists[lcg.below(3)];
+    let place = lcg.below(list.len());
+    match lcg.below(8) {
+        0 | 1 => {}
+        2 => drop(list.remove(place)),
+        value => list[place] = value as u32 - 3,
+    }
+    lists
 }
 
 /// The memory that the C program lends, filled anew for each call.
@@ -101,7 +119,7 @@ impl Lent {
 
 /// What Rust gets for a case, in the program's lines.
 fn expected(case: &Case) -> String {
-    let Case { game, player, plan, vertex, edge: (source, target), trace } = case;
+    let Case { game, player, plan, vertex, edge: (source, target), trace, large } = case;
     let (player, vertex, source, target) = (*player, *vertex, *source, *target);
     let size = raskjomi::read(game);
     let (marks, n) = size.map_or((1, 1), |size| (size.marks(), size.vertices));
@@ -185,14 +203,18 @@ fn expected(case: &Case) -> String {
     call("governed_classes", true, &|l| {
         e::governed_classes(game, &mut l.marks, &mut l.spare, &mut l.classes)
     });
+    let [large, solution, certificate] = large;
+    call("large_read", true, &|_| e::large_read(large));
+    call("large_solution", true, &|_| e::large_solution(large, solution, certificate));
     text
 }
 
 /// The limits and the kinds as Rust has them, in the program's lines.
 fn constants() -> String {
     use raskjomi as r;
+    let size = r::large_read(&[1, 0, 0, 0]).expect("a large game");
     let mut text = format!(
-        "limits {} {} {} {} {} {} {} {} {} {} {}\n",
+        "limits {} {} {} {} {} {} {} {} {} {} {} {} {}\n",
         r::MOST_VERTICES,
         r::MOST_EDGES,
         r::MOST_POSITIONS,
@@ -203,6 +225,8 @@ fn constants() -> String {
         r::ODD,
         r::MOST_TABLE_WORDS,
         r::MOST_PLAN_WORDS,
+        size.solution_words(),
+        size.certificate_words(),
         size_of::<RaskjomiAnswer>()
     );
     (0..102).for_each(|i| writeln!(text, "kind {}", exports::kind(i)).expect("a string takes all"));
@@ -216,26 +240,29 @@ fn program() -> PathBuf {
     let mut cc = Command::new("cc");
     cc.args(["-std=c99", "-Wall", "-Wextra", "-Werror", "-pedantic", "-O1", "-o"]).arg(&path);
     cc.arg("-I").arg(host.join("include")).arg(host.join("tests/c/answers.c"));
-    let names = ["abi", "abi_carry", "abi_governed", "abi_edit", "abi_verdict"];
+    let names = ["abi", "abi_carry", "abi_governed", "abi_edit", "abi_verdict", "abi_large"];
     cc.args(names.map(|name| archives.join(format!("lib{name}.a"))));
     let ran = cc.output().expect("a C compiler");
     assert!(ran.status.success(), "{}", String::from_utf8_lossy(&ran.stderr));
     path
 }
 
+/// A list as the program reads it: its length and its words.
+fn listed<T: ToString>(words: &[T]) -> String {
+    let words: Vec<String> = words.iter().map(T::to_string).collect();
+    format!("{} {}", words.len(), words.join(" "))
+}
+
 #[test]
 fn a_c_program_gets_the_answers_that_rust_gets() {
     let cases = cases();
-    let listed = |words: &[u16]| {
-        let words: Vec<String> = words.iter().map(u16::to_string).collect();
-        format!("{} {}", words.len(), words.join(" "))
-    };
     let input: String = cases
         .iter()
         .map(|case| {
             let (game, plan, trace) = (listed(&case.game), listed(&case.plan), listed(&case.trace));
             let (player, vertex, (source, target)) = (case.player, case.vertex, case.edge);
-            format!("{game} {player} {plan} {vertex} {source} {target} {trace}\n")
+            let large: String = case.large.iter().map(|words| listed(words) + " ").collect();
+            format!("{game} {player} {plan} {vertex} {source} {target} {trace} {large}\n")
         })
         .collect();
     let mut child = Command::new(program())
@@ -265,10 +292,15 @@ fn a_c_program_gets_the_answers_that_rust_gets() {
         "preview_add",
         "replay",
         "seed",
+        "large_read",
+        "large_solution",
     ];
     for call in calls {
         assert!(accepted(call), "no case accepts {call}");
     }
+    let refused = expected.lines().filter_map(|line| line.strip_prefix("large_solution "));
+    let refused: BTreeSet<&str> = refused.filter_map(|line| line.split(' ').next()).collect();
+    assert!(refused.len() > 6, "{refused:?}");
     // The answer's last number but the hash.
     let verdicts = expected.lines().filter(|line| line.starts_with("verdict 0 "));
     let shown: Vec<&str> = verdicts.filter_map(|line| line.rsplit(' ').nth(1)).collect();

@@ -28,7 +28,7 @@ use std::fs;
 use std::path::PathBuf;
 
 /// Fewer witnesses that begin with a call are a failure.
-const LEAST: usize = 139;
+const LEAST: usize = 144;
 
 /// What a call is given, and after it what it has left.
 struct Case {
@@ -44,6 +44,8 @@ impl Case {
             ("game", 0),
             ("plan", 0),
             ("trace", 0),
+            ("solution", 0),
+            ("certificate", 0),
             ("marks", marks),
             ("spare", marks),
             ("class words", MOST_VERTICES),
@@ -155,6 +157,11 @@ impl Case {
         Ok(answer)
     }
 
+    /// Words as those of large games.
+    fn wide(&self, name: &str) -> Vec<u32> {
+        self.words[name].iter().map(|&word| word.into()).collect()
+    }
+
     /// The calls without a number.
     fn plain(&self, call: &str, lent: &mut Lent) -> Option<RaskjomiAnswer> {
         let (game, trace) = (&self.words["game"][..], &self.words["trace"][..]);
@@ -171,6 +178,12 @@ impl Case {
             "governed_order" => exports::governed_order(game, marks, spare),
             "accept_governed" => exports::accept_governed(game, marks),
             "governed_classes" => exports::governed_classes(game, marks, spare, classes),
+            "large_read" => exports::large_read(&self.wide("game")),
+            "large_solution" => {
+                let [game, solution, certificate] =
+                    ["game", "solution", "certificate"].map(|name| self.wide(name));
+                exports::large_solution(&game, &solution, &certificate)
+            }
             _ => return None,
         })
     }
@@ -385,6 +398,9 @@ fn a_witness_that_is_false_or_garbled_is_noticed() {
     assert_eq!(holds("`order` on game C: passes 2, pair 1 2 marked; here 1."), Some(true));
     assert_eq!(holds("`reduce` on game C: no edge 0 to 1, edge 0 to 2; here not."), Some(true));
     assert_eq!(holds("`kind` on number 21: kind 4; here 1."), Some(true));
+    let large = "`large_solution` on game 1 1 / 0 / 0 / 0 / 0, solution 0 0, certificate 0 0 0";
+    assert_eq!(holds(&format!("{large}: accepted; here not.")), Some(true));
+    assert_eq!(holds(&format!("{large}: 89 at 0; here not.")), Some(false));
     for witness in [
         "`order` on game C: passes 1; here 2.",
         "`order` on game C: pair 2 1 marked.",

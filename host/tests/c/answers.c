@@ -1,5 +1,6 @@
 /* Reads cases from standard input, makes every call on each, and prints each answer with a hash of the memory. A case is
- * a game, a player, a plan, a vertex, an edge and a trace; a list is given as its length and its words. */
+ * a game, a player, a plan, a vertex, an edge, a trace, and a large game with a solution and a certificate; a list is given
+ * as its length and its words. */
 #include "raskjomi.h"
 
 #include <stdio.h>
@@ -53,6 +54,13 @@ static uint16_t *list(size_t *length) {
     return words;
 }
 
+static uint32_t *large_list(size_t *length) {
+    *length = number();
+    uint32_t *words = malloc(4 * *length + 4);
+    for (size_t i = 0; i < *length; i++) words[i] = (uint32_t)number();
+    return words;
+}
+
 #define MARKS lent.marks, lent.marks_len
 #define SPARE lent.spare, lent.marks_len
 #define CLASSES lent.classes, lent.classes_len
@@ -62,10 +70,11 @@ static uint16_t *list(size_t *length) {
 #define CALL(name, ...) (refill(game, game_len), tell(#name, raskjomi_##name(__VA_ARGS__)))
 
 int main(void) {
-    printf("limits %d %d %d %d %d %d %d %d %zu %zu %zu\n", RASKJOMI_MOST_VERTICES, RASKJOMI_MOST_EDGES,
+    printf("limits %d %d %d %d %d %d %d %d %zu %zu %zu %zu %zu\n", RASKJOMI_MOST_VERTICES, RASKJOMI_MOST_EDGES,
            RASKJOMI_MOST_POSITIONS, RASKJOMI_MOST_LINKS, RASKJOMI_MOST_ENTRIES, RASKJOMI_LEAST_STACK, RASKJOMI_EVEN,
            RASKJOMI_ODD, RASKJOMI_TABLE_WORDS(RASKJOMI_MOST_VERTICES, RASKJOMI_MOST_EDGES),
-           RASKJOMI_PLAN_WORDS(RASKJOMI_MOST_POSITIONS, RASKJOMI_MOST_LINKS), sizeof(RaskjomiAnswer));
+           RASKJOMI_PLAN_WORDS(RASKJOMI_MOST_POSITIONS, RASKJOMI_MOST_LINKS), RASKJOMI_SOLUTION_WORDS(1),
+           RASKJOMI_CERTIFICATE_WORDS(1), sizeof(RaskjomiAnswer));
     for (uint32_t i = 0; i < 102; i++) printf("kind %u\n", raskjomi_kind(i));
     for (;;) {
         size_t game_len, plan_len, trace_len;
@@ -74,6 +83,9 @@ int main(void) {
         uint16_t *plan = list(&plan_len);
         uint32_t vertex = number(), source = number(), target = number();
         uint16_t *trace = list(&trace_len);
+        size_t large_len, solution_len, certificate_len;
+        uint32_t *large = large_list(&large_len);
+        uint32_t *solution = large_list(&solution_len), *certificate = large_list(&certificate_len);
         RaskjomiAnswer read = raskjomi_read(game, game_len);
         size_t n = read.number ? 1 : read.vertices;
         lent.marks_len = RASKJOMI_MARKS_BYTES(n);
@@ -110,6 +122,9 @@ int main(void) {
         CALL(governed_order, game, game_len, MARKS, SPARE);
         tell("accept_governed", raskjomi_accept_governed(game, game_len, MARKS));
         CALL(governed_classes, game, game_len, MARKS, SPARE, CLASSES);
+        CALL(large_read, large, large_len);
+        CALL(large_solution, large, large_len, solution, solution_len, certificate, certificate_len);
+        free(large), free(solution), free(certificate);
         free(game), free(plan), free(trace), free(lent.marks), free(lent.spare), free(lent.classes);
         free(lent.reduction), free(lent.output), free(lent.table);
     }

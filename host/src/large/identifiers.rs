@@ -1,0 +1,217 @@
+//! What the vertices of a large game are called.
+
+use super::components::NONE;
+use super::lines::Lines;
+use super::scan::FileError;
+
+/// The most characters of a name that a message shows.
+const SHOWN: usize = 40;
+
+/// The ids and names of a game's vertices, as far as they take little memory beside the game.
+#[derive(Clone, Debug, Default)]
+pub struct Identifiers {
+    count: usize,
+    /// The first id, where all follow each other.
+    first: u32,
+    /// The ids, where they don't.
+    list: Vec<u32>,
+    names: Names,
+}
+
+impl Identifiers {
+    /// Vertices that have numbers alone, from 0.
+    pub fn numbers(count: usize) -> Identifiers {
+        Identifiers { count, ..Identifiers::default() }
+    }
+
+    /// The vertex's id, which is its number where no file gives another.
+    pub fn id(&self, vertex: u32) -> u32 {
+        if self.list.is_empty() {
+            return self.first + vertex;
+        }
+        self.list[vertex as usize]
+    }
+
+    /// The vertex with an id, if there is one.
+    pub fn vertex(&self, id: u32) -> Option<u32> {
+        if self.list.is_empty() {
+            return id.checked_sub(self.first).filter(|&vertex| (vertex as usize) < self.count);
+        }
+        self.list.binary_search(&id).ok().map(|vertex| vertex as u32)
+    }
+
+    /// The vertex's name, if it has one that was kept.
+    pub fn name(&self, vertex: u32) -> Option<String> {
+        let bytes = self.names.of(vertex)?;
+        Some(String::from_utf8_lossy(bytes).replace(char::is_control, "?"))
+    }
+
+    /// The vertex with this name, if there is exactly one.
+    pub fn named(&self, name: &str) -> Option<u32> {
+        let mut found =
+            self.names.whose.iter().filter(|&&vertex| self.name(vertex).as_deref() == Some(name));
+        match (found.next(), found.next()) {
+            (Some(&vertex), None) => Some(vertex),
+            _ => None,
+        }
+    }
+
+    /// Whether names were left out, as they would take more memory than the game.
+    pub fn left_out(&self) -> bool {
+        self.names.left_out
+    }
+
+    /// Whether an id is no vertex's number.
+    pub fn has_gaps(&self) -> bool {
+        self.first > 0 || !self.list.is_empty()
+    }
+
+    /// The vertex as a message names it: its number, or its id where ids aren't the numbers, and its name.
+    pub fn label(&self, vertex: u32) -> String {
+        let id =
+            if self.has_gaps() { format!("id {}", self.id(vertex)) } else { vertex.to_string() };
+        let Some(name) = self.name(vertex) else { return id };
+        let shown: String = name.chars().take(SHOWN).collect();
+        let more = if shown.len() < name.len() { ".." } else { "" };
+        format!("{id} \"{shown}{more}\"")
+    }
+
+    /// Takes the id of the next vertex of a file.
+    #[inline]
+    pub(super) fn push(&mut self, id: u32) {
+        if self.count == 0 {
+            self.first = id;
+        }
+        if self.list.is_empty() {
+            if u64::from(id) == u64::from(self.first) + self.count as u64 {
+                self.count += 1;
+                return;
+            }
+            self.list = (self.first..).take(self.count).collect();
+        }
+        self.list.push(id);
+        self.count += 1;
+    }
+
+    /// Takes the name of the last vertex, for a game of so many edges so far.
+    pub(super) fn push_name(&mut self, name: &[u8], edges: usize) {
+        self.names.push(self.count as u32 - 1, name, edges);
+    }
+
+    /// Sorts the ids, and returns the file's entries in that sequence, or none where they stand so.
+    pub(super) fn sort(&mut self, lines: &Lines) -> Result<Option<Vec<u32>>, FileError> {
+        if self.list.is_sorted_by(|id, next| id < next) {
+            return Ok(None);
+        }
+        let list = &self.list;
+        let mut entries: Vec<u32> = (0..self.count as u32).collect();
+        entries.sort_by_key(|&entry| list[entry as usize]);
+        let same = |pair: &&[u32]| list[pair[0] as usize] == list[pair[1] as usize];
+        // Of all second entries the first one in the file, as a reader comes upon it.
+        if let Some(pair) = entries.windows(2).filter(same).min_by_key(|pair| pair[1]) {
+            let [before, line] = [pair[0], pair[1]].map(|entry| lines.of(entry as usize));
+            let what = format!("line {before} has this id already");
+            return Err(FileError::at(
+                line,
+                Some(list[pair[0] as usize]),
+                what,
+                "give each vertex an id of its own",
+            ));
+        }
+        let sorted = entries.iter().map(|&entry| list[entry as usize]).collect();
+        self.list = sorted;
+        self.names.sort(&entries);
+        if self
+            .list
+            .last()
+            .is_some_and(|&last| u64::from(last - self.list[0]) + 1 == self.count as u64)
+        {
+            self.first = self.list[0];
+            self.list = Vec::new();
+        }
+        Ok(Some(entries))
+    }
+
+    /// Turns ids into the vertices that have them; else returns the place of the first that no vertex has.
+    pub(super) fn resolve(&self, ids: &mut [u32]) -> Result<(), usize> {
+        let (first, count) = (self.first, self.count);
+        if self.list.is_empty() {
+            if let Some(place) = ids.iter().position(|id| id.wrapping_sub(first) as usize >= count)
+            {
+                return Err(place);
+            }
+            ids.iter_mut().for_each(|id| *id -= first);
+            return Ok(());
+        }
+        let table = self.table();
+        for (place, id) in ids.iter_mut().enumerate() {
+            let vertex = match &table {
+                Some(table) => table.get(*id as usize).copied().filter(|&vertex| vertex != NONE),
+                None => self.vertex(*id),
+            };
+            *id = vertex.ok_or(place)?;
+        }
+        Ok(())
+    }
+
+    /// The vertex of each id, where that takes little memory.
+    fn table(&self) -> Option<Vec<u32>> {
+        let last = *self.list.last()? as usize;
+        if last / 4 > self.count {
+            return None;
+        }
+        let mut table = vec![NONE; last + 1];
+        for (vertex, &id) in (0..).zip(&self.list) {
+            table[id as usize] = vertex;
+        }
+        Some(table)
+    }
+}
+
+/// Names one behind the other, with the vertices whose they are and their ends.
+#[derive(Clone, Debug, Default)]
+struct Names {
+    bytes: Vec<u8>,
+    whose: Vec<u32>,
+    ends: Vec<u32>,
+    left_out: bool,
+}
+
+impl Names {
+    /// The memory that names may take, besides 8 bytes for each edge.
+    const FREE: usize = 1 << 20;
+
+    fn push(&mut self, vertex: u32, name: &[u8], edges: usize) {
+        let size = self.bytes.len() + name.len() + 8 * (self.whose.len() + 1);
+        if self.left_out || size > Names::FREE + 8 * edges || size > u32::MAX as usize {
+            *self = Names { left_out: true, ..Names::default() };
+            return;
+        }
+        self.bytes.extend_from_slice(name);
+        self.whose.push(vertex);
+        self.ends.push(self.bytes.len() as u32);
+    }
+
+    fn of(&self, vertex: u32) -> Option<&[u8]> {
+        let place = self.whose.binary_search(&vertex).ok()?;
+        Some(self.at(place))
+    }
+
+    fn at(&self, place: usize) -> &[u8] {
+        let start = place.checked_sub(1).map_or(0, |before| self.ends[before]);
+        &self.bytes[start as usize..self.ends[place] as usize]
+    }
+
+    /// The names for vertices that now stand in the sequence of these entries.
+    fn sort(&mut self, entries: &[u32]) {
+        let mut sorted = Names { left_out: self.left_out, ..Names::default() };
+        for (vertex, &entry) in (0..).zip(entries) {
+            if let Some(name) = self.of(entry) {
+                sorted.bytes.extend_from_slice(name);
+                sorted.whose.push(vertex);
+                sorted.ends.push(sorted.bytes.len() as u32);
+            }
+        }
+        *self = sorted;
+    }
+}
