@@ -54,7 +54,10 @@ fn numbers() {
     for word in ["17", "0", "42", "x", "+8", "65544"] {
         bad(
             &["explain", word],
-            &[&format!("`{word}` is no refusal number"), "1 to 16, 21 to 24 and 31 to 41"],
+            &[
+                &format!("`{word}` is no refusal number"),
+                "1 to 16, 21 to 24, 31 to 41 and 81 to 89",
+            ],
         );
     }
     for vertex in ["3", "x", "-1", "+1", ""] {

@@ -10,6 +10,7 @@ mod drawings;
 mod errors;
 mod habits;
 mod inputs;
+mod large;
 mod outputs;
 mod pgsolver;
 mod questions;

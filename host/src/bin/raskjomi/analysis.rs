@@ -1,9 +1,10 @@
 //! The library's answers on a game, with memory of the lengths needed.
 
 use crate::failure::Failure;
-use crate::input::{Input, Source};
+use crate::input::Input;
 use crate::locate::game_refused;
 use crate::progress::watch;
+use crate::source::Source;
 use crate::table::Table;
 use crate::vertices::Vertices;
 use raskjomi::{PlanSize, Refusal, Replay, Size, Verdict, MOST_PLAN_WORDS};

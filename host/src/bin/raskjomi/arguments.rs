@@ -2,7 +2,7 @@
 
 use crate::failure::Failure;
 use crate::help::{Command, REPEATED};
-use crate::input::{Encoding, Source};
+use crate::source::{Encoding, Source};
 use crate::{options, suggest};
 use std::collections::BTreeMap;
 use std::ffi::{OsStr, OsString};

@@ -5,13 +5,14 @@ use crate::arguments::{name_of, Arguments, Form};
 use crate::dot::{self as picture, Kept};
 use crate::failure::Failure;
 use crate::help::{self, Command};
-use crate::input::{self, number, plain_error, Input, Source, Unit};
+use crate::input::{self, number, Input, Unit};
 use crate::json::{self, Value};
 use crate::locate::{
     carry_refused, edit_refused, plan_refused, relation_refused, replay_refused, seed_refused,
 };
 use crate::output::{form_given, Output};
 use crate::progress::watch;
+use crate::source::{plain_error, Source};
 use crate::table::Table;
 use crate::vertices::Vertices;
 use crate::{suggest, tell, text};

@@ -3,7 +3,7 @@
 
 use crate::analysis::{members, Merged};
 use crate::failure::Failure;
-use crate::input::plain_error;
+use crate::source::plain_error;
 use crate::table::Table;
 use crate::vertices::Vertices;
 use raskjomi::is_marked;

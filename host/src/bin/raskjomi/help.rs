@@ -2,7 +2,7 @@
 
 use crate::arguments::Arguments;
 use crate::failure::Failure;
-use crate::{commands, files, manual, options, questions};
+use crate::{check_solution, commands, files, manual, options, questions};
 use std::ops::RangeInclusive;
 
 /// An option, and what its value is called if it has one.
@@ -43,10 +43,19 @@ impl Command {
     pub fn takes_game(&self) -> bool {
         self.usage.contains("GAME")
     }
+
+    /// What holds for the games that it reads.
+    fn of_games(&self) -> &'static [&'static str] {
+        match self.name {
+            "check-solution" => &[check_solution::GAMES],
+            _ if self.takes_game() => &[LIMITS, GAMES],
+            _ => &[],
+        }
+    }
 }
 
 /// The refusal numbers that `explain` knows.
-pub const NUMBERS: &str = "1 to 16, 21 to 24 and 31 to 41";
+pub const NUMBERS: &str = "1 to 16, 21 to 24, 31 to 41 and 81 to 89";
 
 /// What `seed` takes, in the sequence of its usage.
 pub const SEED_NUMBERS: [&str; 4] = ["SEED", "VERTICES", "DEGREE", "PRIORITIES"];
@@ -65,7 +74,7 @@ const AS_GAME: &[Opt] = &[Opt { name: "--as", value: Some("text, words, dot or p
 
 /// What a newcomer has to know of every game.
 const LIMITS: &str =
-    "A game has at most 512 vertices and 4,096 edges. The lowest priority seen for ever decides, and \
+    "A game has at most 512 vertices and 4,096 edges, but for `check-solution`, which takes any size. The lowest priority seen for ever decides, and \
      even favours Even; a game of a tool that says the highest goes through `convert` first.";
 
 /// How games are given, for every command that takes one.
@@ -300,7 +309,7 @@ pub const COMMANDS: [Command; 16] = [
         usage: "explain NUMBER",
         summary: "what a refusal number means, what its place counts, and what to do",
         details:
-            "A refused input gets one of the numbers 1 to 16, 21 to 24 and 31 to 41; 7 and 9 no longer occur.",
+            "A refused input gets one of the numbers 1 to 16, 21 to 24, 31 to 41 and 81 to 89; 7 and 9 no longer occur.",
         example: "./raskjomi explain 8",
         files: 1..=1,
         options: &[],
@@ -358,8 +367,8 @@ pub const COMMANDS: [Command; 16] = [
 
 /// All commands, in the sequence of the help.
 pub fn commands() -> impl Iterator<Item = &'static Command> {
-    let others = questions::COMMANDS.iter().chain(&files::COMMANDS).chain(&manual::COMMANDS);
-    COMMANDS.iter().chain(others)
+    let of_files = files::COMMANDS.iter().chain(&check_solution::COMMANDS);
+    COMMANDS.iter().chain(&questions::COMMANDS).chain(of_files).chain(&manual::COMMANDS)
 }
 
 /// The program's version.
@@ -388,8 +397,7 @@ pub fn paragraphs() -> [&'static str; 4] {
 /// The help of one command.
 pub fn of(command: &Command) -> String {
     let mut text = format!("usage: raskjomi {}\n\n{}\n", command.usage, command.summary);
-    let of_games: &[&str] = if command.takes_game() { &[LIMITS, GAMES] } else { &[] };
-    for part in [&[command.details], of_games].concat() {
+    for part in [&[command.details], command.of_games()].concat() {
         text += &format!("\n{}", wrapped(part));
     }
     let options: Vec<&Opt> = options::of(command).collect();

@@ -1,12 +1,12 @@
 //! Numbers from a file or standard input, binary or decimal text, with the places where they stand.
 
+use crate::check_solution::LARGER;
 use crate::failure::Failure;
 use crate::locate::game_refused;
 use crate::solution::SOLUTION;
+use crate::source::{Encoding, Source};
 use crate::vertices::Vertices;
 use crate::{pgsolver, scanner};
-use std::ffi::OsStr;
-use std::fs::File;
 use std::io::{self, Read};
 use std::str::FromStr;
 
@@ -18,38 +18,6 @@ pub enum Unit {
     /// A mark, 0 or 1, in text; in binary a byte of eight marks. An input of exactly so many bytes, all that the
     /// marks need, is binary whatever it holds.
     Mark(usize),
-}
-
-/// Where an input comes from, and how it is read.
-#[derive(Clone, Copy, Debug)]
-pub struct Source<'a> {
-    /// A file, or `-` for standard input.
-    pub path: &'a OsStr,
-    /// Whether the lowest priority decides in PGSolver's format, too.
-    pub lowest: bool,
-    /// What its bytes are, where somebody says it.
-    pub form: Option<Encoding>,
-}
-
-/// What the bytes of an input are.
-#[derive(Clone, Copy, Debug, PartialEq, Eq)]
-pub enum Encoding {
-    Text,
-    Binary,
-}
-
-impl Source<'_> {
-    /// Whether it is standard input.
-    pub fn is_standard(&self) -> bool {
-        self.path == "-"
-    }
-
-    /// The name that messages use.
-    pub fn name(&self) -> String {
-        let name =
-            if self.is_standard() { "standard input".into() } else { self.path.to_string_lossy() };
-        name.replace(char::is_control, "?")
-    }
 }
 
 /// Where the numbers stand.
@@ -196,19 +164,15 @@ struct Bytes {
 impl Bytes {
     fn read(source: Source) -> Result<Bytes, Failure> {
         let (name, form) = (source.name(), source.form);
-        match all_bytes(source) {
-            Ok(bytes) if bytes.len() > MOST_BYTES => Err(Failure::usage(format!(
-                "{name}: more than 16 MiB, the most that is read; a game has at most {} vertices and {} \
-                 edges: name a file that can be read",
-                raskjomi::MOST_VERTICES,
-                raskjomi::MOST_EDGES
-            ))),
-            Ok(bytes) => Ok(Bytes { name, bytes, form }),
-            Err(error) => Err(Failure::usage(format!(
-                "{name}: {}; name a file that can be read, or - for standard input",
-                plain_error(&error)
-            ))),
+        let bytes = all_bytes(source).map_err(|error| source.unreadable(&error))?;
+        if bytes.len() > MOST_BYTES {
+            let (n, m) = (raskjomi::MOST_VERTICES, raskjomi::MOST_EDGES);
+            return Err(Failure::usage(format!(
+                "{name}: more than 16 MiB, the most that is read; a game has at most {n} vertices and {m} \
+                 edges: name a file that can be read; {LARGER}"
+            )));
         }
+        Ok(Bytes { name, bytes, form })
     }
 
     fn bad(&self, what: &str) -> Failure {
@@ -271,23 +235,9 @@ impl Bytes {
 }
 
 fn all_bytes(source: Source) -> io::Result<Vec<u8>> {
-    let source: Box<dyn Read> = if source.is_standard() {
-        Box::new(io::stdin())
-    } else {
-        Box::new(File::open(source.path)?)
-    };
     let mut bytes = Vec::new();
-    source.take(MOST_BYTES as u64 + 1).read_to_end(&mut bytes)?;
+    source.open()?.take(MOST_BYTES as u64 + 1).read_to_end(&mut bytes)?;
     Ok(bytes)
-}
-
-/// An error in words, without its number in the system.
-pub fn plain_error(error: &io::Error) -> String {
-    let told = error.to_string();
-    let told = told.split(" (os error ").next().unwrap_or_default();
-    let mut letters = told.chars();
-    let first = letters.next().map(|first| first.to_lowercase().to_string());
-    first.unwrap_or_default() + letters.as_str()
 }
 
 /// The first control character that isn't a blank.
@@ -381,19 +331,19 @@ fn bad_word(name: &str, (line, word): (usize, usize), digits: &str, unit: Unit) 
         shown += "..";
     }
     let shown = shown.replace(char::is_control, "?");
+    let range = format!("no number from 0 to {}", u16::MAX);
     let remedy = match unit {
         Unit::Mark(bytes) => format!(
             "no mark; write 0 or 1 for each pair, between blanks or slashes, and comments after #, or \
              give exactly {bytes} bytes, eight marks in each"
         ),
         Unit::Word if digits.ends_with(';') => format!(
-            "no number from 0 to {}; a game in PGSolver's format begins with `parity N;`, with N the \
-             highest id: put that line first",
-            u16::MAX
+            "{range}; a game in PGSolver's format begins with `parity N;`, with N the highest id: put that \
+             line first"
         ),
+        Unit::Word if number(digits, u32::MAX).is_some() => format!("{range}; {LARGER}"),
         Unit::Word => format!(
-            "no number from 0 to {}; write decimal numbers between blanks or slashes, and comments after #",
-            u16::MAX
+            "{range}; write decimal numbers between blanks or slashes, and comments after #"
         ),
     };
     Failure::usage(format!("{name}: line {line}, word {word}: `{shown}` is {remedy}"))

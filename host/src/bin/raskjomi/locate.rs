@@ -2,6 +2,7 @@
 
 use crate::analysis::{Game, Merged};
 use crate::causes;
+use crate::check_solution::LARGER;
 use crate::failure::Failure;
 use crate::input::Input;
 use crate::table::Table;
@@ -25,7 +26,11 @@ pub fn game_refused(refusal: Refusal, game: &Input) -> Failure {
         36 => (place, format!("vertex {}", game.vertices.label(place - 2))),
         _ => (place, String::new()),
     };
-    tell(refusal, game.at(index, &detail))
+    let mut failure = tell(refusal, game.at(index, &detail));
+    if refusal.number == 3 || (refusal.number == 2 && number(0) > 0) {
+        failure.message += &format!("; {LARGER}");
+    }
+    failure
 }
 
 /// A refusal of a relation on a game that is accepted.

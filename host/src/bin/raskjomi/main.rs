@@ -4,6 +4,7 @@
 mod analysis;
 mod arguments;
 mod causes;
+mod check_solution;
 mod commands;
 mod dot;
 mod failure;
@@ -12,6 +13,7 @@ mod graph;
 mod help;
 mod input;
 mod json;
+mod large;
 mod locate;
 mod manual;
 mod options;
@@ -21,6 +23,7 @@ mod progress;
 mod questions;
 mod scanner;
 mod solution;
+mod source;
 mod suggest;
 mod table;
 mod text;
@@ -39,7 +42,7 @@ fn main() -> ExitCode {
         Err(failure) => (failure.output.into(), Some(failure.message), failure.status),
     };
     if let Err(error) = print(&output) {
-        let error = input::plain_error(&error);
+        let error = source::plain_error(&error);
         tell(&format!("standard output: {error}; write it where there is room"));
         return ExitCode::from(2);
     }

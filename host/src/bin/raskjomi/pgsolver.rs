@@ -1,5 +1,6 @@
 //! Games in PGSolver's format, `parity N; id priority owner successor,successor "name"; ..`.
 
+use crate::check_solution::LARGER;
 use crate::scanner::{Problem, Scanner, Token};
 use crate::table::Table;
 use crate::vertices::Vertices;
@@ -86,9 +87,10 @@ fn vertex(scanner: &mut Scanner, line: usize, token: Token) -> Result<Vertex, Pr
     };
     let (_, priority) = scanner.number(Some(id), "a priority", REMEDY)?;
     let priority = u16::try_from(priority).map_err(|_| {
-        let remedy =
-            "number the priorities in use anew, in the same sequence and each with its parity";
-        Problem::at(line, Some(id), format!("priority {priority} is above 65535"), remedy.into())
+        let remedy = format!(
+            "number the priorities in use anew, in the same sequence and each with its parity; {LARGER}"
+        );
+        Problem::at(line, Some(id), format!("priority {priority} is above 65535"), remedy)
     })?;
     let (_, owner) = scanner.number(Some(id), "an owner", REMEDY)?;
     if owner > 1 {
@@ -173,8 +175,9 @@ fn sizes(header: usize, vertices: &[Vertex]) -> Result<[u16; 2], Problem> {
         u16::try_from(count).map_err(|_| {
             let what = format!("{} vertices and {edges} edges", vertices.len());
             let (n, m) = (raskjomi::MOST_VERTICES, raskjomi::MOST_EDGES);
-            let remedy =
-                format!("a game has at most {n} vertices and {m} edges; bring a part of it");
+            let remedy = format!(
+                "a game has at most {n} vertices and {m} edges; bring a part of it; {LARGER}"
+            );
             Problem::at(header, None, what, remedy)
         })
     };
