@@ -6,6 +6,10 @@ mod carries;
 mod damage;
 mod edits;
 mod families;
+mod large;
+mod large_families;
+mod large_solver;
+mod large_words;
 mod lcg;
 mod plans;
 mod relations;
@@ -24,6 +28,13 @@ pub use edits::{damaged_trace, edge_to_edit, trace, trace_words, words_behind};
 pub use families::{
     chain, complete, copies, fans, forced_ring, random, ring, rings, tailed_rings, watched_rings,
 };
+pub use large::LargeTable;
+pub use large_families::{
+    any_large, large_clique, large_component, large_ladder, large_loops, large_nested, large_path,
+    large_random,
+};
+pub use large_solver::{solve_large, LargeSolved};
+pub use large_words::{certificate_of, some_order, LargeWords, LARGE_REFUSALS};
 pub use lcg::Lcg;
 pub use plans::{largest_plan, plans_at_limits, strategy_plan, unfolded, Plan};
 pub use relations::{relation, set_unused_bits};

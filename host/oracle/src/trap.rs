@@ -263,6 +263,39 @@ pub enum Trap {
     LowestMemberCounted,
     /// The report's totals leave the last class out.
     ClassLeftOut,
+
+    /// A game of more than 512 vertices is refused by the check of solutions.
+    LimitsKept,
+    /// Its reader refuses a vertex without an edge, as the other reader does.
+    EdgeAskedByReader,
+    /// A move is the number of a successor, not of an edge.
+    ChoiceAsTarget,
+    /// Only chosen edges are kept, at the loser's vertices too.
+    ChosenEdgesOnly,
+    /// All edges are kept, at the winner's vertices too.
+    WinnersEdgesAllKept,
+    /// Kept edges are judged before it is known that each chosen edge is its vertex's own.
+    LeavingBeforeStray,
+    /// A kept edge to another winner is reported by its source.
+    LeavingByVertex,
+    /// A certificate longer than the game asks for is taken.
+    LongCertificateTaken,
+    /// The vertex at each place is judged, not the place of each vertex.
+    MisplacedByPlace,
+    /// A vertex of equal priority is over another, whoever wins there.
+    EqualIsOver,
+    /// A vertex of equal priority is never over another.
+    EqualIsNotOver,
+    /// Of the places whose runs fail the first is told.
+    FirstRunTold,
+    /// A run may be shorter than it could be.
+    ShortRunTaken,
+    /// A run of its own place alone may end before it.
+    RunBackTaken,
+    /// A kept edge may go up beyond the run of its source.
+    RunsUnused,
+    /// A kept edge may go up from a priority of the loser's to an equal one.
+    EqualLetUp,
 }
 
 impl Trap {
@@ -395,5 +428,25 @@ impl Trap {
         Trap::EdgesToClass,
         Trap::LowestMemberCounted,
         Trap::ClassLeftOut,
+    ];
+
+    /// The traps of the check of solutions, which has tests of its own.
+    pub const OF_LARGE: [Trap; 16] = [
+        Trap::LimitsKept,
+        Trap::EdgeAskedByReader,
+        Trap::ChoiceAsTarget,
+        Trap::ChosenEdgesOnly,
+        Trap::WinnersEdgesAllKept,
+        Trap::LeavingBeforeStray,
+        Trap::LeavingByVertex,
+        Trap::LongCertificateTaken,
+        Trap::MisplacedByPlace,
+        Trap::EqualIsOver,
+        Trap::EqualIsNotOver,
+        Trap::FirstRunTold,
+        Trap::ShortRunTaken,
+        Trap::RunBackTaken,
+        Trap::RunsUnused,
+        Trap::EqualLetUp,
     ];
 }

@@ -3,7 +3,7 @@
 use crate::calls::Call;
 use crate::common::say;
 use crate::samples::cases;
-use generator::Lcg;
+use generator::{Lcg, LARGE_REFUSALS};
 use oracle::Oracle;
 use std::collections::BTreeMap;
 use std::thread;
@@ -73,10 +73,11 @@ fn kinds_agree() {
 #[test]
 fn every_refusal_is_explained() {
     for number in 0..1000 {
-        let given = matches!(number, 1..=16 | 21..=24 | 31..=41);
+        let given = matches!(number, 1..=16 | 21..=24 | 31..=41 | 81..=89);
         assert_eq!(raskjomi::explain(number).is_some(), given, "{number}");
         let kind = Oracle::exact().kind(number);
-        let known = (1..=4).contains(&kind) || kind == 5 && number <= 41;
+        let of_calls = number <= 41 || LARGE_REFUSALS.contains(&number);
+        let known = (1..=4).contains(&kind) || kind == 5 && of_calls;
         assert_eq!(given, known, "{number}");
     }
 }
