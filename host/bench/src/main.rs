@@ -1,10 +1,12 @@
 //! The library beside a baseline: safe Rust of the same algorithms, in one run, on buffers of the same
-//! lengths, which neither clears first. Up to 256 vertices the order stands beside plain passes, too.
+//! lengths, which neither clears first. Up to 256 vertices the order stands beside plain passes, too. The check of
+//! solutions has rows of its own, which the argument `large` asks for.
 #![forbid(unsafe_code)]
 
 mod baseline;
 mod edits;
 mod governed;
+mod large;
 mod measure;
 mod packing;
 mod rows;
@@ -14,6 +16,7 @@ use raskjomi::exports::{self, RaskjomiAnswer};
 use rows::{Row, Work, WATCHED};
 use std::array::from_fn;
 use std::collections::BTreeMap;
+use std::process::ExitCode;
 use std::time::Duration;
 
 /// The memory that a side works in.
@@ -260,7 +263,8 @@ fn show_growth(times: &BTreeMap<(&str, u16), Duration>) {
     println!("time at n 512 over the time at n 256, at most 10 asked: {largest:.2}");
 }
 
-fn main() {
+/// The rows of the calls that have limits.
+fn show_calls() {
     let [library, plain, baseline] = ["library µs", "plain µs", "bit rows µs"];
     let heads = ["game", "n", "m", "passes", library, plain, "ratio", baseline, "ratio", "KiB"];
     println!("{}", line(heads));
@@ -288,4 +292,28 @@ fn main() {
     show_growth(&times);
     packing::show(&rows);
     governed::show(&rows);
+}
+
+/// Shows the rows of the calls that have limits; with the argument `large`, those of the check of solutions; with
+/// `read` and a file, the memory that reading it takes.
+fn main() -> ExitCode {
+    let arguments: Vec<String> = std::env::args().skip(1).collect();
+    let words: Vec<&str> = arguments.iter().map(String::as_str).collect();
+    let of_file = |error| format!("the file of a game: {error}");
+    let shown = match words[..] {
+        [] => {
+            show_calls();
+            Ok(())
+        }
+        ["large"] => large::show().map_err(of_file),
+        ["read", file] => large::tell_memory(file).map_err(of_file),
+        _ => Err("give no argument, or `large`, or `read FILE`".into()),
+    };
+    match shown {
+        Ok(()) => ExitCode::SUCCESS,
+        Err(what) => {
+            eprintln!("bench: {what}");
+            ExitCode::FAILURE
+        }
+    }
 }
