@@ -9,4 +9,5 @@ pub mod winners
 pub mod solutions
 pub mod classes
 pub mod carry
+pub mod merges
 pub mod examples
