@@ -1,0 +1,4 @@
+pub mod Images
+pub mod ImagesLaws
+pub mod ImagesRules
+pub mod ImagesRulesLaws
