@@ -1,0 +1,2 @@
+pub mod WinnersLaws
+pub mod Worked
