@@ -46,6 +46,9 @@ extern "C" {
 #define RASKJOMI_SOLUTION_WORDS(n) (2 * (size_t)(n))
 #define RASKJOMI_CERTIFICATE_WORDS(n) (3 * (size_t)(n))
 
+/* The words of the certificate of a reduction, of a large game of n vertices and m edges to one of k vertices. */
+#define RASKJOMI_REDUCTION_WORDS(n, m, k) ((size_t)(n) + (size_t)(k) + 2 * (size_t)(m))
+
 /* Marks are bits, eight in a byte: that of the pair (v, w) of n vertices is number i = v * n + w, bit i % 8 of byte i / 8,
  * where bit 0 is the lowest. The bytes of all of them; and whether a pair is marked, 1 or 0. */
 #define RASKJOMI_MARKS_BYTES(n) (((size_t)(n) * (size_t)(n) + 7) / 8)
@@ -215,8 +218,24 @@ RaskjomiAnswer raskjomi_large_read(const uint32_t *game, size_t game_len);
 RaskjomiAnswer raskjomi_large_solution(const uint32_t *game, size_t game_len, const uint32_t *solution,
                                        size_t solution_len, const uint32_t *certificate, size_t certificate_len);
 
-/* What a refusal number is about: 1 the game, 2 the relation, 3 the plan, 4 the lent memory, 5 a later addition, 0 no
- * refusal. */
+/* Judges a reduction of a large game by a certificate; where it accepts, every vertex of both games has an edge out, and the
+ * winner at each vertex is the winner at its class in the reduced game. The reduced game is a large game whose edges stand by
+ * ascending source, so that the edges out of a class are a row; classes is a vertex of it for each vertex of the game. A
+ * certificate is for each vertex the number of an edge out of it, its start, whose image is the first of a row; for each
+ * class a vertex of it; for each edge of the game its image, the number of an edge of the reduced game between the classes of
+ * its ends; and for each edge whose image isn't the last of its row the number of an edge of the same source with the next
+ * image, anything where it is. The call writes nothing, and has no counts. Refusals: those of raskjomi_large_read, the same of
+ * the reduced game with 90 added, 97 an edge of the reduced game with a lower source than the one before it, at the edge; of the
+ * classes 98 their number, 99 a class that isn't there, at the vertex, 100 another priority than that of the class, at the
+ * vertex; of the certificate 101 its length, 102 a vertex that isn't of the class, at the class, 103 an image that isn't
+ * such an edge, at the edge of the game, 104 a start that isn't such an edge, at the vertex, 105 another owner than that of the
+ * class, which has a second edge, at the vertex, 106 an edge that isn't such a one after it, at the edge of the game. */
+RaskjomiAnswer raskjomi_large_reduction(const uint32_t *game, size_t game_len, const uint32_t *reduced,
+                                        size_t reduced_len, const uint32_t *classes, size_t classes_len,
+                                        const uint32_t *certificate, size_t certificate_len);
+
+/* What a refusal number is about: 1 the game, 2 the relation, 3 the plan, 4 the lent memory, 5 a later addition (31 to 99),
+ * 0 any other number: none of the contract's, though 100 to 106 are refusals of raskjomi_large_reduction. */
 uint32_t raskjomi_kind(uint32_t number);
 
 #ifdef __cplusplus

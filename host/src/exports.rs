@@ -167,6 +167,12 @@ extern "C" {
         solution: *const u32, solution_len: usize,
         certificate: *const u32, certificate_len: usize,
     ) -> RaskjomiAnswer;
+    fn raskjomi_large_reduction(
+        game: *const u32, game_len: usize,
+        reduced: *const u32, reduced_len: usize,
+        classes: *const u32, classes_len: usize,
+        certificate: *const u32, certificate_len: usize,
+    ) -> RaskjomiAnswer;
     fn raskjomi_kind(number: u32) -> u32;
 }
 
@@ -407,6 +413,16 @@ pub fn large_read(game: &[u32]) -> RaskjomiAnswer {
 /// The check of a large game's solution with its certificate.
 pub fn large_solution(game: &[u32], solution: &[u32], certificate: &[u32]) -> RaskjomiAnswer {
     call!(raskjomi_large_solution; shared game, solution, certificate; lent)
+}
+
+/// The check of a large game's reduction with its certificate.
+pub fn large_reduction(
+    game: &[u32],
+    reduced: &[u32],
+    classes: &[u32],
+    certificate: &[u32],
+) -> RaskjomiAnswer {
+    call!(raskjomi_large_reduction; shared game, reduced, classes, certificate; lent)
 }
 
 /// The kind of a refusal number.

@@ -16,8 +16,8 @@
 //!
 //! [`Game`], [`Plan`] and [`Trace`] own their words, for hosts that need not lend memory.
 //!
-//! A solution of a game of any size, of 32-bit words, is checked by [`large_solution`], with an order of the vertices for a certificate:
-//! see [`large`].
+//! A solution of a game of any size, of 32-bit words, is checked by [`large_solution`], with an order of the vertices for a certificate, and a
+//! reduction of one by [`large_reduction`]: see [`large`].
 //!
 //! No call uses the heap, and none keeps anything: calls may run on several threads at once. A thread that
 //! calls needs [`LEAST_STACK`] bytes of stack. Time is bounded by the sizes: the order, and all that writes
@@ -48,8 +48,9 @@ mod player;
 mod refusal;
 
 use exports::RaskjomiAnswer;
-pub use large::{large_read, large_solution, Certificate, Flaw, LargeGame, LargeSize};
-pub use large::{LargeSolution, SavedError, Uncertified};
+pub use large::{large_read, large_reduction, large_solution, Certificate, Flaw, LargeGame};
+pub use large::{LargeReduction, LargeSize, LargeSolution, Members, Misfit, SavedError};
+pub use large::{SavedKind, Uncertified, Unreduced};
 pub use marks::{is_marked, mark_bytes, pack_marks};
 pub use owned::{Game, GameBuilder, Order, Plan, Reduced, Trace};
 pub use player::Player;

@@ -44,7 +44,7 @@ impl std::error::Error for Refusal {}
 #[derive(Clone, Copy, Debug, PartialEq, Eq)]
 #[non_exhaustive]
 pub enum Kind {
-    /// The number is no refusal's.
+    /// The number is no refusal's, or it is above 99, where the kinds end: the refusals 100 to 106 have none.
     None,
     /// The game table.
     Game,
@@ -66,6 +66,7 @@ impl Kind {
     /// assert_eq!(Kind::of(8), Kind::Game);
     /// assert_eq!(Kind::of(24), Kind::Memory);
     /// assert_eq!(Kind::of(17), Kind::None);
+    /// assert_eq!((Kind::of(99), Kind::of(100)), (Kind::Later, Kind::None));
     /// ```
     pub fn of(number: u32) -> Kind {
         match exports::kind(number) {
@@ -136,6 +137,10 @@ pub fn explain(number: u32) -> Option<Explanation> {
         41 => &UNUSED,
         81..=84 => &SOLUTION[number as usize - 81],
         85..=89 => &CERTIFICATE[number as usize - 85],
+        91..=92 => &REDUCED[number as usize - 91],
+        94..=97 => &REDUCED[number as usize - 92],
+        98..=100 => &CLASSES[number as usize - 98],
+        101..=106 => &IMAGES[number as usize - 101],
         _ => return None,
     };
     Some(*row)
@@ -370,5 +375,92 @@ const CERTIFICATE: [Explanation; 5] = [
          loser's for one no lower",
         "the number of the first such edge, from 0",
         "make the certificate anew; where there is none, the solution is wrong, and the loser wins a closed walk of kept edges",
+    ),
+];
+
+const REDUCED: [Explanation; 6] = [
+    row(
+        "the reduced game's table has fewer than 2 words",
+        "the number of words",
+        "begin the table with its sizes: the number of classes, then the number of edges between them",
+    ),
+    row(
+        "the reduced game has no vertices",
+        "word 0, which holds their number",
+        "give the reduced game a vertex for each class",
+    ),
+    row(
+        "the reduced game's table has a length that doesn't fit its sizes",
+        "the number of words",
+        "write 2 sizes, k priorities, k owners, q sources and q targets: 2 + 2k + 2q words",
+    ),
+    row(
+        "an owner in the reduced game is above 1",
+        "the first such word of its table",
+        "write 0 for Even's vertices and 1 for Odd's",
+    ),
+    row(
+        "an edge of the reduced game starts or ends at a vertex that isn't there",
+        "the first such word of its table",
+        "classes count from 0, so write a number below the number of the reduced game's vertices",
+    ),
+    row(
+        "an edge of the reduced game has a lower source than the edge before it",
+        "the number of the first such edge in the reduced game, from 0",
+        "write the reduced game's edges by ascending source; the numbers of the images change with it",
+    ),
+];
+
+const CLASSES: [Explanation; 3] = [
+    row(
+        "the number of class words isn't the number of vertices",
+        "the number of class words",
+        "write the class of each vertex of the game: n words",
+    ),
+    row(
+        "a vertex has a class that isn't there",
+        "the lowest such vertex",
+        "classes count from 0, so write a number below the number of the reduced game's vertices",
+    ),
+    row(
+        "a vertex and its class have different priorities",
+        "the lowest such vertex",
+        "the reduction is wrong: put the vertex into a class of its priority, or give the class the priority of its members",
+    ),
+];
+
+const IMAGES: [Explanation; 6] = [
+    row(
+        "the length of the reduction's certificate doesn't fit the sizes of the games",
+        "the number of words",
+        "write a start for each vertex, a member for each class, then an image and an edge after it for each edge of the game: n + k + 2m words",
+    ),
+    row(
+        "the member that is named for a class isn't a vertex of the class",
+        "the lowest such class",
+        "name a vertex of the class; where it has none, leave the class out of the reduced game",
+    ),
+    row(
+        "the image of an edge isn't an edge of the reduced game between the classes of the edge's ends",
+        "the number of the first such edge in the game, from 0",
+        "name such an edge by its number in the reduced game, from 0; where there is none, the reduced game lacks a move of a vertex, and the \
+         reduction is wrong",
+    ),
+    row(
+        "the start of a vertex isn't an edge out of it, or the image of its start isn't the first edge out of its class",
+        "the lowest such vertex",
+        "name an edge of the vertex to the class that the first edge out of its own class leads to; where there is none, the vertex lacks a move \
+         of its class, or has none at all, and the reduction is wrong",
+    ),
+    row(
+        "a vertex has another owner than its class, and the class has a second edge",
+        "the lowest such vertex",
+        "give the class the owner of its vertices; those of both players share a class only where it has one edge, and that is written a single time",
+    ),
+    row(
+        "the edge that is named after an edge isn't one of the same source with the next image, though that is an edge out of the same class",
+        "the number of the first such edge in the game, from 0",
+        "name an edge of the same source whose image is the next edge of the reduced game; where there is none, the vertex lacks a move of its \
+         class, and the reduction is wrong",
     ),
 ];

@@ -94,7 +94,7 @@ fn functions_are_those_of_the_exports() {
     let block = between(&declarations, "extern \"C\" {", "}");
     let declared = functions(block, "fn ");
     assert_eq!(declared, exports_in_rattle());
-    assert_eq!(declared.len(), 23);
+    assert_eq!(declared.len(), 24);
 }
 
 /// The header without comments and directives, with single blanks.

@@ -25,6 +25,8 @@ struct Case {
     trace: Vec<u16>,
     /// A large game, a solution and a certificate.
     large: [Vec<u32>; 3],
+    /// A large game, a reduced game, classes and a certificate.
+    merged: [Vec<u32>; 4],
 }
 
 fn cases() -> Vec<Case> {
@@ -53,6 +55,7 @@ fn cases() -> Vec<Case> {
             edge,
             trace: trace_words(&entries[..entries.len().min(20)]),
             large: large(&mut lcg),
+            merged: merged(&mut lcg),
         });
     }
     cases
@@ -61,8 +64,20 @@ fn cases() -> Vec<Case> {
 /// A large game with a right solution and its certificate, or with one word changed or left out.
 fn large(lcg: &mut Lcg) -> [Vec<u32>; 3] {
     let game = vec![3, 4, 1, 0, 70_000, 0, 1, 1, 0, 0, 1, 2, 0, 1, 0, 2];
-    let mut lists = [game, vec![0, 0, 0, 1, 2, 3], vec![1, 0, 2, 1, 0, 2, 2, 2, 2]];
-    let list = &mut lists[lcg.below(3)];
+    spoilt(lcg, [game, vec![0, 0, 0, 1, 2, 3], vec![1, 0, 2, 1, 0, 2, 2, 2, 2]])
+}
+
+/// A large game with a right reduction and its certificate, or with one word changed or left out.
+fn merged(lcg: &mut Lcg) -> [Vec<u32>; 4] {
+    let game = vec![4, 6, 2, 2, 0, 70_000, 0, 0, 0, 1, 0, 0, 1, 1, 2, 3, 2, 3, 3, 2, 2, 3];
+    let reduced = vec![3, 4, 2, 0, 70_000, 0, 0, 1, 0, 0, 1, 2, 1, 2, 1, 2];
+    let certificate = vec![0, 3, 4, 5, 0, 2, 3, 0, 1, 1, 0, 2, 3, 1, 0, 0, 2, 0, 0];
+    spoilt(lcg, [game, reduced, vec![0, 0, 1, 2], certificate])
+}
+
+/// The lists, mostly with one word changed or left out.
+fn spoilt<const N: usize>(lcg: &mut Lcg, mut lists: [Vec<u32>; N]) -> [Vec<u32>; N] {
+    let list = &mut lists[lcg.below(N)];
     let place = lcg.below(list.len());
     match lcg.below(8) {
         0 | 1 => {}
@@ -119,7 +134,7 @@ impl Lent {
 
 /// What Rust gets for a case, in the program's lines.
 fn expected(case: &Case) -> String {
-    let Case { game, player, plan, vertex, edge: (source, target), trace, large } = case;
+    let Case { game, player, plan, vertex, edge: (source, target), trace, large, merged } = case;
     let (player, vertex, source, target) = (*player, *vertex, *source, *target);
     let size = raskjomi::read(game);
     let (marks, n) = size.map_or((1, 1), |size| (size.marks(), size.vertices));
@@ -206,6 +221,8 @@ fn expected(case: &Case) -> String {
     let [large, solution, certificate] = large;
     call("large_read", true, &|_| e::large_read(large));
     call("large_solution", true, &|_| e::large_solution(large, solution, certificate));
+    let [game, reduced, classes, images] = merged;
+    call("large_reduction", true, &|_| e::large_reduction(game, reduced, classes, images));
     text
 }
 
@@ -213,8 +230,10 @@ fn expected(case: &Case) -> String {
 fn constants() -> String {
     use raskjomi as r;
     let size = r::large_read(&[1, 0, 0, 0]).expect("a large game");
+    let four = r::large_read(&[4, 6].into_iter().chain([0; 20]).collect::<Vec<u32>>());
+    let three = r::large_read(&[3, 0, 0, 0, 0, 0, 0, 0]).expect("a large game");
     let mut text = format!(
-        "limits {} {} {} {} {} {} {} {} {} {} {} {} {}\n",
+        "limits {} {} {} {} {} {} {} {} {} {} {} {} {} {}\n",
         r::MOST_VERTICES,
         r::MOST_EDGES,
         r::MOST_POSITIONS,
@@ -227,9 +246,10 @@ fn constants() -> String {
         r::MOST_PLAN_WORDS,
         size.solution_words(),
         size.certificate_words(),
+        four.expect("a large game").reduction_words(three),
         size_of::<RaskjomiAnswer>()
     );
-    (0..102).for_each(|i| writeln!(text, "kind {}", exports::kind(i)).expect("a string takes all"));
+    (0..108).for_each(|i| writeln!(text, "kind {}", exports::kind(i)).expect("a string takes all"));
     text
 }
 
@@ -261,7 +281,8 @@ fn a_c_program_gets_the_answers_that_rust_gets() {
         .map(|case| {
             let (game, plan, trace) = (listed(&case.game), listed(&case.plan), listed(&case.trace));
             let (player, vertex, (source, target)) = (case.player, case.vertex, case.edge);
-            let large: String = case.large.iter().map(|words| listed(words) + " ").collect();
+            let large = case.large.iter().chain(&case.merged);
+            let large: String = large.map(|words| listed(words) + " ").collect();
             format!("{game} {player} {plan} {vertex} {source} {target} {trace} {large}\n")
         })
         .collect();
@@ -294,13 +315,16 @@ fn a_c_program_gets_the_answers_that_rust_gets() {
         "seed",
         "large_read",
         "large_solution",
+        "large_reduction",
     ];
     for call in calls {
         assert!(accepted(call), "no case accepts {call}");
     }
-    let refused = expected.lines().filter_map(|line| line.strip_prefix("large_solution "));
-    let refused: BTreeSet<&str> = refused.filter_map(|line| line.split(' ').next()).collect();
-    assert!(refused.len() > 6, "{refused:?}");
+    for call in ["large_solution ", "large_reduction "] {
+        let answers = expected.lines().filter_map(|line| line.strip_prefix(call));
+        let numbers: BTreeSet<&str> = answers.filter_map(|line| line.split(' ').next()).collect();
+        assert!(numbers.len() > 6, "{call}{numbers:?}");
+    }
     // The answer's last number but the hash.
     let verdicts = expected.lines().filter(|line| line.starts_with("verdict 0 "));
     let shown: Vec<&str> = verdicts.filter_map(|line| line.rsplit(' ').nth(1)).collect();

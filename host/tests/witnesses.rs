@@ -46,6 +46,7 @@ impl Case {
             ("trace", 0),
             ("solution", 0),
             ("certificate", 0),
+            ("reduced", 0),
             ("marks", marks),
             ("spare", marks),
             ("class words", MOST_VERTICES),
@@ -183,6 +184,11 @@ impl Case {
                 let [game, solution, certificate] =
                     ["game", "solution", "certificate"].map(|name| self.wide(name));
                 exports::large_solution(&game, &solution, &certificate)
+            }
+            "large_reduction" => {
+                let [game, reduced, classes, certificate] =
+                    ["game", "reduced", "class words", "certificate"].map(|name| self.wide(name));
+                exports::large_reduction(&game, &reduced, &classes, &certificate)
             }
             _ => return None,
         })
@@ -401,6 +407,10 @@ fn a_witness_that_is_false_or_garbled_is_noticed() {
     let large = "`large_solution` on game 1 1 / 0 / 0 / 0 / 0, solution 0 0, certificate 0 0 0";
     assert_eq!(holds(&format!("{large}: accepted; here not.")), Some(true));
     assert_eq!(holds(&format!("{large}: 89 at 0; here not.")), Some(false));
+    let large = "`large_reduction` on game 1 1 / 0 / 0 / 0 / 0, reduced 1 1 / 0 / 0 / 0 / 0, \
+                 class words 0, certificate 0 0 0 0";
+    assert_eq!(holds(&format!("{large}: accepted; here not.")), Some(true));
+    assert_eq!(holds(&format!("{large}: 106 at 0; here not.")), Some(false));
     for witness in [
         "`order` on game C: passes 1; here 2.",
         "`order` on game C: pair 2 1 marked.",

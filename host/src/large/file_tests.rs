@@ -19,16 +19,23 @@ const GAPS: &str = "% a game\nparity 9;\nstart 5;\n3 2 0 5,9 \"door, open\";\n5 
 
 #[test]
 fn ids_names_comments_and_a_start() {
-    let GameFile { words, vertices, start, even } = game(GAPS);
+    let GameFile { words, vertices, start, even, in_pgsolver } = game(GAPS);
     // The highest priority is 2, so a priority q becomes 2 - q; ids 3, 5 and 9 are vertices 0, 1 and 2.
     assert_eq!(words, [3, 4, 0, 1, 2, 0, 1, 0, 0, 0, 1, 2, 1, 2, 0, 2]);
-    assert_eq!((start, even), (Some(1), Some(2)));
+    assert_eq!((start, even, in_pgsolver), (Some(1), Some(2), true));
     let labels = [0, 1, 2].map(|vertex| vertices.label(vertex));
     assert_eq!(labels, ["id 3 \"door, open\"", "id 5", "id 9 \"clos\u{e9}\""]);
     assert_eq!((vertices.named("clos\u{e9}"), vertices.named("x")), (Some(2), None));
     assert_eq!([3, 4, 9, 10].map(|id| vertices.vertex(id)), [Some(0), None, Some(2), None]);
     let lowest = read_game(GAPS.as_bytes(), None, true).expect("a game");
     assert_eq!((&lowest.words[2..5], lowest.even), (&[2, 1, 0][..], None));
+}
+
+#[test]
+fn names_of_some_vertices() {
+    let some = game(GAPS).vertices.renumbered(&[1, 2]);
+    assert_eq!([0, 1].map(|vertex| some.label(vertex)), ["0", "1 \"clos\u{e9}\""]);
+    assert_eq!((some.vertex(1), some.vertex(2)), (Some(1), None));
 }
 
 #[test]

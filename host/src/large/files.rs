@@ -58,10 +58,10 @@ pub fn read_game(
             let what = "a solution in PGSolver's format, where a game is wanted";
             return Err(FileError::at(scanner.line, None, what, "name the game first"));
         }
-        decimal(&mut scanner, first)?
+        decimal(&mut scanner, first, FORMATS)?
     };
     let vertices = Identifiers::numbers(words.first().copied().unwrap_or_default() as usize);
-    Ok(GameFile { words, vertices, start: None, even: None })
+    Ok(GameFile { words, vertices, start: None, even: None, in_pgsolver: false })
 }
 
 /// Reads a solution of a game whose words [`LargeGame`](crate::LargeGame) accepts, with what its vertices are called. In PGSolver's format the
@@ -105,7 +105,17 @@ pub fn read_solution(
         let what = "a game in PGSolver's format, where a solution is wanted";
         return Err(FileError::at(scanner.line, None, what, "name the solution after the game"));
     }
-    decimal(&mut scanner, first)
+    decimal(&mut scanner, first, FORMATS)
+}
+
+/// Reads words, such as the class of each vertex: as text, or as binary if one of the first bytes is of no text and nobody says what they are.
+pub fn read_words(input: impl Read, form: Option<FileForm>) -> Result<Vec<u32>, FileError> {
+    let mut scanner = Scanner::new(input);
+    if is_binary(&scanner, form) {
+        return whole_words(&bytes(&mut scanner)?);
+    }
+    let first = scanner.next()?;
+    decimal(&mut scanner, first, "")
 }
 
 fn is_binary<R: Read>(scanner: &Scanner<R>, form: Option<FileForm>) -> bool {
@@ -114,8 +124,16 @@ fn is_binary<R: Read>(scanner: &Scanner<R>, form: Option<FileForm>) -> bool {
     form.map_or(first.iter().any(is_control), |form| form == FileForm::Binary)
 }
 
-/// Decimal numbers, from a first token on.
-fn decimal<R: Read>(scanner: &mut Scanner<R>, first: Token) -> Result<Vec<u32>, FileError> {
+/// What a file of a game or a solution may have in place of words.
+const FORMATS: &str =
+    ", or PGSolver's format, whose first word is `parity` for a game and `paritysol` for a solution";
+
+/// Decimal numbers, from a first token on; an error names other formats.
+fn decimal<R: Read>(
+    scanner: &mut Scanner<R>,
+    first: Token,
+    formats: &str,
+) -> Result<Vec<u32>, FileError> {
     let (mut words, mut token) = (Vec::new(), first);
     loop {
         match token {
@@ -123,9 +141,10 @@ fn decimal<R: Read>(scanner: &mut Scanner<R>, first: Token) -> Result<Vec<u32>, 
             Token::Slash => (),
             Token::End => return Ok(words),
             found => {
-                let remedy = "write decimal numbers between blanks or slashes, with comments after #, or PGSolver's \
-                              format, whose first word is `parity` for a game and `paritysol` for a solution";
-                return Err(scanner.unexpected(found, None, "a number", remedy));
+                let words =
+                    "write decimal numbers between blanks or slashes, with comments after #";
+                let remedy = format!("{words}{formats}");
+                return Err(scanner.unexpected(found, None, "a number", &remedy));
             }
         }
         token = scanner.next()?;

@@ -24,6 +24,12 @@ impl Identifiers {
         Identifiers { count, ..Identifiers::default() }
     }
 
+    /// Numbers from 0 on in place of these vertices, each with the name of its vertex.
+    pub fn renumbered(&self, vertices: &[u32]) -> Identifiers {
+        let names = self.names.in_sequence(vertices);
+        Identifiers { count: vertices.len(), names, ..Identifiers::default() }
+    }
+
     /// The vertex's id, which is its number where no file gives another.
     pub fn id(&self, vertex: u32) -> u32 {
         if self.list.is_empty() {
@@ -120,7 +126,7 @@ impl Identifiers {
         }
         let sorted = entries.iter().map(|&entry| list[entry as usize]).collect();
         self.list = sorted;
-        self.names.sort(&entries);
+        self.names = self.names.in_sequence(&entries);
         if self
             .list
             .last()
@@ -202,8 +208,8 @@ impl Names {
         &self.bytes[start as usize..self.ends[place] as usize]
     }
 
-    /// The names for vertices that now stand in the sequence of these entries.
-    fn sort(&mut self, entries: &[u32]) {
+    /// The names for vertices that stand in the sequence of these entries.
+    fn in_sequence(&self, entries: &[u32]) -> Names {
         let mut sorted = Names { left_out: self.left_out, ..Names::default() };
         for (vertex, &entry) in (0..).zip(entries) {
             if let Some(name) = self.of(entry) {
@@ -212,6 +218,6 @@ impl Names {
                 sorted.ends.push(sorted.bytes.len() as u32);
             }
         }
-        *self = sorted;
+        sorted
     }
 }

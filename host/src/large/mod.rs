@@ -1,4 +1,4 @@
-//! Games of any size, and the check of their solutions.
+//! Games of any size, and the check of their solutions and reductions.
 //!
 //! A large game has a table of 32-bit words in the layout of the others: the numbers n of vertices and m of edges, then n priorities, n owners,
 //! m sources and m targets. There are no limits but those of the words. The lowest priority that is seen for ever decides here too.
@@ -24,6 +24,9 @@
 //! assert!(game.certify(&wrong).is_err());
 //! # Ok::<(), Box<dyn std::error::Error>>(())
 //! ```
+//!
+//! A *reduction* is another game and a vertex of it for each vertex of the game, its class. [`large_reduction`] checks it by a certificate in
+//! as few steps, and is proved, too: where it accepts, each vertex has the winner of its class. [`LargeReduction`] has an example.
 
 mod certificate;
 mod components;
@@ -34,24 +37,36 @@ mod files;
 mod flaw;
 mod game;
 mod identifiers;
+mod images;
+mod lifted;
 mod lines;
+mod misfit;
 mod paritysol;
 mod pgsolver;
+mod reduce;
+mod reducer;
+mod reduction;
+#[cfg(test)]
+mod reduction_tests;
 mod saved;
 mod scan;
 mod solution;
 mod solved;
+mod table;
 #[cfg(test)]
 mod tests;
 mod write;
 
 use crate::{exports, verdict, Refusal};
-pub use files::{read_game, read_solution, FileForm};
+pub use files::{read_game, read_solution, read_words, FileForm};
 pub use flaw::Flaw;
 pub use game::LargeGame;
 pub use identifiers::Identifiers;
+pub use misfit::Misfit;
 pub use pgsolver::GameFile;
-pub use saved::SavedError;
+pub use reduce::Unreduced;
+pub use reduction::{LargeReduction, Members};
+pub use saved::{SavedError, SavedKind};
 pub use scan::FileError;
 pub use solution::{Certificate, LargeSolution, Uncertified};
 pub use write::{write_game, write_solution};
@@ -80,6 +95,11 @@ impl LargeSize {
     /// The words of a certificate: 3n.
     pub fn certificate_words(&self) -> usize {
         3 * self.vertices
+    }
+
+    /// The words of the certificate of a reduction to a game of `reduced` size: n + k + 2m, where k is that game's number of vertices.
+    pub fn reduction_words(&self, reduced: LargeSize) -> usize {
+        self.vertices + reduced.vertices + 2 * self.edges
     }
 }
 
@@ -121,4 +141,36 @@ pub fn large_read(game: &[u32]) -> Result<LargeSize, Refusal> {
 /// Refusals 1, 2, 4, 5 and 6 of the game, 81 to 84 of the solution, and 85 to 89 of the certificate: see [`explain`](crate::explain).
 pub fn large_solution(game: &[u32], solution: &[u32], certificate: &[u32]) -> Result<(), Refusal> {
     verdict(exports::large_solution(game, solution, certificate)).map(|_| ())
+}
+
+/// Judges a reduction of a large game by a certificate. The reduced game's edges stand by ascending source, and `classes` has for each vertex
+/// of the game a vertex of the reduced one. Where it accepts, every vertex of both games has an edge out, and the winner at each vertex of the
+/// game is the winner at its class in the reduced game. It takes a few steps for each vertex and edge, and needs no memory.
+///
+/// ```
+/// // Vertices 0 and 1 are Even's, of priority 2, with edges to 2 and 3, which are loops of priorities 0 and 1.
+/// let game = [4, 6, 2, 2, 0, 1, 0, 0, 0, 1, 0, 0, 1, 1, 2, 3, 2, 3, 3, 2, 2, 3];
+/// // Reduced, 0 and 1 are class 0, with an edge to class 1 and one to class 2.
+/// let reduced = [3, 4, 2, 0, 1, 0, 0, 1, 0, 0, 1, 2, 1, 2, 1, 2];
+/// let classes = [0, 0, 1, 2];
+/// // Starts, members, images, and the edges after them: 0 goes to class 1 by edge 0, then to 2 by 1; vertex 1 by edges 3 and 2.
+/// let certificate = [0, 3, 4, 5, 0, 2, 3, 0, 1, 1, 0, 2, 3, 1, 0, 0, 2, 0, 0];
+/// raskjomi::large_reduction(&game, &reduced, &classes, &certificate)?;
+/// // 2 and 3 can't share a class: they have different priorities.
+/// let refusal = raskjomi::large_reduction(&game, &reduced, &[0, 0, 1, 1], &certificate).unwrap_err();
+/// assert_eq!((refusal.number, refusal.place), (100, 3));
+/// # Ok::<(), raskjomi::Refusal>(())
+/// ```
+///
+/// # Errors
+///
+/// Refusals 1, 2, 4, 5 and 6 of the game, 91, 92 and 94 to 97 of the reduced game, 98 to 100 of the classes, and 101 to 106 of the certificate: see
+/// [`explain`](crate::explain).
+pub fn large_reduction(
+    game: &[u32],
+    reduced: &[u32],
+    classes: &[u32],
+    certificate: &[u32],
+) -> Result<(), Refusal> {
+    verdict(exports::large_reduction(game, reduced, classes, certificate)).map(|_| ())
 }

@@ -26,6 +26,8 @@ pub struct GameFile {
     pub start: Option<u32>,
     /// What a priority and the file's own add up to, where the highest decides in the file.
     pub even: Option<u64>,
+    /// Whether the file is in PGSolver's format.
+    pub in_pgsolver: bool,
 }
 
 /// A game as its lines come in.
@@ -181,7 +183,7 @@ impl Draft {
         });
         let start = start.transpose()?;
         let vertices = std::mem::take(&mut self.vertices);
-        Ok(GameFile { words: self.words(), vertices, start, even })
+        Ok(GameFile { words: self.words(), vertices, start, even, in_pgsolver: true })
     }
 
     /// Turns the ids of all successors into vertices. The entries of the file stand in another sequence than the vertices, if one is given.

@@ -4,18 +4,20 @@
 //!
 //! | bytes | what |
 //! |---|---|
-//! | 0 to 7 | `rskjcert` |
+//! | 0 to 7 | `rskjcert` for a solution's certificate, `rskjredu` for a reduction's |
 //! | 8 to 11 | the byte order: 1, so the bytes 1, 0, 0, 0 |
 //! | 12 to 15 | the version of this form: 1 |
-//! | 16 to 19 | the number n of vertices |
-//! | 20 to 23 | the number m of edges |
-//! | 24 to 31 | FNV-1a of 64 bits over the bytes of the game's words, then of the solution's; 0 if the writer doesn't know it |
-//! | 32 to 32 + 12n - 1 | the 3n words of the certificate |
+//! | 16 to 19 | the number n of vertices of the game |
+//! | 20 to 23 | the number m of edges of the game |
+//! | 24 to 31 | FNV-1a of 64 bits over the bytes of the words that it is about; 0 if the writer doesn't know it |
+//! | from 32 on | the words of the certificate: 3n for a solution, n + k + 2m for a reduction to k classes |
+//!
+//! A solution's certificate is about the words of the game, then the solution's; a reduction's about those of the game, the reduced game and the
+//! classes.
 
 use std::fmt;
 use std::io::{self, Read, Write};
 
-const MAGIC: [u8; 8] = *b"rskjcert";
 const ORDER: u32 = 1;
 const VERSION: u32 = 1;
 
@@ -25,22 +27,90 @@ const HEADER: usize = 32;
 /// The bytes that are read or written at once.
 const CHUNK: usize = 1 << 16;
 
-/// Why a file isn't the certificate of a solution.
+/// A kind of certificate: how a file of it begins, and what it is a certificate of besides a game.
+#[derive(Clone, Copy, Debug, PartialEq, Eq)]
+#[non_exhaustive]
+pub enum SavedKind {
+    /// Of a solution.
+    Solution,
+    /// Of a reduction.
+    Reduction,
+}
+
+impl SavedKind {
+    fn magic(self) -> &'static str {
+        match self {
+            SavedKind::Solution => "rskjcert",
+            SavedKind::Reduction => "rskjredu",
+        }
+    }
+}
+
+/// The sentence's word for it.
+impl fmt::Display for SavedKind {
+    fn fmt(&self, f: &mut fmt::Formatter) -> fmt::Result {
+        f.write_str(match self {
+            SavedKind::Solution => "solution",
+            SavedKind::Reduction => "reduction",
+        })
+    }
+}
+
+/// What a certificate is about.
+#[derive(Clone, Copy)]
+pub struct About<'a> {
+    kind: SavedKind,
+    /// The words of the game, then those of the rest.
+    words: [&'a [u32]; 3],
+    /// How many words the certificate has.
+    count: usize,
+}
+
+impl<'a> About<'a> {
+    /// A solution of a game.
+    pub fn solution(game: &'a [u32], solution: &'a [u32]) -> About<'a> {
+        let count = 3 * size(game, 0) as usize;
+        About { kind: SavedKind::Solution, words: [game, solution, &[]], count }
+    }
+
+    /// A reduction of a game.
+    pub fn reduction(game: &'a [u32], reduced: &'a [u32], classes: &'a [u32]) -> About<'a> {
+        let [n, k, m] = [size(game, 0), size(reduced, 0), size(game, 1)].map(|size| size as usize);
+        About { kind: SavedKind::Reduction, words: [game, reduced, classes], count: n + k + 2 * m }
+    }
+
+    /// The numbers of the game's vertices and edges.
+    fn sizes(&self) -> [u32; 2] {
+        [0, 1].map(|place| size(self.words[0], place))
+    }
+
+    /// The bytes of a file.
+    fn bytes(&self) -> u64 {
+        HEADER as u64 + 4 * self.count as u64
+    }
+}
+
+/// A size at the start of a game, 0 where it isn't there.
+fn size(game: &[u32], place: usize) -> u32 {
+    game.get(place).copied().unwrap_or_default()
+}
+
+/// Why a file isn't the certificate that is wanted.
 #[derive(Debug)]
 #[non_exhaustive]
 pub enum SavedError {
     /// The file can't be read.
     Unreadable(io::Error),
-    /// The first bytes aren't those of a certificate.
-    OtherFile,
+    /// The first bytes aren't those of a certificate of this kind.
+    OtherFile(SavedKind),
     /// The words have their highest byte first.
     OtherOrder,
     /// A version that isn't known.
     OtherVersion(u32),
     /// It is for a game of so many vertices and edges.
     OtherSizes(u32, u32),
-    /// It is for another game of these sizes, or for another solution.
-    OtherWords,
+    /// It is for another game of these sizes, or for another solution or reduction.
+    OtherWords(SavedKind),
     /// The file ends after so many bytes, and should have so many.
     CutOff(u64, u64),
     /// The file goes on after this number of bytes.
@@ -53,8 +123,12 @@ impl fmt::Display for SavedError {
             SavedError::Unreadable(error) => {
                 write!(f, "{}; name a file that can be read", error.kind())
             }
-            SavedError::OtherFile => {
-                write!(f, "no certificate, which begins with `rskjcert`; name a saved one")
+            SavedError::OtherFile(kind) => {
+                write!(
+                    f,
+                    "no certificate of a {kind}, which begins with `{}`; name a saved one",
+                    kind.magic()
+                )
             }
             SavedError::OtherOrder => {
                 write!(
@@ -68,8 +142,8 @@ impl fmt::Display for SavedError {
             SavedError::OtherSizes(n, m) => {
                 write!(f, "the certificate of a game with {n} vertices and {m} edges; name the one of this game")
             }
-            SavedError::OtherWords => {
-                write!(f, "the certificate of another game or solution, by its fingerprint; make it again for these files")
+            SavedError::OtherWords(kind) => {
+                write!(f, "the certificate of another game or {kind}, by its fingerprint; make it again for these files")
             }
             SavedError::CutOff(found, needed) => {
                 write!(f, "cut off: {found} bytes of {needed}; save or copy it again")
@@ -83,18 +157,12 @@ impl fmt::Display for SavedError {
 
 impl std::error::Error for SavedError {}
 
-/// Writes a certificate of a solution of a game, all as words.
-pub fn write(
-    mut out: impl Write,
-    game: &[u32],
-    solution: &[u32],
-    certificate: &[u32],
-) -> io::Result<()> {
-    let size = |place: usize| game.get(place).copied().unwrap_or_default();
-    let print = fingerprint([game, solution]).to_le_bytes();
-    out.write_all(&MAGIC)?;
-    write_words(&mut out, &[ORDER, VERSION, size(0), size(1)])?;
-    out.write_all(&print)?;
+/// Writes a certificate, given as words.
+pub fn write(mut out: impl Write, about: About, certificate: &[u32]) -> io::Result<()> {
+    let [n, m] = about.sizes();
+    out.write_all(about.kind.magic().as_bytes())?;
+    write_words(&mut out, &[ORDER, VERSION, n, m])?;
+    out.write_all(&fingerprint(about.words).to_le_bytes())?;
     write_words(&mut out, certificate)?;
     out.flush()
 }
@@ -109,25 +177,23 @@ fn write_words(out: &mut impl Write, words: &[u32]) -> io::Result<()> {
     Ok(())
 }
 
-/// Reads the certificate of a solution of a game, given as words. The words that come out are judged by nobody yet.
-pub fn read(mut input: impl Read, game: &[u32], solution: &[u32]) -> Result<Vec<u32>, SavedError> {
-    let size = |place: usize| game.get(place).copied().unwrap_or_default();
-    let (n, m) = (size(0), size(1));
-    let needed = HEADER as u64 + 12 * u64::from(n);
+/// Reads a certificate. The words that come out are judged by nobody yet.
+pub fn read(mut input: impl Read, about: About) -> Result<Vec<u32>, SavedError> {
+    let magic = about.kind.magic().as_bytes();
     let mut header = Vec::with_capacity(HEADER);
     input.by_ref().take(HEADER as u64).read_to_end(&mut header).map_err(SavedError::Unreadable)?;
-    if !header.starts_with(&MAGIC[..header.len().min(MAGIC.len())]) || header.is_empty() {
-        return Err(SavedError::OtherFile);
+    if !header.starts_with(&magic[..header.len().min(magic.len())]) || header.is_empty() {
+        return Err(SavedError::OtherFile(about.kind));
     }
     let Ok(header) = <[u8; HEADER]>::try_from(&*header) else {
-        return Err(SavedError::CutOff(header.len() as u64, needed));
+        return Err(SavedError::CutOff(header.len() as u64, about.bytes()));
     };
-    judge_header(&header, n, m)?;
+    judge_header(&header, about)?;
     let print = u64::from_le_bytes([24, 25, 26, 27, 28, 29, 30, 31].map(|byte| header[byte]));
-    if print != 0 && print != fingerprint([game, solution]) {
-        return Err(SavedError::OtherWords);
+    if print != 0 && print != fingerprint(about.words) {
+        return Err(SavedError::OtherWords(about.kind));
     }
-    read_words(input, n, needed)
+    read_words(input, about)
 }
 
 /// The word of a header at a byte.
@@ -135,30 +201,30 @@ fn word(header: &[u8; HEADER], byte: usize) -> u32 {
     u32::from_le_bytes([header[byte], header[byte + 1], header[byte + 2], header[byte + 3]])
 }
 
-fn judge_header(header: &[u8; HEADER], n: u32, m: u32) -> Result<(), SavedError> {
+fn judge_header(header: &[u8; HEADER], about: About) -> Result<(), SavedError> {
     let order = word(header, 8);
     if order == ORDER.swap_bytes() {
         return Err(SavedError::OtherOrder);
     }
     if order != ORDER {
-        return Err(SavedError::OtherFile);
+        return Err(SavedError::OtherFile(about.kind));
     }
     let version = word(header, 12);
     if version != VERSION {
         return Err(SavedError::OtherVersion(version));
     }
-    let sizes = (word(header, 16), word(header, 20));
-    if sizes != (n, m) {
-        return Err(SavedError::OtherSizes(sizes.0, sizes.1));
+    let sizes = [word(header, 16), word(header, 20)];
+    if sizes != about.sizes() {
+        return Err(SavedError::OtherSizes(sizes[0], sizes[1]));
     }
     Ok(())
 }
 
 /// The words after the header.
-fn read_words(input: impl Read, n: u32, needed: u64) -> Result<Vec<u32>, SavedError> {
-    let count = 3 * n as usize;
+fn read_words(input: impl Read, about: About) -> Result<Vec<u32>, SavedError> {
+    let count = about.count;
     let (mut words, mut bytes) = (Vec::with_capacity(count), Vec::with_capacity(CHUNK));
-    let mut input = input.take(12 * u64::from(n) + 1);
+    let mut input = input.take(4 * count as u64 + 1);
     while words.len() < count {
         bytes.clear();
         let wanted = (4 * (count - words.len())).min(CHUNK);
@@ -168,7 +234,8 @@ fn read_words(input: impl Read, n: u32, needed: u64) -> Result<Vec<u32>, SavedEr
             .read_to_end(&mut bytes)
             .map_err(SavedError::Unreadable)?;
         if found < wanted {
-            return Err(SavedError::CutOff((HEADER + 4 * words.len() + found) as u64, needed));
+            let end = (HEADER + 4 * words.len() + found) as u64;
+            return Err(SavedError::CutOff(end, about.bytes()));
         }
         words.extend(
             bytes
@@ -178,12 +245,12 @@ fn read_words(input: impl Read, n: u32, needed: u64) -> Result<Vec<u32>, SavedEr
     }
     match input.read_to_end(&mut bytes).map_err(SavedError::Unreadable)? {
         0 => Ok(words),
-        _ => Err(SavedError::TooLong(needed)),
+        _ => Err(SavedError::TooLong(about.bytes())),
     }
 }
 
 /// FNV-1a of 64 bits over the bytes of words, the lowest first.
-fn fingerprint(words: [&[u32]; 2]) -> u64 {
+fn fingerprint<const N: usize>(words: [&[u32]; N]) -> u64 {
     let bytes = words.into_iter().flatten().flat_map(|word| word.to_le_bytes());
     bytes.fold(0xcbf2_9ce4_8422_2325, |print, byte| {
         (print ^ u64::from(byte)).wrapping_mul(0x0100_0000_01b3)
@@ -200,7 +267,8 @@ mod tests {
 
     fn saved() -> Vec<u8> {
         let mut bytes = Vec::new();
-        write(&mut bytes, &GAME, &SOLUTION, &CERTIFICATE).expect("memory takes all");
+        write(&mut bytes, About::solution(&GAME, &SOLUTION), &CERTIFICATE)
+            .expect("memory takes all");
         bytes
     }
 
@@ -211,18 +279,44 @@ mod tests {
     }
 
     fn told(bytes: &[u8]) -> String {
-        read(bytes, &GAME, &SOLUTION).expect_err("an error").to_string()
+        read(bytes, About::solution(&GAME, &SOLUTION)).expect_err("an error").to_string()
     }
 
     #[test]
     fn a_certificate_comes_back() {
-        assert_eq!(read(&*saved(), &GAME, &SOLUTION).expect("a certificate"), CERTIFICATE);
+        let about = About::solution(&GAME, &SOLUTION);
+        assert_eq!(read(&*saved(), about).expect("a certificate"), CERTIFICATE);
         let large: Vec<u32> = (0..300_000).collect();
         let mut bytes = Vec::new();
-        let game = [100_000, 7];
-        write(&mut bytes, &game, &[], &large).expect("memory takes all");
-        assert_eq!(read(&*bytes, &game, &[]).expect("a certificate"), large);
+        let about = About::solution(&[100_000, 7], &[]);
+        write(&mut bytes, about, &large).expect("memory takes all");
+        assert_eq!(read(&*bytes, about).expect("a certificate"), large);
         assert_eq!(bytes.len(), 32 + 1_200_000);
+    }
+
+    #[test]
+    fn a_reductions_certificate_is_of_another_kind() {
+        let about = About::reduction(&[3, 4], &[2], &[0, 1, 1]);
+        let (words, mut bytes): (Vec<u32>, _) = ((0..13).collect(), Vec::new());
+        write(&mut bytes, about, &words).expect("memory takes all");
+        assert_eq!(bytes.len(), 32 + 4 * 13);
+        assert_eq!(read(&*bytes, about).expect("a certificate"), words);
+        let told = |bytes: &[u8], about: About| read(bytes, about).expect_err("none").to_string();
+        let other = told(&bytes, About::reduction(&[3, 4], &[2], &[0, 1, 0]));
+        assert!(other.starts_with("the certificate of another game or reduction"), "{other}");
+        let other = told(&bytes, About::solution(&[3, 4], &[]));
+        assert!(
+            other.starts_with("no certificate of a solution, which begins with `rskjcert`"),
+            "{other}"
+        );
+        let other = told(&saved(), About::reduction(&GAME, &GAME, &[0]));
+        assert!(
+            other.starts_with("no certificate of a reduction, which begins with `rskjredu`"),
+            "{other}"
+        );
+        bytes[24..32].fill(0);
+        let more = told(&bytes, About::reduction(&[3, 4], &[3], &[]));
+        assert_eq!(more, "cut off: 84 bytes of 88; save or copy it again");
     }
 
     #[test]
@@ -237,7 +331,8 @@ mod tests {
     fn one_without_a_fingerprint_is_read() {
         let mut bytes = saved();
         bytes[24..32].fill(0);
-        assert_eq!(read(&*bytes, &GAME, &[1, 0]).expect("a certificate"), CERTIFICATE);
+        let about = About::solution(&GAME, &[1, 0]);
+        assert_eq!(read(&*bytes, about).expect("a certificate"), CERTIFICATE);
     }
 
     #[test]
@@ -266,7 +361,7 @@ mod tests {
         swapped[11] = 1;
         assert!(told(&swapped).starts_with("words with their highest byte first"));
         assert!(told(&[saved(), vec![0]].concat()).starts_with("more than the 44 bytes"));
-        let other = read(&*saved(), &GAME, &[0, 1]).expect_err("another solution");
-        assert!(matches!(other, SavedError::OtherWords));
+        let other = read(&*saved(), About::solution(&GAME, &[0, 1])).expect_err("another solution");
+        assert!(matches!(other, SavedError::OtherWords(SavedKind::Solution)));
     }
 }

@@ -1,6 +1,7 @@
 //! Solutions of large games, and certificates, as values that own their words.
 
-use super::{saved, Flaw, LargeGame, SavedError};
+use super::saved::{self, About, SavedError};
+use super::{Flaw, LargeGame};
 use crate::{Player, Refusal};
 use std::fmt;
 use std::io::{self, Read, Write};
@@ -91,7 +92,8 @@ impl Certificate {
         game: &LargeGame,
         solution: &LargeSolution,
     ) -> Result<Certificate, SavedError> {
-        saved::read(input, game.words(), solution.words()).map(Certificate::from_words)
+        saved::read(input, About::solution(game.words(), solution.words()))
+            .map(Certificate::from_words)
     }
 
     /// Writes the certificate of a solution, in a form that tells of which: docs/LARGE.md has it.
@@ -118,7 +120,7 @@ impl Certificate {
         game: &LargeGame,
         solution: &LargeSolution,
     ) -> io::Result<()> {
-        saved::write(out, game.words(), solution.words(), &self.words)
+        saved::write(out, About::solution(game.words(), solution.words()), &self.words)
     }
 }
 

@@ -1,5 +1,7 @@
 //! A view of a game's words and a solution's, and the edges that the solution keeps.
 
+use super::table::Table;
+
 /// A game and a solution that the refusals 1 to 84 let pass.
 #[derive(Clone, Copy, Debug)]
 pub(super) struct Solved<'a> {
@@ -13,10 +15,7 @@ pub(super) struct Solved<'a> {
 
 impl<'a> Solved<'a> {
     pub fn new(game: &'a [u32], solution: &'a [u32]) -> Solved<'a> {
-        let (n, m) = (game[0] as usize, game[1] as usize);
-        let (priorities, rest) = game[2..].split_at(n);
-        let (owners, rest) = rest.split_at(n);
-        let (sources, targets) = rest.split_at(m);
+        let Table { n, priorities, owners, sources, targets, .. } = Table::new(game);
         let (winners, choices) = solution.split_at(n);
         Solved { priorities, owners, sources, targets, winners, choices }
     }

@@ -1,6 +1,6 @@
 /* Reads cases from standard input, makes every call on each, and prints each answer with a hash of the memory. A case is
- * a game, a player, a plan, a vertex, an edge, a trace, and a large game with a solution and a certificate; a list is given
- * as its length and its words. */
+ * a game, a player, a plan, a vertex, an edge, a trace, a large game with a solution and a certificate, and one with a
+ * reduced game, classes and a certificate; a list is given as its length and its words. */
 #include "raskjomi.h"
 
 #include <stdio.h>
@@ -70,12 +70,12 @@ static uint32_t *large_list(size_t *length) {
 #define CALL(name, ...) (refill(game, game_len), tell(#name, raskjomi_##name(__VA_ARGS__)))
 
 int main(void) {
-    printf("limits %d %d %d %d %d %d %d %d %zu %zu %zu %zu %zu\n", RASKJOMI_MOST_VERTICES, RASKJOMI_MOST_EDGES,
+    printf("limits %d %d %d %d %d %d %d %d %zu %zu %zu %zu %zu %zu\n", RASKJOMI_MOST_VERTICES, RASKJOMI_MOST_EDGES,
            RASKJOMI_MOST_POSITIONS, RASKJOMI_MOST_LINKS, RASKJOMI_MOST_ENTRIES, RASKJOMI_LEAST_STACK, RASKJOMI_EVEN,
            RASKJOMI_ODD, RASKJOMI_TABLE_WORDS(RASKJOMI_MOST_VERTICES, RASKJOMI_MOST_EDGES),
            RASKJOMI_PLAN_WORDS(RASKJOMI_MOST_POSITIONS, RASKJOMI_MOST_LINKS), RASKJOMI_SOLUTION_WORDS(1),
-           RASKJOMI_CERTIFICATE_WORDS(1), sizeof(RaskjomiAnswer));
-    for (uint32_t i = 0; i < 102; i++) printf("kind %u\n", raskjomi_kind(i));
+           RASKJOMI_CERTIFICATE_WORDS(1), RASKJOMI_REDUCTION_WORDS(4, 6, 3), sizeof(RaskjomiAnswer));
+    for (uint32_t i = 0; i < 108; i++) printf("kind %u\n", raskjomi_kind(i));
     for (;;) {
         size_t game_len, plan_len, trace_len;
         uint16_t *game = list(&game_len);
@@ -86,6 +86,9 @@ int main(void) {
         size_t large_len, solution_len, certificate_len;
         uint32_t *large = large_list(&large_len);
         uint32_t *solution = large_list(&solution_len), *certificate = large_list(&certificate_len);
+        size_t merged_len, reduced_len, class_len, images_len;
+        uint32_t *merged = large_list(&merged_len), *reduced = large_list(&reduced_len);
+        uint32_t *class = large_list(&class_len), *images = large_list(&images_len);
         RaskjomiAnswer read = raskjomi_read(game, game_len);
         size_t n = read.number ? 1 : read.vertices;
         lent.marks_len = RASKJOMI_MARKS_BYTES(n);
@@ -124,7 +127,8 @@ int main(void) {
         CALL(governed_classes, game, game_len, MARKS, SPARE, CLASSES);
         CALL(large_read, large, large_len);
         CALL(large_solution, large, large_len, solution, solution_len, certificate, certificate_len);
-        free(large), free(solution), free(certificate);
+        CALL(large_reduction, merged, merged_len, reduced, reduced_len, class, class_len, images, images_len);
+        free(large), free(solution), free(certificate), free(merged), free(reduced), free(class), free(images);
         free(game), free(plan), free(trace), free(lent.marks), free(lent.spare), free(lent.classes);
         free(lent.reduction), free(lent.output), free(lent.table);
     }
