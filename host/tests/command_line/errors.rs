@@ -56,7 +56,7 @@ fn numbers() {
             &["explain", word],
             &[
                 &format!("`{word}` is no refusal number"),
-                "1 to 16, 21 to 24, 31 to 41 and 81 to 89",
+                "1 to 16, 21 to 24, 31 to 41, 81 to 89, 91, 92 and 94 to 106",
             ],
         );
     }

@@ -238,9 +238,13 @@ fn damaged(change: impl Fn(&mut Vec<u8>), status: i32, part: &str) {
 fn damaged_certificates() {
     damaged(|bytes| bytes.truncate(40), 2, ": cut off: 40 bytes of 68; save or copy it again");
     damaged(|bytes| bytes.truncate(9), 2, ": cut off: 9 bytes of 68");
-    damaged(Vec::clear, 2, ": no certificate, which begins with `rskjcert`");
+    damaged(Vec::clear, 2, ": no certificate of a solution, which begins with `rskjcert`");
     damaged(|bytes| bytes.push(0), 2, ": more than the 68 bytes");
-    damaged(|bytes| bytes[0] = b'R', 2, ": no certificate, which begins with `rskjcert`");
+    damaged(
+        |bytes| bytes[0] = b'R',
+        2,
+        ": no certificate of a solution, which begins with `rskjcert`",
+    );
     damaged(|bytes| bytes[8..12].reverse(), 2, ": words with their highest byte first");
     damaged(|bytes| bytes[12] = 9, 2, ": version 9 of the form");
     damaged(|bytes| bytes[16] = 4, 2, ": the certificate of a game with 4 vertices and 4 edges");

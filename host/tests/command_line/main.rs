@@ -11,6 +11,7 @@ mod errors;
 mod habits;
 mod inputs;
 mod large;
+mod large_reductions;
 mod outputs;
 mod pgsolver;
 mod questions;

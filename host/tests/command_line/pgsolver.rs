@@ -172,7 +172,7 @@ fn names_in_messages_and_pictures() {
 
 /// The game is turned down with a message that has the parts.
 fn bad(game: &str, status: i32, parts: &[&str]) {
-    let told = run_on(&["reduce"], game.as_bytes()).fails(status, parts);
+    let told = run_on(&["quotient"], game.as_bytes()).fails(status, parts);
     assert_eq!(told, "", "nothing is written");
 }
 

@@ -5,12 +5,12 @@ use crate::commands::{one_standard, Written};
 use crate::failure::Failure;
 use crate::help::{Command, Opt};
 use crate::json::{self, Value};
-use crate::large::{self, Solved};
+use crate::large::{self, Loaded, Solved};
 use crate::progress::watch;
 use crate::source::{plain_error, Source};
 use raskjomi::{Certificate, Player, Uncertified};
 use std::fs::File;
-use std::io::BufWriter;
+use std::io::{self, BufWriter};
 
 /// How games of any size are given.
 pub const GAMES: &str =
@@ -20,7 +20,8 @@ pub const GAMES: &str =
      long as they take less than 8 bytes for each edge and a MiB.";
 
 /// Where a game above the limits can go.
-pub const LARGER: &str = "raskjomi check-solution takes games of any size with a solver's solution";
+pub const LARGER: &str =
+    "raskjomi check-solution takes games of any size with a solver's solution, and raskjomi reduce reduces them";
 
 /// It comes after the others that take files of other tools.
 pub const COMMANDS: [Command; 1] = [Command {
@@ -49,29 +50,16 @@ pub const COMMANDS: [Command; 1] = [Command {
 
 /// `check-solution`.
 fn check_solution(arguments: &Arguments) -> Written {
-    let (from, to) = (arguments.value("--certificate"), arguments.value("--save-certificate"));
-    if from.is_some() && to.is_some() {
-        return Err(Failure::usage(
-            "--certificate and --save-certificate exclude each other: what is read is there already",
-        ));
-    }
+    let (from, to) = certificate_files(arguments)?;
     let sources = [arguments.file(0), arguments.file(1)];
-    one_standard(sources[0], sources[1])?;
-    if let Some(from) = from {
-        sources.iter().try_for_each(|&source| {
-            one_standard(source, Source { path: from.as_ref(), ..source })
-        })?;
-    }
-    let solved = Solved::load(sources[0], sources[1])?;
+    one_standard(&with_certificate(&sources, from))?;
+    let solved = Solved::load(Loaded::load(sources[0])?, sources[1])?;
     let asked = asked(arguments, &solved)?;
     let certificate = match from {
         Some(path) => read(path, &solved)?,
         None => made(&solved, arguments.has("--json"))?,
     };
-    let checking = watch("the check");
-    let verdict = solved.game.check(&solved.solution, &certificate);
-    drop(checking);
-    verdict.map_err(|refusal| large::refused(refusal, &solved, from))?;
+    judge(&solved, &certificate, from)?;
     if let Some(path) = to {
         save(path, &solved, &certificate)?;
     }
@@ -81,32 +69,59 @@ fn check_solution(arguments: &Arguments) -> Written {
     })
 }
 
+/// The files that a certificate is to come from or to go to.
+pub fn certificate_files(arguments: &Arguments) -> Result<(Option<&str>, Option<&str>), Failure> {
+    match (arguments.value("--certificate"), arguments.value("--save-certificate")) {
+        (Some(_), Some(_)) => Err(Failure::usage(
+            "--certificate and --save-certificate exclude each other: what is read is there already",
+        )),
+        files => Ok(files),
+    }
+}
+
+/// All inputs, with that of a certificate if there is one.
+pub fn with_certificate<'a>(sources: &[Source<'a>], from: Option<&'a str>) -> Vec<Source<'a>> {
+    let certificate = from.map(|path| Source { path: path.as_ref(), ..sources[0] });
+    sources.iter().copied().chain(certificate).collect()
+}
+
 /// The vertices that the options ask for, each with what it is called.
 fn asked(arguments: &Arguments, solved: &Solved) -> Result<Vec<(u32, String)>, Failure> {
     let mut asked = Vec::new();
     if let Some(word) = arguments.value("--vertex") {
-        let vertex = solved.vertex(word)?;
-        asked.push((vertex, format!("vertex {}", solved.vertices.label(vertex))));
+        let vertex = solved.of.vertex(word, "--vertex")?;
+        asked.push((vertex, format!("vertex {}", solved.of.vertices.label(vertex))));
     }
     if arguments.has("--start") {
-        let start = solved.start.ok_or_else(|| {
+        let start = solved.of.start.ok_or_else(|| {
             Failure::usage(format!(
                 "{}: no start; write `start ID;` behind the first line of a game in PGSolver's format, or name a vertex by --vertex",
-                solved.game_name
+                solved.of.name
             ))
         })?;
-        asked.push((start, format!("the start, vertex {}", solved.vertices.label(start))));
+        asked.push((start, format!("the start, vertex {}", solved.of.vertices.label(start))));
     }
     Ok(asked)
 }
 
+/// Judges a solution by a certificate, which comes from a file or was made.
+pub fn judge(
+    solved: &Solved,
+    certificate: &Certificate,
+    from: Option<&str>,
+) -> Result<(), Failure> {
+    let _watch = watch("the check");
+    let verdict = solved.of.game.check(&solved.solution, certificate);
+    verdict.map_err(|refusal| large::refused(refusal, solved, from))
+}
+
 /// The certificate that this program makes.
-fn made(solved: &Solved, json: bool) -> Result<Certificate, Failure> {
+pub fn made(solved: &Solved, json: bool) -> Result<Certificate, Failure> {
     let _watch = watch("the certificate");
-    solved.game.certify(&solved.solution).map_err(|why| match why {
+    solved.of.game.certify(&solved.solution).map_err(|why| match why {
         Uncertified::Flawed(flaw) => large::flawed(&flaw, solved, json),
         Uncertified::Refused(refusal) => large::refused(refusal, solved, None),
-        other => Failure::usage(format!("{}: {other}", solved.solution_name)),
+        other => Failure::usage(format!("{}: {other}", solved.name)),
     })
 }
 
@@ -115,41 +130,48 @@ fn read(path: &str, solved: &Solved) -> Result<Certificate, Failure> {
     let source = Source { path: path.as_ref(), lowest: false, form: None };
     let input = source.open().map_err(|error| source.unreadable(&error))?;
     let _watch = watch("the certificate's file");
-    Certificate::load(input, &solved.game, &solved.solution)
+    Certificate::load(input, &solved.of.game, &solved.solution)
         .map_err(|error| Failure::usage(format!("{}: {error}", source.name())))
 }
 
 /// Saves a certificate that was accepted.
 fn save(path: &str, solved: &Solved, certificate: &Certificate) -> Result<(), Failure> {
     let saved = File::create(path)
-        .and_then(|file| certificate.save(BufWriter::new(file), &solved.game, &solved.solution));
-    saved.map_err(|error| {
-        let error = plain_error(&error);
-        Failure::usage(format!(
-            "{path}: {error}; name a file that can be written after --save-certificate"
-        ))
-    })
+        .and_then(|file| certificate.save(BufWriter::new(file), &solved.of.game, &solved.solution));
+    saved.map_err(|error| unsaved(path, &error))
+}
+
+/// What is told where a certificate can't be saved.
+pub fn unsaved(path: &str, error: &io::Error) -> Failure {
+    let error = plain_error(error);
+    Failure::usage(format!(
+        "{path}: {error}; name a file that can be written after --save-certificate"
+    ))
 }
 
 /// How many vertices a player wins at.
-fn won(solved: &Solved, player: Player) -> usize {
-    let winners = &solved.solution.words()[..solved.game.size().vertices];
+pub fn won(solved: &Solved, player: Player) -> usize {
+    let winners = &solved.solution.words()[..solved.of.game.size().vertices];
     winners.iter().filter(|&&winner| winner == u32::from(player)).count()
 }
 
-fn winner(solved: &Solved, vertex: u32) -> &'static str {
+pub fn winner(solved: &Solved, vertex: u32) -> &'static str {
     match solved.solution.winner(vertex) {
         Some(Player::Odd) => "Odd",
         _ => "Even",
     }
 }
 
-/// What is known of an accepted solution, as lines.
-fn text(solved: &Solved, asked: &[(u32, String)]) -> String {
+/// How many vertices each player wins at, as a line.
+pub fn summary(solved: &Solved) -> String {
     let [even, odd] = [Player::Even, Player::Odd].map(|player| won(solved, player));
     let vertices = if even == 1 { "vertex" } else { "vertices" };
-    let mut text =
-        format!("right: Even wins at {} {vertices}, Odd at {}\n", grouped(even), grouped(odd));
+    format!("right: Even wins at {} {vertices}, Odd at {}\n", grouped(even), grouped(odd))
+}
+
+/// What is known of an accepted solution, as lines.
+fn text(solved: &Solved, asked: &[(u32, String)]) -> String {
+    let mut text = summary(solved);
     for (vertex, label) in asked {
         text += &format!("{} wins at {label}\n", winner(solved, *vertex));
     }
@@ -160,9 +182,9 @@ fn text(solved: &Solved, asked: &[(u32, String)]) -> String {
 fn value(solved: &Solved, asked: &[(u32, String)]) -> Value {
     let at = |&(vertex, _): &(u32, String)| {
         let fields = [("winner", Value::from(winner(solved, vertex)))];
-        json::object(solved.vertex_fields(vertex).into_iter().chain(fields))
+        json::object(solved.of.vertex_fields(vertex).into_iter().chain(fields))
     };
-    let size = solved.game.size();
+    let size = solved.of.game.size();
     json::object([
         ("accepted", Value::Bool(true)),
         ("vertices", Value::from(size.vertices)),
@@ -174,7 +196,7 @@ fn value(solved: &Solved, asked: &[(u32, String)]) -> Value {
 }
 
 /// A number with commas between groups of three digits.
-fn grouped(number: usize) -> String {
+pub fn grouped(number: usize) -> String {
     let digits = number.to_string();
     let first = digits.len() % 3;
     let (first, rest) = digits.split_at(first);

@@ -1,6 +1,7 @@
 //! The commands.
 
 use crate::analysis::{members, Edit, Game, Merged, Order};
+use crate::any_size::AnySize;
 use crate::arguments::{name_of, Arguments, Form};
 use crate::dot::{self as picture, Kept};
 use crate::failure::Failure;
@@ -15,7 +16,7 @@ use crate::progress::watch;
 use crate::source::{plain_error, Source};
 use crate::table::Table;
 use crate::vertices::Vertices;
-use crate::{suggest, tell, text};
+use crate::{reduced, suggest, tell, text};
 use raskjomi::{Kind, Refusal, Verdict};
 use std::ffi::OsString;
 use std::fs;
@@ -210,21 +211,26 @@ fn no_table(arguments: &Arguments) -> Result<Form, Failure> {
 
 /// `quotient`.
 pub fn quotient(arguments: &Arguments) -> Written {
-    table(arguments, "quotient", Game::quotient)
+    let form = arguments.form()?;
+    table(arguments, form, "quotient", Game::load(arguments.file(0))?, Game::quotient)
 }
 
 /// `reduce`.
 pub fn reduce(arguments: &Arguments) -> Written {
-    table(arguments, "reduced", Game::reduced)
+    let form = arguments.form()?;
+    match AnySize::load(arguments.file(0), arguments.has("--large"))? {
+        AnySize::Small(game) => table(arguments, form, "reduced", game, Game::reduced),
+        AnySize::Large(game) => reduced::reduce(arguments, game),
+    }
 }
 
 fn table(
     arguments: &Arguments,
+    form: Form,
     name: &str,
+    game: Game,
     write: fn(&Game) -> Result<Merged, Failure>,
 ) -> Written {
-    let form = arguments.form()?;
-    let game = Game::load(arguments.file(0))?;
     let merged = write(&game)?;
     let (table, title) = (merged.table(), format!("{name} game"));
     let (vertices, with_classes) = (&game.input.vertices, arguments.has("--with-classes"));
@@ -236,6 +242,10 @@ fn table(
     }
     if form == Form::Dot {
         return Ok(picture::merged(name, &merged, vertices, &game.reduced()?).into());
+    }
+    if let Some(path) = arguments.value("--classes") {
+        let classes: Vec<u32> = merged.classes.iter().map(|&class| class.into()).collect();
+        reduced::save_classes(path, &classes)?;
     }
     let comments = text::class_comments(&merged.classes, vertices);
     let vertices = &game.class_vertices(&merged.classes);
@@ -250,7 +260,7 @@ fn table(
 /// Both inputs of a check, of which one at most is standard input; the game is argument number `file`.
 fn two_files(arguments: &Arguments, file: usize) -> Result<(Source<'_>, Source<'_>), Failure> {
     let (game, other) = (arguments.file(file), arguments.file(file + 1));
-    one_standard(game, other)?;
+    one_standard(&[game, other])?;
     Ok((game, other))
 }
 
@@ -260,9 +270,9 @@ fn two_inputs(arguments: &Arguments) -> Result<(Input, Input), Failure> {
     Ok((Input::game(game)?, Input::read(plan, Unit::Word)?))
 }
 
-/// Standard input can't be both.
-pub fn one_standard(game: Source, other: Source) -> Result<(), Failure> {
-    if game.is_standard() && other.is_standard() {
+/// Standard input can't be two of them.
+pub fn one_standard(sources: &[Source]) -> Result<(), Failure> {
+    if sources.iter().filter(|source| source.is_standard()).count() > 1 {
         return Err(Failure::usage("both inputs are standard input; name a file for one of them"));
     }
     Ok(())
@@ -569,8 +579,10 @@ pub fn explain(arguments: &Arguments) -> Written {
         number.and_then(|n| Some((n, raskjomi::explain(n)?))).ok_or_else(|| {
             Failure::usage(format!("`{word}` is no refusal number; they are {}", help::NUMBERS))
         })?;
+    // The kinds end at 99; what came after is a later addition as well.
+    let kind = if number > 99 { Kind::Later } else { Kind::of(number) };
     let lines = [
-        format!("refusal {number}, about {}", Kind::of(number)),
+        format!("refusal {number}, about {kind}"),
         format!("meaning: {}", told.meaning),
         format!("place: {}", told.place),
         format!("what to do: {}", told.remedy),

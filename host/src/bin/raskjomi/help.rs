@@ -2,7 +2,8 @@
 
 use crate::arguments::Arguments;
 use crate::failure::Failure;
-use crate::{check_solution, commands, files, manual, options, questions};
+use crate::{check_reduction, check_solution, commands, files};
+use crate::{manual, options, questions, reduced, winners};
 use std::ops::RangeInclusive;
 
 /// An option, and what its value is called if it has one.
@@ -47,7 +48,8 @@ impl Command {
     /// What holds for the games that it reads.
     fn of_games(&self) -> &'static [&'static str] {
         match self.name {
-            "check-solution" => &[check_solution::GAMES],
+            "check-solution" | "check-reduction" | "winners" => &[check_solution::GAMES],
+            "reduce" | "merged" | "why" => &[reduced::LARGE, LIMITS, GAMES],
             _ if self.takes_game() => &[LIMITS, GAMES],
             _ => &[],
         }
@@ -55,7 +57,7 @@ impl Command {
 }
 
 /// The refusal numbers that `explain` knows.
-pub const NUMBERS: &str = "1 to 16, 21 to 24, 31 to 41 and 81 to 89";
+pub const NUMBERS: &str = "1 to 16, 21 to 24, 31 to 41, 81 to 89, 91, 92 and 94 to 106";
 
 /// What `seed` takes, in the sequence of its usage.
 pub const SEED_NUMBERS: [&str; 4] = ["SEED", "VERTICES", "DEGREE", "PRIORITIES"];
@@ -69,13 +71,17 @@ const AS_OR_JSON: &[Opt] =
 const OF_REDUCE: &[Opt] = &[
     Opt { name: "--as", value: Some("text, words, dot or pgsolver") },
     Opt { name: "--with-classes", value: None },
+    Opt { name: "--classes", value: Some("a file") },
+    Opt { name: "--large", value: None },
+    Opt { name: "--then-order", value: None },
 ];
 const AS_GAME: &[Opt] = &[Opt { name: "--as", value: Some("text, words, dot or pgsolver") }];
 
 /// What a newcomer has to know of every game.
 const LIMITS: &str =
-    "A game has at most 512 vertices and 4,096 edges, but for `check-solution`, which takes any size. The lowest priority seen for ever decides, and \
-     even favours Even; a game of a tool that says the highest goes through `convert` first.";
+    "A game has at most 512 vertices and 4,096 edges, but for `check-solution`, `check-reduction`, `winners`, `reduce`, `merged` and `why`, which \
+     take any size. The lowest priority seen for ever decides, and even favours Even; a game of a tool that says the highest goes through \
+     `convert` first.";
 
 /// How games are given, for every command that takes one.
 const GAMES: &str = "A game comes from a file, or from standard input, whose name is -; where the \
@@ -166,7 +172,7 @@ pub const COMMANDS: [Command; 16] = [
     },
     Command {
         name: "reduce",
-        usage: "reduce [GAME] [--as text|words|dot|pgsolver] [--with-classes]",
+        usage: "reduce [GAME] [--as text|words|dot|pgsolver] [--with-classes] [--classes FILE] [--large] [--then-order]",
         summary: "the reduced game: the quotient without edges that its players have no use for",
         details: TABLES,
         example: "./raskjomi reduce games/lift-doors.txt",
@@ -309,7 +315,7 @@ pub const COMMANDS: [Command; 16] = [
         usage: "explain NUMBER",
         summary: "what a refusal number means, what its place counts, and what to do",
         details:
-            "A refused input gets one of the numbers 1 to 16, 21 to 24, 31 to 41 and 81 to 89; 7 and 9 no longer occur.",
+            "A refused input gets one of the numbers 1 to 16, 21 to 24, 31 to 41, 81 to 89, 91, 92 and 94 to 106; 7 and 9 no longer occur.",
         example: "./raskjomi explain 8",
         files: 1..=1,
         options: &[],
@@ -368,6 +374,7 @@ pub const COMMANDS: [Command; 16] = [
 /// All commands, in the sequence of the help.
 pub fn commands() -> impl Iterator<Item = &'static Command> {
     let of_files = files::COMMANDS.iter().chain(&check_solution::COMMANDS);
+    let of_files = of_files.chain(&check_reduction::COMMANDS).chain(&winners::COMMANDS);
     COMMANDS.iter().chain(&questions::COMMANDS).chain(of_files).chain(&manual::COMMANDS)
 }
 
@@ -390,8 +397,8 @@ pub fn overview() -> String {
 }
 
 /// What holds for all commands, for the man page.
-pub fn paragraphs() -> [&'static str; 4] {
-    [LIMITS, GAMES, OPTIONS, MORE]
+pub fn paragraphs() -> [&'static str; 5] {
+    [LIMITS, GAMES, reduced::LARGE, OPTIONS, MORE]
 }
 
 /// The help of one command.

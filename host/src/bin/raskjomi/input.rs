@@ -54,21 +54,17 @@ pub struct Input {
 }
 
 /// The most bytes of an input: 16 MiB, with much room for comments.
-const MOST_BYTES: usize = 1 << 24;
+pub const MOST_BYTES: usize = 1 << 24;
 
 impl Input {
     /// Reads a game, in PGSolver's format if its first word says so.
     pub fn game(source: Source) -> Result<Input, Failure> {
-        let bytes = Bytes::read(source)?;
-        if bytes.in_format(SOLUTION).is_some() {
-            return Err(bytes.bad(
-                "a solution in PGSolver's format, where a game is wanted; name the game, or see raskjomi plan",
-            ));
-        }
-        match bytes.in_format(pgsolver::GAME) {
-            Some(text) => from_pgsolver(bytes.name, &text, source.lowest),
-            None => bytes.numbers(Unit::Word),
-        }
+        Bytes::read(source)?.game(source.lowest)
+    }
+
+    /// The game of bytes that were read from a source, all of them.
+    pub fn game_of(source: Source, bytes: Vec<u8>) -> Result<Input, Failure> {
+        Bytes { name: source.name(), bytes, form: source.form }.game(source.lowest)
     }
 
     /// Reads other numbers.
@@ -173,6 +169,19 @@ impl Bytes {
             )));
         }
         Ok(Bytes { name, bytes, form })
+    }
+
+    /// A game.
+    fn game(self, lowest: bool) -> Result<Input, Failure> {
+        if self.in_format(SOLUTION).is_some() {
+            return Err(self.bad(
+                "a solution in PGSolver's format, where a game is wanted; name the game, or see raskjomi plan",
+            ));
+        }
+        match self.in_format(pgsolver::GAME) {
+            Some(text) => from_pgsolver(self.name, &text, lowest),
+            None => self.numbers(Unit::Word),
+        }
     }
 
     fn bad(&self, what: &str) -> Failure {

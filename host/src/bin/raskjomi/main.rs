@@ -2,8 +2,10 @@
 #![forbid(unsafe_code)]
 
 mod analysis;
+mod any_size;
 mod arguments;
 mod causes;
+mod check_reduction;
 mod check_solution;
 mod commands;
 mod dot;
@@ -21,6 +23,7 @@ mod output;
 mod pgsolver;
 mod progress;
 mod questions;
+mod reduced;
 mod scanner;
 mod solution;
 mod source;
@@ -29,6 +32,8 @@ mod table;
 mod text;
 mod vertices;
 mod why;
+mod why_large;
+mod winners;
 
 use std::env;
 use std::ffi::OsString;

@@ -1,6 +1,7 @@
 //! The commands that answer questions about a game.
 
 use crate::analysis::{members, Game};
+use crate::any_size::AnySize;
 use crate::arguments::Arguments;
 use crate::commands::Written;
 use crate::failure::Failure;
@@ -8,7 +9,7 @@ use crate::graph::Graph;
 use crate::help::{Command, Opt};
 use crate::json::{self, Value};
 use crate::why::{Passes, Question};
-use crate::{progress, tell};
+use crate::{progress, reduced, tell, text, why_large};
 
 /// They come after the others in the help.
 pub const COMMANDS: [Command; 3] = [
@@ -26,27 +27,28 @@ pub const COMMANDS: [Command; 3] = [
     },
     Command {
         name: "merged",
-        usage: "merged [GAME]",
+        usage: "merged [GAME] [--large]",
         summary: "the vertices that another one represents in the reduced game",
         details: "A line for each vertex that isn't the lowest member of its class: the vertex, its class, \
                   and that lowest member, its representative.",
         example: "./raskjomi merged games/lift-doors.txt",
         files: 0..=1,
-        options: &[],
+        options: &[Opt { name: "--large", value: None }],
         run: merged,
     },
     Command {
         name: "why",
-        usage: "why GAME V W",
+        usage: "why GAME V W [--large]",
         summary: "whether vertex V is below vertex W, and why, as sentences",
         details: "Where V isn't below W, the first sentences say in which pass the pair falls, and by which \
                   move; then the same of each pair of successors that this rests on, down to unequal \
                   priorities. Where it is, they say how the moves are matched. V and W share a class if each \
                   is below the other. The sentences are worked out by this program, and held to the \
-                  proved order before they are written.",
+                  proved order before they are written. For a game above the limits, or with --large, they say \
+                  whether V and W share a class by their moves, with the classes of their successors side by side.",
         example: "./raskjomi why games/c.txt 2 1",
         files: 3..=3,
-        options: &[],
+        options: &[Opt { name: "--large", value: None }],
         run: why,
     },
 ];
@@ -98,7 +100,10 @@ fn accepted(name: &str, game: &Game) -> (String, Value) {
 
 /// `merged`.
 fn merged(arguments: &Arguments) -> Written {
-    let game = Game::load(arguments.file(0))?;
+    let game = match AnySize::load(arguments.file(0), arguments.has("--large"))? {
+        AnySize::Small(game) => game,
+        AnySize::Large(game) => return reduced::merged(game),
+    };
     let (classes, vertices) = (game.classes()?, &game.input.vertices);
     let members = members(&classes);
     let mut text = String::new();
@@ -106,18 +111,18 @@ fn merged(arguments: &Arguments) -> Written {
         let lowest = members[class as usize][0];
         if lowest != vertex {
             let (vertex, lowest) = (vertices.label(vertex), vertices.label(lowest));
-            text += &format!("vertex {vertex}: class {class}, represented by vertex {lowest}\n");
+            text += &text::merged(&vertex, class.into(), &lowest);
         }
     }
-    if text.is_empty() {
-        text = "no vertex is represented by another\n".into();
-    }
-    Ok(text.into())
+    Ok(if text.is_empty() { text::NONE_MERGED.into() } else { text.into() })
 }
 
 /// `why`.
 fn why(arguments: &Arguments) -> Written {
-    let game = Game::load(arguments.file(0))?;
+    let game = match AnySize::load(arguments.file(0), arguments.has("--large"))? {
+        AnySize::Small(game) => game,
+        AnySize::Large(game) => return why_large::why(arguments, game),
+    };
     let v = game.vertex(&arguments.word(1), "V")?;
     let w = game.vertex(&arguments.word(2), "W")?;
     let (graph, order) = (Graph::new(&game.table()), game.order()?);

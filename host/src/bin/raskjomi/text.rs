@@ -22,18 +22,43 @@ fn lines<T: Display>(numbers: &[T], a_line: usize) -> String {
 /// A table, each part under a comment.
 pub fn table(title: &str, table: &Table) -> String {
     let (sources, targets) = table.ends();
-    let parts = [
-        ("vertices, edges", &table.words()[..2]),
-        ("priorities", table.priorities()),
-        ("owners: 0 Even, 1 Odd", table.owners()),
-        ("sources of the edges", sources),
-        ("targets of the edges", targets),
-    ];
-    titled(title, &parts)
+    let parts = [&table.words()[..2], table.priorities(), table.owners(), sources, targets];
+    titled(title, &PARTS.iter().copied().zip(parts).collect::<Vec<_>>())
 }
 
+/// The parts of a table.
+const PARTS: [&str; 5] = [
+    "vertices, edges",
+    "priorities",
+    "owners: 0 Even, 1 Odd",
+    "sources of the edges",
+    "targets of the edges",
+];
+
+/// The table of a large game, each part under a comment.
+pub fn large_table(title: &str, words: &[u32]) -> String {
+    let (n, m) = (words[0] as usize, words[1] as usize);
+    let part = |from: usize, count: usize| &words[from..from + count];
+    let parts =
+        [part(0, 2), part(2, n), part(2 + n, n), part(2 + 2 * n, m), part(2 + 2 * n + m, m)];
+    titled(title, &PARTS.iter().copied().zip(parts).collect::<Vec<_>>())
+}
+
+/// The class of each vertex of a large game.
+pub fn class_list(classes: &[u32]) -> String {
+    titled("the class of each vertex", &[("from vertex 0 on", classes)])
+}
+
+/// A line for a vertex that another one represents.
+pub fn merged(vertex: &str, class: u32, lowest: &str) -> String {
+    format!("vertex {vertex}: class {class}, represented by vertex {lowest}\n")
+}
+
+/// What is said where no vertex is.
+pub const NONE_MERGED: &str = "no vertex is represented by another\n";
+
 /// Parts with their names, under a title.
-fn titled(title: &str, parts: &[(&str, &[u16])]) -> String {
+fn titled<T: Display>(title: &str, parts: &[(&str, &[T])]) -> String {
     let mut text = format!("# {title}\n");
     for (name, numbers) in parts {
         write!(text, "# {name}\n{}", lines(numbers, A_LINE)).expect("a string takes all");

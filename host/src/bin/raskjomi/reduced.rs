@@ -1,0 +1,175 @@
+//! Reductions of games of any size, made and judged, and the commands that show them.
+
+use crate::arguments::{Arguments, Form};
+use crate::commands::Written;
+use crate::failure::Failure;
+use crate::large::Loaded;
+use crate::output::form_given;
+use crate::progress::watch;
+use crate::source::plain_error;
+use crate::{tell, text};
+use raskjomi::large::write_game;
+use raskjomi::{LargeGame, LargeReduction};
+use std::fs;
+
+/// What holds for the commands that reduce games of any size.
+pub const LARGE: &str =
+    "`reduce`, `merged` and `why` take games above the limits as well, and any game in the same way with --large: then vertices are merged by \
+     their moves alone, those of one priority whose moves lead to the same classes, and of one owner where these are several. A proved check \
+     judges such a reduction before anything is written. Up to the limits the order of all pairs merges more: `reduce --then-order` goes on \
+     with it where the result fits, and writes the game and the classes of both steps in a row.";
+
+/// A game with the reduction that this program makes of it, which the proved check accepts.
+pub struct Reduced {
+    pub of: Loaded,
+    pub reduction: LargeReduction,
+}
+
+impl Reduced {
+    /// Reduces a game.
+    pub fn make(of: Loaded) -> Result<Reduced, Failure> {
+        let reducing = watch("the reduction");
+        let reduction = of.game.reduce().map_err(|misfit| {
+            let number = |number: u32| number.to_string();
+            let label = |vertex: u32| of.vertices.label(vertex);
+            let told = misfit.told(label, number, |(p, q)| (of.priority(p), of.priority(q)));
+            let message = format!("{}: {told}; {}", of.name, misfit.remedy());
+            Failure::told(String::new(), message, 1)
+        })?;
+        drop(reducing);
+        let checking = watch("the check");
+        let verdict = of.game.check_reduction(&reduction);
+        drop(checking);
+        verdict.map_err(|refusal| {
+            let fault =
+                "nothing is written, and this program has a fault: please report it with the game";
+            Failure::refused(refusal, format!("{}: its reduction is {refusal}; {fault}", of.name))
+        })?;
+        Ok(Reduced { of, reduction })
+    }
+
+    /// The reduced game as a file of it would give it: a class has its number for an id, and the name of its lowest member.
+    pub fn game_of_classes(&self) -> Loaded {
+        let game = self.reduction.reduced().clone();
+        classes_of(&self.of, self.reduction.classes(), game)
+    }
+}
+
+/// A game of classes of another one.
+fn classes_of(of: &Loaded, classes: &[u32], game: LargeGame) -> Loaded {
+    let mut lowest = vec![u32::MAX; game.size().vertices];
+    for (vertex, &class) in (0..).zip(classes) {
+        lowest[class as usize] = vertex.min(lowest[class as usize]);
+    }
+    let highest = (0..lowest.len() as u32).map(|class| game.priority(class)).max();
+    Loaded {
+        name: format!("the reduced game of {}", of.name),
+        vertices: of.vertices.renumbered(&lowest),
+        start: of.start.map(|vertex| classes[vertex as usize]),
+        even: of.even.and(highest).map(|highest| u64::from(highest).next_multiple_of(2)),
+        in_pgsolver: of.in_pgsolver,
+        game,
+    }
+}
+
+/// `reduce` for a game that is handled as large ones are.
+pub fn reduce(arguments: &Arguments, of: Loaded) -> Written {
+    let form = form_given(arguments, "reduce")?;
+    if arguments.has("--with-classes") {
+        return Err(Failure::usage(format!(
+            "{}: --with-classes is for games within the limits; write the classes to a file by --classes FILE",
+            of.name
+        )));
+    }
+    let Reduced { of, reduction } = Reduced::make(of)?;
+    let within = within_limits(reduction.reduced());
+    let told = told(&of, reduction.reduced(), within.is_some());
+    let by_order = within.filter(|_| arguments.has("--then-order")).map(|game| game.reduce());
+    let (game, classes) = match &by_order {
+        None => (reduction.reduced().clone(), reduction.classes().to_vec()),
+        Some(second) => chained(reduction.classes(), second)?,
+    };
+    if let Some(path) = arguments.value("--classes") {
+        save_classes(path, &classes)?;
+    }
+    let output = written(&classes_of(&of, &classes, game), form, arguments.has("--lowest"))?;
+    if by_order.is_none() {
+        tell(&told);
+    }
+    Ok(output)
+}
+
+/// What merging by moves has come to, and what the order of all pairs can do.
+fn told(of: &Loaded, reduced: &LargeGame, within: bool) -> String {
+    let (n, size) = (of.game.size().vertices, reduced.size());
+    let (name, k, q) = (&of.name, size.vertices, size.edges);
+    let more = match within {
+        true => "the contract's own reducer, by the order of all pairs, may make it smaller yet: --then-order runs it",
+        false => "up to 512 vertices and 4,096 edges the contract's own reducer, by the order of all pairs, may make a game smaller yet",
+    };
+    let edges = if q == 1 { "edge" } else { "edges" };
+    format!("{name}: {n} vertices merged by their moves into {k}, with {q} {edges}; {more}")
+}
+
+/// The game for the contract's own reducer, where it is within the limits.
+fn within_limits(game: &LargeGame) -> Option<raskjomi::Game> {
+    let words: Result<Vec<u16>, _> = game.words().iter().map(|&word| u16::try_from(word)).collect();
+    raskjomi::Game::new(words.ok()?).ok()
+}
+
+/// The game of a second reduction after a first one, and the classes of both in a row.
+fn chained(classes: &[u32], second: &raskjomi::Reduced) -> Result<(LargeGame, Vec<u32>), Failure> {
+    let words = second.game.words().iter().map(|&word| word.into()).collect();
+    let game =
+        LargeGame::new(words).map_err(|refusal| Failure::refused(refusal, refusal.to_string()))?;
+    let classes = classes.iter().map(|&class| second.classes[class as usize].into()).collect();
+    Ok((game, classes))
+}
+
+/// Writes the class of each vertex to a file.
+pub fn save_classes(path: &str, classes: &[u32]) -> Result<(), Failure> {
+    fs::write(path, text::class_list(classes)).map_err(|error| {
+        let error = plain_error(&error);
+        Failure::usage(format!("{path}: {error}; name a file that can be written after --classes"))
+    })
+}
+
+/// A game in a form; where none is named, in the format that it came in.
+fn written(of: &Loaded, form: Option<Form>, lowest: bool) -> Written {
+    let came_in = if of.in_pgsolver { Form::Pgsolver } else { Form::Text };
+    let words = of.game.words();
+    match form.unwrap_or(came_in) {
+        Form::Words => Ok(words.iter().flat_map(|word| word.to_le_bytes()).collect()),
+        Form::Pgsolver => {
+            let mut bytes = Vec::new();
+            let written = write_game(&mut bytes, words, &of.vertices, lowest);
+            written.map_err(|error| Failure::usage(format!("{}: {error}", of.name)))?;
+            Ok(bytes)
+        }
+        _ => {
+            let mut title = String::from("reduced game");
+            if let Some(even) = of.even {
+                title += &format!("; the lowest priority decides, and p stands for {even} - p in PGSolver's format");
+            }
+            for class in (0..words[0]).filter(|&class| of.vertices.name(class).is_some()) {
+                title += &format!("\n# vertex {class}: {}", of.vertices.label(class));
+            }
+            Ok(text::large_table(&title, words).into())
+        }
+    }
+}
+
+/// `merged` for a game that is handled as large ones are.
+pub fn merged(of: Loaded) -> Written {
+    let Reduced { of, reduction } = Reduced::make(of)?;
+    let members = reduction.members();
+    let mut text = String::new();
+    for (vertex, &class) in (0..).zip(reduction.classes()) {
+        let lowest = members.of(class)[0];
+        if lowest != vertex {
+            let [vertex, lowest] = [vertex, lowest].map(|vertex| of.vertices.label(vertex));
+            text += &text::merged(&vertex, class, &lowest);
+        }
+    }
+    Ok(if text.is_empty() { text::NONE_MERGED.into() } else { text.into() })
+}
