@@ -4,6 +4,9 @@
 #[path = "../rattle/mod.rs"]
 mod rattle;
 
+mod common;
+
+use common::root;
 use rattle::room::Room;
 use rattle::sources::List;
 use rattle::{Build, Product};
@@ -44,7 +47,8 @@ const CRATES: &str =
 /// A folder with crates and a program `rt`, which logs its start and its end and does this between them. As `rt` does, it works behind
 /// the shell's back, where standard input and output are others.
 fn repository(name: &str, script: &str) -> PathBuf {
-    let folder = PathBuf::from(env!("CARGO_TARGET_TMPDIR")).join(name);
+    // In the repository's own target folder: elsewhere in it the real `rt` takes these files for lost ones.
+    let folder = root().join("target/building").join(name);
     let _ = fs::remove_dir_all(&folder);
     write(&folder.join("crates.txt"), CRATES);
     for name in ["theory", "table", "seed", "plan", "order", "edit", "abi", "abi_edit"] {

@@ -9,7 +9,6 @@ use raskjomi::exports::{self, RaskjomiAnswer};
 use raskjomi::large::{read_game, write_game, Identifiers};
 use raskjomi::{LargeGame, LargeSolution};
 use std::fs::{self, File};
-use std::hint::black_box;
 use std::io;
 use std::path::Path;
 use std::process::Command;
@@ -24,9 +23,9 @@ const CHECK: [Check; 2] = [exports::large_solution, baseline::large_solution];
 const READ: [Read; 2] = [exports::large_read, baseline::large_read];
 
 /// About so many edges has a game of each family.
-const EDGES: [usize; 4] = [10_000, 100_000, 1_000_000, 10_000_000];
+pub const EDGES: [usize; 4] = [10_000, 100_000, 1_000_000, 10_000_000];
 /// Of these the growth is told.
-const GROWTH: (usize, usize) = (1, 3);
+pub const GROWTH: (usize, usize) = (1, 3);
 
 /// A family's name, and its game of about so many edges.
 type Family = (&'static str, fn(&mut Lcg, usize) -> LargeTable);
@@ -65,7 +64,7 @@ fn goes_on(times: usize, least: usize, spent: Duration) -> bool {
 }
 
 /// The best time of what is done three times or more.
-fn best(mut work: impl FnMut()) -> Duration {
+pub fn best(mut work: impl FnMut()) -> Duration {
     let (mut best, mut spent, mut times) = (Duration::MAX, Duration::ZERO, 0);
     while goes_on(times, 3, spent) {
         let start = Instant::now();
@@ -77,7 +76,7 @@ fn best(mut work: impl FnMut()) -> Duration {
 }
 
 /// The best times of library and baseline, which are called in turn, ten times or more. Both give this answer.
-fn sides(number: u32, call: impl Fn(usize) -> RaskjomiAnswer) -> [Duration; 2] {
+pub fn sides(number: u32, call: impl Fn(usize) -> RaskjomiAnswer) -> [Duration; 2] {
     let (mut best, mut spent, mut times) = ([Duration::MAX; 2], Duration::ZERO, 0);
     while goes_on(times, 10, spent) {
         let [library, baseline] = [0, 1].map(|side| measure::timed(|| call(side)));
@@ -94,11 +93,11 @@ fn check_times(number: u32, words: &LargeWords) -> [Duration; 2] {
     sides(number, |side| CHECK[side](game, solution, certificate))
 }
 
-fn millis(time: Duration) -> f64 {
+pub fn millis(time: Duration) -> f64 {
     time.as_secs_f64() * 1e3
 }
 
-fn ratio(times: [Duration; 2]) -> f64 {
+pub fn ratio(times: [Duration; 2]) -> f64 {
     times[0].as_secs_f64() / times[1].as_secs_f64()
 }
 
@@ -125,7 +124,7 @@ fn show_row(name: &str, game: &LargeTable) -> Times {
 }
 
 /// How many times as long the larger of two rows takes for each edge, for a side.
-fn growth(small: (usize, Duration), large: (usize, Duration)) -> f64 {
+pub fn growth(small: (usize, Duration), large: (usize, Duration)) -> f64 {
     let each = |(m, time): (usize, Duration)| time.as_secs_f64() / m as f64;
     each(large) / each(small)
 }
@@ -209,15 +208,24 @@ fn show_crafted() {
     }
 }
 
-/// The best time of `wc -w` on a file.
-fn count_words(file: &Path) -> io::Result<Duration> {
-    let run = || Command::new("wc").arg("-w").arg(file).output();
-    run()?;
-    Ok(best(|| assert!(run().is_ok_and(|output| output.status.success()), "wc -w counts")))
+/// The best times of the reader of files and of `wc -w`, in turn, on a file that has the words of a game.
+fn file_times(file: &Path, words: usize) -> [Duration; 2] {
+    let read = || read_game(File::open(file).expect("the file is there"), None, true);
+    let count = || Command::new("wc").arg("-w").arg(file).output();
+    let mut times = [Duration::MAX; 2];
+    for _ in 0..7 {
+        let start = Instant::now();
+        let game = read().expect("the file has a game");
+        let between = Instant::now();
+        assert!(count().is_ok_and(|output| output.status.success()), "wc -w counts");
+        times = [times[0].min(between - start), times[1].min(between.elapsed())];
+        assert_eq!(game.words.len(), words, "the file has the game");
+    }
+    times
 }
 
 /// A number of bytes that Linux tells of this process.
-fn told(name: &str) -> Option<usize> {
+pub fn told(name: &str) -> Option<usize> {
     let status = fs::read_to_string("/proc/self/status").ok()?;
     let line = status.lines().find_map(|line| line.strip_prefix(name))?;
     Some(1024 * line.trim().strip_suffix(" kB")?.parse::<usize>().ok()?)
@@ -235,25 +243,27 @@ pub fn tell_memory(file: &str) -> io::Result<()> {
     Ok(())
 }
 
-/// What another process prints there.
-fn most_bytes(file: &Path) -> Option<usize> {
+/// What another process prints that does this with a file: the bytes of memory that it takes.
+pub fn most_bytes(what: &str, file: &Path) -> Option<usize> {
     let program = std::env::current_exe().ok()?;
-    let output = Command::new(program).arg("read").arg(file).output().ok()?;
+    let output = Command::new(program).arg(what).arg(file).output().ok()?;
     String::from_utf8(output.stdout).ok()?.trim().parse().ok()
 }
 
-/// The reader of files beside `wc -w`, on a file that was just written.
-fn show_file(name: &str, game: &LargeTable) -> io::Result<()> {
+/// Works on a file of the game, which is removed afterwards.
+pub fn with_file<T>(game: &LargeTable, work: impl FnOnce(&Path) -> io::Result<T>) -> io::Result<T> {
     let file = std::env::temp_dir().join(format!("raskjomi-bench-{}.pg", std::process::id()));
     write_game(File::create(&file)?, &game.words(), &Identifiers::numbers(game.n()), true)?;
-    let megabytes = fs::metadata(&file)?.len() as f64 / 1e6;
-    let read = || read_game(File::open(&file).expect("the file is there"), None, true);
-    let words = read().expect("the file has a game").words;
-    assert_eq!(words.len(), 2 + 2 * game.n() + 2 * game.m(), "the file has the game");
-    drop(words);
-    let times = [best(|| drop(black_box(read()))), count_words(&file)?];
+    let done = work(&file);
+    fs::remove_file(&file).and(done)
+}
+
+/// The reader of files beside `wc -w`, on a file that was just written.
+fn show_file(name: &str, game: &LargeTable, file: &Path) -> io::Result<()> {
+    let megabytes = fs::metadata(file)?.len() as f64 / 1e6;
+    let times = file_times(file, 2 + 2 * game.n() + 2 * game.m());
     let each = |most: usize| format!("{:.1}", most as f64 / game.m() as f64);
-    let each = most_bytes(&file).map_or("-".into(), each);
+    let each = most_bytes("read", file).map_or("-".into(), each);
     println!(
         "{name:20} {:>8} {:>8} {megabytes:>8.1} {:>9.1} {:>9.1} {:>5.2} {:>6.0} {each:>10}",
         game.n(),
@@ -263,14 +273,15 @@ fn show_file(name: &str, game: &LargeTable) -> io::Result<()> {
         ratio(times),
         megabytes / times[0].as_secs_f64()
     );
-    fs::remove_file(&file)
+    Ok(())
 }
 
 fn show_files() -> io::Result<()> {
     println!("\nfile                        n        m       MB   read ms  wc -w ms ratio   MB/s bytes/edge");
     let by_source = &FAMILIES[..3];
     by_source.iter().try_for_each(|(name, family)| {
-        show_file(name, &family(&mut Lcg::new(2041), EDGES[GROWTH.1]))
+        let game = family(&mut Lcg::new(2041), EDGES[GROWTH.1]);
+        with_file(&game, |file| show_file(name, &game, file))
     })
 }
 

@@ -1,12 +1,13 @@
 //! The library beside a baseline: safe Rust of the same algorithms, in one run, on buffers of the same
-//! lengths, which neither clears first. Up to 256 vertices the order stands beside plain passes, too. The check of
-//! solutions has rows of its own, which the argument `large` asks for.
+//! lengths, which neither clears first. Up to 256 vertices the order stands beside plain passes, too. The checks of
+//! solutions and of reductions have rows of their own, which the argument `large` asks for.
 #![forbid(unsafe_code)]
 
 mod baseline;
 mod edits;
 mod governed;
 mod large;
+mod large_reduction;
 mod measure;
 mod packing;
 mod rows;
@@ -294,8 +295,8 @@ fn show_calls() {
     governed::show(&rows);
 }
 
-/// Shows the rows of the calls that have limits; with the argument `large`, those of the check of solutions; with
-/// `read` and a file, the memory that reading it takes.
+/// Shows the rows of the calls that have limits; with the argument `large`, those of the checks of solutions and of
+/// reductions, with `reductions` the latter alone; with `read` or `reduce` and a file, the memory that this takes.
 fn main() -> ExitCode {
     let arguments: Vec<String> = std::env::args().skip(1).collect();
     let words: Vec<&str> = arguments.iter().map(String::as_str).collect();
@@ -305,9 +306,11 @@ fn main() -> ExitCode {
             show_calls();
             Ok(())
         }
-        ["large"] => large::show().map_err(of_file),
+        ["large"] => large::show().and_then(|()| large_reduction::show()).map_err(of_file),
+        ["reductions"] => large_reduction::show().map_err(of_file),
         ["read", file] => large::tell_memory(file).map_err(of_file),
-        _ => Err("give no argument, or `large`, or `read FILE`".into()),
+        ["reduce", file] => large_reduction::tell_memory(file).map_err(of_file),
+        _ => Err("give no argument, `large`, `reductions`, `read FILE` or `reduce FILE`".into()),
     };
     match shown {
         Ok(()) => ExitCode::SUCCESS,

@@ -33,6 +33,19 @@ impl LargeTable {
         self.edges.len()
     }
 
+    /// The game of a table's words, which are as many as their first two say.
+    pub fn of_words(words: &[u32]) -> LargeTable {
+        let (n, m) = (words[0] as usize, words[1] as usize);
+        let (vertices, edges) = words[2..].split_at(2 * n);
+        let (priorities, owners) = vertices.split_at(n);
+        let (sources, targets) = edges.split_at(m);
+        LargeTable {
+            priorities: priorities.to_vec(),
+            owners: owners.to_vec(),
+            edges: sources.iter().copied().zip(targets.iter().copied()).collect(),
+        }
+    }
+
     /// The words of the table.
     pub fn words(&self) -> Vec<u32> {
         let mut words = Vec::with_capacity(2 + 2 * self.n() + 2 * self.m());

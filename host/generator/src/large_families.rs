@@ -3,7 +3,7 @@
 use crate::{LargeTable, Lcg};
 
 /// Even's game of priority 0 with the given edges.
-fn plain(n: usize, edges: impl IntoIterator<Item = (usize, usize)>) -> LargeTable {
+pub(crate) fn plain(n: usize, edges: impl IntoIterator<Item = (usize, usize)>) -> LargeTable {
     let edges = edges.into_iter().map(|(source, target)| (source as u32, target as u32)).collect();
     LargeTable { priorities: vec![0; n], owners: vec![0; n], edges }
 }

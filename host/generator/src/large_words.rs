@@ -45,6 +45,22 @@ pub fn some_order(lcg: &mut Lcg, n: usize) -> Vec<u32> {
     order
 }
 
+/// Another word of a game's table.
+pub(crate) fn change_table(table: &mut [u32], lcg: &mut Lcg) {
+    let (n, place) = (table[0], lcg.below(table.len()));
+    let old = table[place];
+    let near = lcg.pick(&[old.wrapping_add(1), old.wrapping_sub(1), old ^ 1]);
+    let any = lcg.below(n as usize) as u32;
+    table[place] = lcg.pick(&[near, near, any, n, u32::MAX]);
+}
+
+/// Fewer words, or more.
+pub(crate) fn change_length(words: &mut Vec<u32>, lcg: &mut Lcg) {
+    let length = words.len();
+    let any = lcg.below(length);
+    words.resize(lcg.pick(&[0, 1, 2, length - 1, length + 1, length + 2, any]), 0);
+}
+
 impl LargeWords {
     fn n(&self) -> usize {
         self.solution.len() / 2
@@ -111,11 +127,7 @@ impl LargeWords {
 
     /// Another word of the game.
     pub fn spoil_game(&mut self, lcg: &mut Lcg) {
-        let (n, place) = (self.n(), lcg.below(self.game.len()));
-        let old = self.game[place];
-        let near = lcg.pick(&[old.wrapping_add(1), old.wrapping_sub(1), old ^ 1]);
-        let any = lcg.below(n) as u32;
-        self.game[place] = lcg.pick(&[near, near, any, n as u32, u32::MAX]);
+        change_table(&mut self.game, lcg);
     }
 
     /// One of the three is shorter or longer.
@@ -125,9 +137,7 @@ impl LargeWords {
             1 => &mut self.solution,
             _ => &mut self.certificate,
         };
-        let length = words.len();
-        let any = lcg.below(length);
-        words.resize(lcg.pick(&[0, 1, 2, length - 1, length + 1, length + 2, any]), 0);
+        change_length(words, lcg);
     }
 
     /// One change of any kind.

@@ -8,6 +8,10 @@ mod edits;
 mod families;
 mod large;
 mod large_families;
+mod large_planted;
+mod large_quotients;
+mod large_reduced;
+mod large_small;
 mod large_solver;
 mod large_words;
 mod lcg;
@@ -33,6 +37,12 @@ pub use large_families::{
     any_large, large_clique, large_component, large_ladder, large_loops, large_nested, large_path,
     large_random,
 };
+pub use large_planted::{
+    any_planted, large_chains, large_distinct, large_hub, large_uniform, planted, Planting,
+};
+pub use large_quotients::{classes_by_signatures, quotient_of, some_images};
+pub use large_reduced::{ReducedWords, REDUCTION_REFUSALS};
+pub use large_small::{large_games_of, lists, partitions};
 pub use large_solver::{solve_large, LargeSolved};
 pub use large_words::{certificate_of, some_order, LargeWords, LARGE_REFUSALS};
 pub use lcg::Lcg;

@@ -6,26 +6,26 @@ use std::collections::{BTreeMap, BTreeSet};
 
 /// The table of a game.
 #[derive(Clone, Copy)]
-struct Game<'a> {
-    n: usize,
-    m: usize,
+pub(crate) struct Game<'a> {
+    pub n: usize,
+    pub m: usize,
     words: &'a [u32],
 }
 
 impl Game<'_> {
-    fn priority(&self, v: usize) -> u32 {
+    pub fn priority(&self, v: usize) -> u32 {
         self.words[2 + v]
     }
 
-    fn owner(&self, v: usize) -> u32 {
+    pub fn owner(&self, v: usize) -> u32 {
         self.words[2 + self.n + v]
     }
 
-    fn source(&self, j: usize) -> usize {
+    pub fn source(&self, j: usize) -> usize {
         self.words[2 + 2 * self.n + j] as usize
     }
 
-    fn target(&self, j: usize) -> usize {
+    pub fn target(&self, j: usize) -> usize {
         self.words[2 + 2 * self.n + self.m + j] as usize
     }
 }
@@ -251,7 +251,7 @@ impl Oracle {
     }
 
     /// Refusals 1, 2 and 4 to 6.
-    fn large_game<'a>(&self, words: &'a [u32]) -> Result<Game<'a>, Refusal> {
+    pub(crate) fn large_game<'a>(&self, words: &'a [u32]) -> Result<Game<'a>, Refusal> {
         let length = words.len();
         refuse_if(length < 2, 1, length)?;
         let (n, m) = (words[0] as usize, words[1] as usize);

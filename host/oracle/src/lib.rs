@@ -1,7 +1,7 @@
 //! A second implementation of every call, for tests: written from document 01 and its change requests
 //! CR 1 to CR 4, CR 6 to CR 10 and CR 12 to CR 14, which docs/CONTRACT.md renders, by their definitions, slow and plain, and sharing
-//! no code with the library that it is compared with. The check of solutions of games of any size is written from what docs/CONTRACT.md
-//! says of it.
+//! no code with the library that it is compared with. The checks of solutions and of reductions of games of any size are written from
+//! what docs/CONTRACT.md says of them.
 //!
 //! Each [`Trap`] is a misreading of the contract. An [`Oracle`] that falls for one gives the answers
 //! of that misreading, so a test can show that it would be noticed.
@@ -14,6 +14,7 @@ mod edit;
 mod game;
 mod governed;
 mod large;
+mod large_reduction;
 mod plan;
 mod reduction;
 mod relation;

@@ -296,6 +296,41 @@ pub enum Trap {
     RunsUnused,
     /// A kept edge may go up from a priority of the loser's to an equal one.
     EqualLetUp,
+
+    /// The reduced game is refused with the game's numbers.
+    ReducedAsGame,
+    /// The reduced game is read before the game.
+    ReducedFirst,
+    /// The edges of a class must stand by ascending target too.
+    TargetsAscend,
+    /// An edge out of sequence is reported by the edge before it.
+    DescentAsBefore,
+    /// The number of classes' words is judged before the sequence of the reduced game's edges.
+    ClassesBeforeRows,
+    /// Classes beyond the last vertex are taken.
+    LongClassesTaken,
+    /// A vertex may have any priority of its class's parity.
+    ParityCompared,
+    /// A class may have no member.
+    EmptyClassTaken,
+    /// An image may have any source.
+    ImageByTarget,
+    /// An image may have any target.
+    ImageBySource,
+    /// A start may have any image of its row.
+    StartWithin,
+    /// The owner of each vertex must be its class's.
+    OwnersAgree,
+    /// The owner of a vertex may be another than its class's.
+    OwnersDiffer,
+    /// A vertex has a choice where it has several successors, of whatever class.
+    ChoiceByVertex,
+    /// The last edge of a row must have an edge after it too.
+    AfterTheLast,
+    /// The edge after another may have any source of the same class.
+    AfterOfClass,
+    /// The edge after another may have any later image of the row.
+    AfterAnyLater,
 }
 
 impl Trap {
@@ -448,5 +483,26 @@ impl Trap {
         Trap::RunBackTaken,
         Trap::RunsUnused,
         Trap::EqualLetUp,
+    ];
+
+    /// The traps of the check of reductions.
+    pub const OF_REDUCTIONS: [Trap; 17] = [
+        Trap::ReducedAsGame,
+        Trap::ReducedFirst,
+        Trap::TargetsAscend,
+        Trap::DescentAsBefore,
+        Trap::ClassesBeforeRows,
+        Trap::LongClassesTaken,
+        Trap::ParityCompared,
+        Trap::EmptyClassTaken,
+        Trap::ImageByTarget,
+        Trap::ImageBySource,
+        Trap::StartWithin,
+        Trap::OwnersAgree,
+        Trap::OwnersDiffer,
+        Trap::ChoiceByVertex,
+        Trap::AfterTheLast,
+        Trap::AfterOfClass,
+        Trap::AfterAnyLater,
     ];
 }

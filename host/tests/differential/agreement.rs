@@ -3,7 +3,7 @@
 use crate::calls::Call;
 use crate::common::say;
 use crate::samples::cases;
-use generator::{Lcg, LARGE_REFUSALS};
+use generator::{Lcg, LARGE_REFUSALS, REDUCTION_REFUSALS};
 use oracle::Oracle;
 use std::collections::BTreeMap;
 use std::thread;
@@ -69,15 +69,17 @@ fn kinds_agree() {
     }
 }
 
-/// The library explains exactly the numbers that it gives, and 7 and 9, which it gave before CR 2 and CR 13.
+/// The library explains exactly the numbers that it gives, and 7 and 9, which it gave before CR 2 and CR 13. Kinds end
+/// at 99.
 #[test]
 fn every_refusal_is_explained() {
+    let large = [&LARGE_REFUSALS[..], &REDUCTION_REFUSALS].concat();
     for number in 0..1000 {
-        let given = matches!(number, 1..=16 | 21..=24 | 31..=41 | 81..=89);
+        let given = matches!(number, 1..=16 | 21..=24 | 31..=41 | 81..=89 | 91 | 92 | 94..=106);
         assert_eq!(raskjomi::explain(number).is_some(), given, "{number}");
         let kind = Oracle::exact().kind(number);
-        let of_calls = number <= 41 || LARGE_REFUSALS.contains(&number);
-        let known = (1..=4).contains(&kind) || kind == 5 && of_calls;
+        let of_calls = number <= 41 || large.contains(&number);
+        let known = (1..=4).contains(&kind) || of_calls && (kind == 5 || number > 99);
         assert_eq!(given, known, "{number}");
     }
 }

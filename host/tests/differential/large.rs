@@ -1,7 +1,10 @@
 //! The check of solutions of games of any size: all small games with all solutions, and all certificates of the
 //! smallest, beside the oracle. A solution has a certificate that passes exactly if it is right.
 
-use generator::{certificate_of, solve_large, LargeSolved, LargeTable, LargeWords, LARGE_REFUSALS};
+use generator::{
+    certificate_of, large_games_of, lists, solve_large, LargeSolved, LargeTable, LargeWords,
+    LARGE_REFUSALS,
+};
 use oracle::{Answer, Oracle};
 use raskjomi::exports::{self, RaskjomiAnswer};
 use raskjomi::{LargeGame, LargeSolution, Uncertified};
@@ -51,17 +54,6 @@ pub fn certified(game: &[u32], solution: &[u32]) -> bool {
     true
 }
 
-/// Every list of numbers, each below its limit, to `each` in turn.
-fn lists(limits: &[u32], mut each: impl FnMut(&[u32])) {
-    let mut list = vec![0; limits.len()];
-    loop {
-        each(&list);
-        let Some(place) = (0..list.len()).find(|&i| list[i] + 1 < limits[i]) else { return };
-        list[place] += 1;
-        list[..place].fill(0);
-    }
-}
-
 /// Every order of n vertices.
 fn orders(n: usize) -> Vec<Vec<u32>> {
     let mut orders = Vec::new();
@@ -85,26 +77,12 @@ fn ascending(n: usize) -> Vec<Vec<u32>> {
     all
 }
 
-/// Every game with these priorities. `targets` are the sets of successors that a vertex can have, as bits.
-fn games_of(priorities: &[u32], targets: &[u32], mut each: impl FnMut(&LargeTable)) {
-    let n = priorities.len();
-    lists(&[vec![2; n], vec![targets.len() as u32; n]].concat(), |list| {
-        let (owners, sets) = list.split_at(n);
-        let pairs = (0..n * n).filter(|i| targets[sets[i / n] as usize] >> (i % n) & 1 == 1);
-        each(&LargeTable {
-            priorities: priorities.to_vec(),
-            owners: owners.to_vec(),
-            edges: pairs.map(|i| ((i / n) as u32, (i % n) as u32)).collect(),
-        });
-    });
-}
-
 /// Every game of n vertices without an edge twice, but for the numbers of its vertices and the values of its
 /// priorities.
 fn games(n: usize, mut each: impl FnMut(&LargeTable)) {
     let targets: Vec<u32> = (0..1 << n).collect();
     for priorities in ascending(n) {
-        games_of(&priorities, &targets, &mut each);
+        large_games_of(&priorities, &targets, &mut each);
     }
 }
 
@@ -196,7 +174,7 @@ fn right_solutions_of_games_of_four_vertices_are_certified_and_no_others() {
     let few: Vec<u32> = (0u32..16).filter(|set| (1..=2).contains(&set.count_ones())).collect();
     for priorities in [[0, 1, 2, 3], [1, 2, 3, 4]] {
         let mut counts = [0; 2];
-        games_of(&priorities, &few, |game| count_by_maker(game, &mut counts));
+        large_games_of(&priorities, &few, |game| count_by_maker(game, &mut counts));
         assert!(counts.iter().all(|&count| count > 100_000), "{counts:?}");
     }
 }

@@ -4,11 +4,11 @@ use super::refused;
 use raskjomi::exports::RaskjomiAnswer;
 
 /// The parts of a game's table.
-struct Game<'a> {
-    priorities: &'a [u32],
-    owners: &'a [u32],
-    sources: &'a [u32],
-    targets: &'a [u32],
+pub(super) struct Game<'a> {
+    pub priorities: &'a [u32],
+    pub owners: &'a [u32],
+    pub sources: &'a [u32],
+    pub targets: &'a [u32],
 }
 
 /// The parts of a solution.
@@ -48,12 +48,12 @@ fn judge(game: &[u32], solution: &[u32], certificate: &[u32]) -> Result<(), Rask
 }
 
 /// Refuses at the place if there is one.
-fn refuse_at(number: u32, place: Option<usize>) -> Result<(), RaskjomiAnswer> {
+pub(super) fn refuse_at(number: u32, place: Option<usize>) -> Result<(), RaskjomiAnswer> {
     place.map_or(Ok(()), |place| Err(refused(number, place)))
 }
 
 /// Refusals 1, 2 and 4 to 6.
-fn read(game: &[u32]) -> Result<Game<'_>, RaskjomiAnswer> {
+pub(super) fn read(game: &[u32]) -> Result<Game<'_>, RaskjomiAnswer> {
     if game.len() < 2 {
         return Err(refused(1, game.len()));
     }
