@@ -8,7 +8,7 @@ use std::os::unix::process::ExitStatusExt;
 use std::process::{Command, ExitStatus, Stdio};
 use std::thread;
 
-const CALLS: [&str; 22] = [
+const CALLS: [&str; 25] = [
     "no call",
     "kind",
     "read",
@@ -31,7 +31,14 @@ const CALLS: [&str; 22] = [
     "governed_order",
     "accept_governed",
     "governed_classes",
+    "large_read",
+    "large_solution",
+    "large_reduction",
 ];
+
+/// One vertex with a loop. The calls on large games have no arrays, so their stack doesn't go by the sizes.
+const LOOP: [u32; 6] = [1, 1, 0, 0, 0, 0];
+
 /// The sizes tried, in KiB: a page, the least that Rust gives a thread, and what it gives by default.
 const PAGE: usize = 4;
 const LEAST: usize = 16;
@@ -90,6 +97,9 @@ fn call(name: &str) -> impl FnOnce() -> u32 + Send + 'static {
             "governed_order" => exports::governed_order(&game, m, s),
             "accept_governed" => exports::accept_governed(&game, m),
             "governed_classes" => exports::governed_classes(&game, m, s, c),
+            "large_read" => exports::large_read(&LOOP),
+            "large_solution" => exports::large_solution(&LOOP, &[0; 2], &[0; 3]),
+            "large_reduction" => exports::large_reduction(&LOOP, &LOOP, &[0], &[0; 4]),
             _ => exports::reduce(&game, m, s, c, o),
         };
         answer.number
