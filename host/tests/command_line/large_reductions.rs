@@ -85,7 +85,7 @@ fn reduced_games_are_checked_and_solved() {
         let lines =
             (0..2 * n).map(|v| format!("vertex {v}: {} wins, as in class {}\n", of(v), list[v]));
         let solved = file("any.sol", solution(&small).as_bytes());
-        let text = run(&["winners", &name, &solved]).text();
+        let text = run(&["winners", &name, &solved, "--large"]).text();
         let (first, rest) = text.split_once('\n').expect("a first line");
         assert!(first.starts_with("right: Even wins at "), "{first}");
         assert_eq!(rest, lines.collect::<String>());
@@ -147,13 +147,13 @@ fn names_and_ids() {
     let loops = run_on(&["merged", "--large"], b"2 2 / 0 1 / 0 0 / 0 1 / 0 1").text();
     assert_eq!(loops, "no vertex is represented by another\n");
     let solved = file("reduced-gaps.sol", b"paritysol 2;\n0 0 2;\n1 0;\n2 0 1;\n");
-    let text = run(&["winners", &game, &solved]).text();
+    let text = run(&["winners", &game, &solved, "--large"]).text();
     assert_eq!(
         text,
         "right: Even wins at 4 vertices, Odd at 0\nvertex id 3 \"door\": Even wins, as in class 0\nvertex id 5: Even wins, as in class 1\n\
          vertex id 7 \"gate\": Even wins, as in class 0\nvertex id 9 \"end\": Even wins, as in class 2\n"
     );
-    let value = run(&["winners", &game, &solved, "--json"]).text();
+    let value = run(&["winners", &game, &solved, "--large", "--json"]).text();
     assert!(
         value.starts_with(
             "{\"accepted\":true,\"vertices\":4,\"edges\":6,\"even_wins\":4,\"odd_wins\":0,\"at\":[\
@@ -434,7 +434,7 @@ fn inputs_that_are_standard_input() {
         .fails(2, &["both inputs are standard input"]);
     run(&["winners", "-", "-"]).fails(2, &["both inputs are standard input"]);
     let solved = file("in.sol", b"paritysol 2; 0 0 2; 1 1 1; 2 0;");
-    let text = run_on(&["winners", "-", &solved], GAME.as_bytes()).text();
+    let text = run_on(&["winners", "-", &solved, "--large"], GAME.as_bytes()).text();
     assert!(
         text.starts_with(
             "right: Even wins at 3 vertices, Odd at 1\nvertex 0: Even wins, as in class 0\n"
@@ -523,10 +523,31 @@ fn a_certificate_of_what_is_no_reduction() {
 }
 
 #[test]
+fn winners_within_the_limits() {
+    let mut lcg = Lcg::new(31);
+    for round in 0..20 {
+        let half = large_random(&mut lcg, 6 + round, 20 + 3 * round, 4);
+        let game = doubled(&mut lcg, &half);
+        let words: Vec<String> = game.words().iter().map(u32::to_string).collect();
+        let name = file("within.txt", words.join(" ").as_bytes());
+        let reduced = run(&["reduce", &name, "--as=text"]).text();
+        let small = table(&numbers(&reduced));
+        let solved = file("within.sol", solution(&small).as_bytes());
+        let winners = solve_large(&game).winners;
+        let text = run(&["winners", &name, &solved]).text();
+        for (v, line) in text.lines().skip(1).enumerate() {
+            let of = ["Even", "Odd"][winners[v] as usize];
+            assert!(line.starts_with(&format!("vertex {v}: {of} wins, as in class ")), "{line}");
+        }
+        assert_eq!(text.lines().count(), game.n() + 1);
+    }
+}
+
+#[test]
 fn winners_by_wrong_solutions() {
     let game = file("won.txt", GAME.as_bytes());
     let wrong = |solution: &str, status: i32, parts: &[&str]| {
-        run_on(&["winners", &game, "-"], solution.as_bytes()).fails(status, parts)
+        run_on(&["winners", &game, "-", "--large"], solution.as_bytes()).fails(status, parts)
     };
     // Class 1 is a loop of priority 1.
     let told = wrong("paritysol 2; 0 0 1; 1 0; 2 0;", 1, &["standard input: wrong: Even is said to win at vertex 1, but the moves of the solution leave Odd"]);
@@ -542,7 +563,8 @@ fn winners_by_wrong_solutions() {
         2,
         &["standard input: no line for vertex 2; solve the whole game"],
     );
-    let json = run_on(&["winners", &game, "-", "--json"], b"paritysol 2; 0 0 1; 1 0; 2 0;");
+    let json =
+        run_on(&["winners", &game, "-", "--large", "--json"], b"paritysol 2; 0 0 1; 1 0; 2 0;");
     let value = json.fails(1, &["wrong"]);
     assert!(value.starts_with("{\"accepted\":false,\"refusal\":null,"), "{value}");
     run_on(&["winners", "-", "games/c.sol"], b"2 1 / 0 0 / 0 0 / 0 / 0")

@@ -150,30 +150,29 @@ pub fn unsaved(path: &str, error: &io::Error) -> Failure {
 }
 
 /// How many vertices a player wins at.
-pub fn won(solved: &Solved, player: Player) -> usize {
-    let winners = &solved.solution.words()[..solved.of.game.size().vertices];
+pub fn won(winners: &[u32], player: Player) -> usize {
     winners.iter().filter(|&&winner| winner == u32::from(player)).count()
 }
 
-pub fn winner(solved: &Solved, vertex: u32) -> &'static str {
-    match solved.solution.winner(vertex) {
-        Some(Player::Odd) => "Odd",
+pub fn winner(winners: &[u32], vertex: u32) -> &'static str {
+    match winners[vertex as usize] {
+        raskjomi::ODD => "Odd",
         _ => "Even",
     }
 }
 
 /// How many vertices each player wins at, as a line.
-pub fn summary(solved: &Solved) -> String {
-    let [even, odd] = [Player::Even, Player::Odd].map(|player| won(solved, player));
+pub fn summary(winners: &[u32]) -> String {
+    let [even, odd] = [Player::Even, Player::Odd].map(|player| won(winners, player));
     let vertices = if even == 1 { "vertex" } else { "vertices" };
     format!("right: Even wins at {} {vertices}, Odd at {}\n", grouped(even), grouped(odd))
 }
 
 /// What is known of an accepted solution, as lines.
 fn text(solved: &Solved, asked: &[(u32, String)]) -> String {
-    let mut text = summary(solved);
+    let mut text = summary(solved.winners());
     for (vertex, label) in asked {
-        text += &format!("{} wins at {label}\n", winner(solved, *vertex));
+        text += &format!("{} wins at {label}\n", winner(solved.winners(), *vertex));
     }
     text
 }
@@ -181,7 +180,7 @@ fn text(solved: &Solved, asked: &[(u32, String)]) -> String {
 /// The same as a value.
 fn value(solved: &Solved, asked: &[(u32, String)]) -> Value {
     let at = |&(vertex, _): &(u32, String)| {
-        let fields = [("winner", Value::from(winner(solved, vertex)))];
+        let fields = [("winner", Value::from(winner(solved.winners(), vertex)))];
         json::object(solved.of.vertex_fields(vertex).into_iter().chain(fields))
     };
     let size = solved.of.game.size();
@@ -189,8 +188,8 @@ fn value(solved: &Solved, asked: &[(u32, String)]) -> Value {
         ("accepted", Value::Bool(true)),
         ("vertices", Value::from(size.vertices)),
         ("edges", Value::from(size.edges)),
-        ("even_wins", Value::from(won(solved, Player::Even))),
-        ("odd_wins", Value::from(won(solved, Player::Odd))),
+        ("even_wins", Value::from(won(solved.winners(), Player::Even))),
+        ("odd_wins", Value::from(won(solved.winners(), Player::Odd))),
         ("at", Value::List(asked.iter().map(at).collect())),
     ])
 }

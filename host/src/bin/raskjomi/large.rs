@@ -116,6 +116,11 @@ impl Solved {
             .map_err(|error| Failure::usage(format!("{name}: {error}")))?;
         Ok(Solved { of, name, solution: LargeSolution::from_words(words) })
     }
+
+    /// The winner at each vertex, 0 for Even and 1 for Odd.
+    pub fn winners(&self) -> &[u32] {
+        &self.solution.words()[..self.of.game.size().vertices]
+    }
 }
 
 /// A refusal of a game's words.

@@ -56,7 +56,7 @@ impl Reduced {
 }
 
 /// A game of classes of another one.
-fn classes_of(of: &Loaded, classes: &[u32], game: LargeGame) -> Loaded {
+pub fn classes_of(of: &Loaded, classes: &[u32], game: LargeGame) -> Loaded {
     let mut lowest = vec![u32::MAX; game.size().vertices];
     for (vertex, &class) in (0..).zip(classes) {
         lowest[class as usize] = vertex.min(lowest[class as usize]);
@@ -112,13 +112,16 @@ fn told(of: &Loaded, reduced: &LargeGame, within: bool) -> String {
 }
 
 /// The game for the contract's own reducer, where it is within the limits.
-fn within_limits(game: &LargeGame) -> Option<raskjomi::Game> {
+pub fn within_limits(game: &LargeGame) -> Option<raskjomi::Game> {
     let words: Result<Vec<u16>, _> = game.words().iter().map(|&word| u16::try_from(word)).collect();
     raskjomi::Game::new(words.ok()?).ok()
 }
 
 /// The game of a second reduction after a first one, and the classes of both in a row.
-fn chained(classes: &[u32], second: &raskjomi::Reduced) -> Result<(LargeGame, Vec<u32>), Failure> {
+pub fn chained(
+    classes: &[u32],
+    second: &raskjomi::Reduced,
+) -> Result<(LargeGame, Vec<u32>), Failure> {
     let words = second.game.words().iter().map(|&word| word.into()).collect();
     let game =
         LargeGame::new(words).map_err(|refusal| Failure::refused(refusal, refusal.to_string()))?;
