@@ -116,7 +116,7 @@ fn show_reduced(name: &str, game: &LargeTable) {
     let found = whole.reduce().map(|reduction| reduction.reduced().size().vertices);
     assert_eq!(found, Ok(classes), "both find the same classes");
     println!(
-        "{name:21} {:>8} {:>8} {classes:>8} {:>10.1} {:>13.1} {:>6.2} {:>8.1}",
+        "{name:21} {:>8} {:>8} {classes:>8} {:>10.1} {:>13.1} {:>7.4} {:>8.1}",
         game.n(),
         game.m(),
         millis(library),
@@ -166,7 +166,7 @@ pub fn tell_memory(file: &str) -> io::Result<()> {
 /// All rows.
 pub fn show() -> io::Result<()> {
     show_families();
-    println!("\nreducer                      n        m        k library ms signatures ms  ratio  ns/edge");
+    println!("\nreducer                      n        m        k library ms signatures ms   ratio  ns/edge");
     for (name, family, sizes) in FAMILIES {
         sizes.iter().for_each(|&m| show_reduced(name, &family(&mut Lcg::new(2043), m)));
     }

@@ -96,26 +96,29 @@ fn partitions_of_small_games() {
     }
 }
 
+/// The game with an edge more, or less if it is there.
+fn toggled(game: &LargeTable, edge: (u32, u32)) -> LargeTable {
+    let mut edges: BTreeSet<(u32, u32)> = game.edges.iter().copied().collect();
+    if !edges.remove(&edge) {
+        edges.insert(edge);
+    }
+    LargeTable { edges: edges.into_iter().collect(), ..game.clone() }
+}
+
 /// The game of a partition with one edge more or less.
 #[test]
 fn partitions_of_small_games_with_another_edge() {
-    for (n, least) in [(1, 0), (2, 4), (3, 300)] {
+    for (n, least) in [(1, 4), (2, 300), (3, 200_000)] {
         let (partitions, mut counts) = (partitions(n), [0; 2]);
         games(n, |game| {
             for classes in &partitions {
                 let whole = quotient_of(game, classes);
                 let k = whole.n() as u32;
-                for edge in (0..k * k).map(|i| (i / k, i % k)) {
-                    let mut edges: BTreeSet<(u32, u32)> = whole.edges.iter().copied().collect();
-                    if !edges.remove(&edge) {
-                        edges.insert(edge);
-                    }
-                    let edges = edges.into_iter().collect();
-                    count(&mut counts, game, &LargeTable { edges, ..whole.clone() }, classes);
-                }
+                let edges = (0..k * k).map(|i| (i / k, i % k));
+                edges.for_each(|edge| count(&mut counts, game, &toggled(&whole, edge), classes));
             }
         });
-        assert!(counts[0] > least && counts[1] == 0, "{n}: {counts:?}");
+        assert!(counts[0] >= least && counts[1] == 0, "{n}: {counts:?}");
     }
 }
 
