@@ -269,6 +269,11 @@ fn every_misfit_is_told() {
         misfit(classes, priorities, owners, &twice),
         "edge 2 of the reduced game, from class 0 to 1, is there already",
     );
+}
+
+#[test]
+fn a_vertex_without_moves_and_names() {
+    let told = |misfit: Misfit, text: &str| assert_eq!(misfit.to_string(), text);
     let dead = table(&[0, 0], &[0, 0], &[(0, 0)]);
     let none = make(&dead, &table(&[0], &[0], &[(0, 0)]), &[0, 0]).expect_err("no edge out");
     told(none, "vertex 1 has no edge out");

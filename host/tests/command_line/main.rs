@@ -5,6 +5,7 @@ mod common;
 #[path = "../../oracle/tests/games/mod.rs"]
 mod games;
 
+mod check_reduction;
 mod commands;
 mod drawings;
 mod errors;

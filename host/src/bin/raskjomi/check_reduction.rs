@@ -132,8 +132,14 @@ impl Files {
             98..=100 => &self.classes_name,
             _ => certificate.unwrap_or("the certificate that was made"),
         };
-        let remedy = match refusal.number {
-            102.. => "the certificate isn't one of this reduction, which may be right: leave --certificate out, so that one is made or the reason told",
+        let remedy = match (refusal.number, certificate) {
+            (102.., Some(_)) => {
+                "the certificate isn't one of this reduction, which may be right: leave --certificate out, so that one is made or the reason \
+                 told"
+            }
+            (101.., None) => {
+                "the fault is this program's, and the reduction may be right: tell its makers of the files"
+            }
             _ => refusal.explanation().remedy,
         };
         let place = self.place(refusal);
