@@ -19,10 +19,10 @@ const GAPS: &str = "% a game\nparity 9;\nstart 5;\n3 2 0 5,9 \"door, open\";\n5 
 
 #[test]
 fn ids_names_comments_and_a_start() {
-    let GameFile { words, vertices, start, even, in_pgsolver } = game(GAPS);
+    let GameFile { words, vertices, start, even, in_pgsolver, repeats } = game(GAPS);
     // The highest priority is 2, so a priority q becomes 2 - q; ids 3, 5 and 9 are vertices 0, 1 and 2.
     assert_eq!(words, [3, 4, 0, 1, 2, 0, 1, 0, 0, 0, 1, 2, 1, 2, 0, 2]);
-    assert_eq!((start, even, in_pgsolver), (Some(1), Some(2), true));
+    assert_eq!((start, even, in_pgsolver, repeats), (Some(1), Some(2), true, None));
     let labels = [0, 1, 2].map(|vertex| vertices.label(vertex));
     assert_eq!(labels, ["id 3 \"door, open\"", "id 5", "id 9 \"clos\u{e9}\""]);
     assert_eq!((vertices.named("clos\u{e9}"), vertices.named("x")), (Some(2), None));
@@ -52,9 +52,32 @@ fn ids_in_any_sequence() {
     assert!(!dense.vertices.has_gaps());
     let far = game("parity; 4000000000 0 0 7; 7 0 0 4000000000;");
     assert_eq!(&far.words[6..], [0, 1, 1, 0]);
-    let from_one = game("parity 2; 1 0 0 2; 2 0 0 1,1;");
-    assert_eq!(&from_one.words[6..], [0, 1, 1, 1, 0, 0]);
+    let from_one = game("parity 2; 1 0 0 2; 2 0 0 1,2;");
+    assert_eq!(&from_one.words[6..], [0, 1, 1, 1, 0, 1]);
     assert_eq!(from_one.vertices.label(1), "id 2");
+}
+
+#[test]
+fn a_successor_that_stands_twice_is_one_edge() {
+    let read = game("parity 2;\n1 0 0 2;\n2 0 0 1,1,2,1;\n");
+    assert_eq!((read.words[1], &read.words[6..]), (3, &[0, 1, 1, 1, 0, 1][..]));
+    let told = read.repeats.expect("two are").to_string();
+    assert_eq!(
+        told,
+        "line 3, id 2: a successor stands there twice, as 2 do in this file; each is read as one edge"
+    );
+    let all: String = (0..300).map(|id| format!("{},", id % 100)).collect();
+    let lines: String = (0..100).map(|id| format!("{id} 0 0 {all}{id};\n")).collect();
+    let read = game(&format!("parity 99;\n{lines}"));
+    assert_eq!(read.words[..2], [100, 10_000]);
+    assert_eq!(read.repeats.map(|repeats| repeats.count), Some(20_100));
+}
+
+#[test]
+fn copies_of_an_edge_are_written_once() {
+    let (mut text, words) = (Vec::new(), [2, 5, 0, 1, 0, 1, 0, 1, 0, 0, 0, 1, 1, 0, 1, 1]);
+    write_game(&mut text, &words, &Identifiers::numbers(2), true).expect("memory takes all");
+    assert_eq!(text, b"parity 1;\n0 0 0 1,0;\n1 1 1 1;\n");
 }
 
 /// Asserts how the message about a game begins.
@@ -294,6 +317,7 @@ fn a_large_game_comes_back() {
     let sorted = |words: Vec<u32>| {
         let mut edges: Vec<_> = LargeGame::new(words).expect("a game").edges().collect();
         edges.sort_unstable();
+        edges.dedup();
         edges
     };
     assert_eq!(read[..2 + 2 * n as usize], words[..2 + 2 * n as usize]);

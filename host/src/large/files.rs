@@ -61,7 +61,8 @@ pub fn read_game(
         decimal(&mut scanner, first, FORMATS)?
     };
     let vertices = Identifiers::numbers(words.first().copied().unwrap_or_default() as usize);
-    Ok(GameFile { words, vertices, start: None, even: None, in_pgsolver: false })
+    let (start, even, repeats) = (None, None, None);
+    Ok(GameFile { words, vertices, start, even, in_pgsolver: false, repeats })
 }
 
 /// Reads a solution of a game whose words [`LargeGame`](crate::LargeGame) accepts, with what its vertices are called. In PGSolver's format the

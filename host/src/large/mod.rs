@@ -48,6 +48,7 @@ mod reducer;
 mod reduction;
 #[cfg(test)]
 mod reduction_tests;
+mod repeats;
 mod saved;
 mod scan;
 mod solution;
@@ -66,6 +67,7 @@ pub use misfit::Misfit;
 pub use pgsolver::GameFile;
 pub use reduce::Unreduced;
 pub use reduction::{LargeReduction, Members};
+pub use repeats::Repeats;
 pub use saved::{SavedError, SavedKind};
 pub use scan::FileError;
 pub use solution::{Certificate, LargeSolution, Uncertified};

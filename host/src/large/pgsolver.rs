@@ -1,11 +1,12 @@
 //! Large games in PGSolver's format, `parity N; id priority owner successor,successor "name"; ..`.
 //!
 //! A file is read once, from its start to its end, so it may come through a pipe. Vertices are numbered by ascending id, and edges stand by
-//! source, then as the file lists them. A successor that a line lists twice makes two edges.
+//! source, then as the file lists them, each once.
 
 use super::degrees::Degrees;
 use super::identifiers::Identifiers;
 use super::lines::Lines;
+use super::repeats::{drop_repeats, Repeats};
 use super::scan::{FileError, Scanner, Token};
 use std::io::Read;
 
@@ -28,6 +29,8 @@ pub struct GameFile {
     pub even: Option<u64>,
     /// Whether the file is in PGSolver's format.
     pub in_pgsolver: bool,
+    /// The successors that stand in their lines a second time, in PGSolver's format.
+    pub repeats: Option<Repeats>,
 }
 
 /// A game as its lines come in.
@@ -41,6 +44,7 @@ struct Draft {
     targets: Vec<u32>,
     /// The id after `start`, and its line.
     start: Option<(u32, u64)>,
+    repeats: Option<Repeats>,
 }
 
 /// Reads a game whose first word was seen. Where the highest priority decides in the file, each priority q becomes M - q, with M the smallest
@@ -122,6 +126,8 @@ impl Draft {
         self.priorities.push(priority);
         let before = self.targets.len();
         self.successors(scanner, id)?;
+        let dropped = drop_repeats(&mut self.targets, before);
+        Repeats::add(&mut self.repeats, line, id.into(), dropped);
         if self.targets.len() > u32::MAX as usize {
             let what = "more edges than 32 bits can number";
             return Err(FileError::at(line, Some(id), what, "bring a part of the game"));
@@ -183,7 +189,8 @@ impl Draft {
         });
         let start = start.transpose()?;
         let vertices = std::mem::take(&mut self.vertices);
-        Ok(GameFile { words: self.words(), vertices, start, even, in_pgsolver: true })
+        let repeats = self.repeats.take();
+        Ok(GameFile { words: self.words(), vertices, start, even, in_pgsolver: true, repeats })
     }
 
     /// Turns the ids of all successors into vertices. The entries of the file stand in another sequence than the vertices, if one is given.

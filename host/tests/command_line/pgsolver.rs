@@ -178,7 +178,7 @@ fn bad(game: &str, status: i32, parts: &[&str]) {
 
 #[test]
 fn errors_have_line_id_and_remedy() {
-    let rows: [(&str, &str, &str); 17] = [
+    let rows: [(&str, &str, &str); 16] = [
         ("parity x;", "line 1: `x` instead of the highest id", "write `parity N;`"),
         ("parity 1\n0 0 0 0;", "line 2: `0` instead of a semicolon", "write `parity N;`"),
         (
@@ -217,11 +217,6 @@ fn errors_have_line_id_and_remedy() {
             "an id of its own",
         ),
         (
-            "parity 1;\n0 0 0 0,1,0;\n1 0 0 1;",
-            "line 2, id 0: successor 0 stands there twice",
-            "list it once",
-        ),
-        (
             "parity 1;\n0 0 0\n0,7;",
             "line 2, id 0: successor 7 is no vertex of the file",
             "add a line for 7",
@@ -258,17 +253,48 @@ fn refusals_have_line_and_id() {
 }
 
 #[test]
-fn what_the_format_cannot_say() {
+fn a_successor_that_stands_twice_is_one_edge() {
+    let game = b"parity 1;\n1 0 1 1;\n0 2 1 0,0,1;\n";
+    let told =
+        ["standard input: line 3, id 0: a successor stands there twice, and is read as one edge\n"];
+    let back = run_on(&["pgsolver"], game).fails(0, &told);
+    assert_eq!(back, "parity 1;\n0 2 1 0,1;\n1 0 1 1;\n");
+    let json = run_on(&["check", "--json"], game).fails(0, &told);
+    assert!(json.contains("\"different_edges\":3,\"edges\":3"), "{json}");
+    for reduce in [&["reduce", "-"][..], &["reduce", "-", "--classes=/dev/null"]] {
+        run_on(reduce, game).fails(0, &told);
+    }
+    let more = b"parity 1;\n0 2 1 0,0,1,1,0;\n1 0 1 1,0,1;\n";
+    let told = "line 2, id 0: a successor stands there twice, as 4 do in this file; each is read as one edge";
+    assert!(run_on(&["report"], more).fails(0, &[told]).starts_with("game 2 4\n"));
+    let solution = file("twice.sol", b"paritysol 1; 0 0; 1 0;");
+    let right = run_on(&["check-solution", "-", &solution, "--json"], more).fails(0, &[told]);
+    assert!(right.contains("\"edges\":4,"), "{right}");
+}
+
+#[test]
+fn copies_of_an_edge_are_written_once() {
     let copies = file("copies.txt", b"2 3 / 0 0 / 0 0\n0 0 1\n1 1 0");
-    let parts = [
-        "copies.txt: line 2, word 2: a second copy of the edge from 0 to 1, ",
-        "; write each edge once",
-    ];
-    assert_eq!(run(&["pgsolver", &copies]).fails(2, &parts), "");
-    run(&["edit", &copies, "--add=0:0", "--as=pgsolver"]).fails(2, &parts);
-    run(&["seed", "1", "3", "2", "4", "--as=pgsolver"])
-        .fails(2, &["game of seed 1: ", "; write each"]);
-    assert!(run(&["reduce", &copies, "--as=pgsolver"]).text().starts_with("parity 0;\n"));
+    let once = "parity 1;\n0 0 0 1;\n1 0 0 0;\n";
+    assert_eq!(run(&["pgsolver", &copies]).text(), once);
+    assert_eq!(run(&["convert", &copies, "--as=pgsolver"]).text(), once);
+    let edited = run(&["edit", &copies, "--add=0:0", "--as=pgsolver"]).text();
+    assert_eq!(edited, "parity 1;\n0 0 0 1,0;\n1 0 0 0;\n");
+    let trace = file("copies-trace.txt", b"1 / 1 / 1");
+    let replayed = run(&["replay", &copies, &trace, "--as=pgsolver"]).text();
+    assert_eq!(replayed, "parity 1;\n0 0 0 1;\n1 0 0 0,1;\n");
+    for seed in 1..=20 {
+        let line = ["seed", &seed.to_string(), "20", "3", "4"];
+        let drawn = run(&[&line[..], &["--as=pgsolver"]].concat()).text();
+        let words = run(&[&line[..], &["--as=words"]].concat()).bytes();
+        let [drawn, words] =
+            [drawn.as_bytes(), &words].map(|game| run_on(&["report"], game).text());
+        assert_eq!(drawn, words, "{seed}");
+    }
+}
+
+#[test]
+fn what_the_format_cannot_say() {
     let large = b"2 2 / 65535 0 / 0 0 / 0 1 / 1 0";
     let parts = ["vertex 1, for PGSolver's format: refused 36 at 3: ", "; or write --lowest"];
     assert_eq!(run_on(&["pgsolver"], large).fails(1, &parts), "");

@@ -249,7 +249,7 @@ fn table(
     }
     let comments = text::class_comments(&merged.classes, vertices);
     let vertices = &game.class_vertices(&merged.classes);
-    let output = Output { title, table, vertices, origin: Some(&game.input) };
+    let output = Output { title, table, vertices };
     let mut written = output.written(arguments.has("--as").then_some(form), arguments)?;
     if with_classes {
         written.extend(comments.bytes());
@@ -463,7 +463,7 @@ pub fn edit(arguments: &Arguments) -> Written {
         return Ok(text::changes(&game.classes()?, &after.classes, vertices).into());
     }
     let (table, title) = (after.table(), format!("after {}", told(&edits)));
-    Output { title, table, vertices, origin: Some(&game.input) }.written(form, arguments)
+    Output { title, table, vertices }.written(form, arguments)
 }
 
 /// The ends that `--add` and `--remove` name, as they are written.
@@ -508,8 +508,7 @@ pub fn replay(arguments: &Arguments) -> Written {
     }
     let entries = trace.numbers[0];
     let title = format!("after {entries} entries of a trace");
-    Output { title, table: after.table(), vertices, origin: Some(&game.input) }
-        .written(form, arguments)
+    Output { title, table: after.table(), vertices }.written(form, arguments)
 }
 
 /// How many edges come and go.
@@ -528,7 +527,7 @@ pub fn seed(arguments: &Arguments) -> Written {
         .map_err(|refusal| seed_refused(refusal, numbers))?;
     let title =
         format!("game of seed {seed}: vertices {n}, degree {degree}, priorities {priorities}");
-    Output { title, table: Table::new(&words), vertices: &Vertices::default(), origin: None }
+    Output { title, table: Table::new(&words), vertices: &Vertices::default() }
         .written(form, arguments)
 }
 
@@ -552,23 +551,21 @@ pub fn convert(arguments: &Arguments) -> Written {
     let form = Some(form_given(arguments, "convert")?.unwrap_or(Form::Text));
     let game = Game::load(arguments.file(0))?;
     let (title, vertices) = ("converted".to_string(), &game.input.vertices);
-    let origin = Some(&game.input);
     if vertices.even().is_some() {
-        return Output { title, table: game.table(), vertices, origin }.written(form, arguments);
+        return Output { title, table: game.table(), vertices }.written(form, arguments);
     }
     let words = game.converted()?;
     let table = Table::new(&words);
     let even = u32::from(game.table().priorities()[0]) + u32::from(table.priorities()[0]);
     let title = format!("{title}: the lowest priority decides; a priority p was {even} - p before");
-    Output { title, table, vertices, origin }.written(form, arguments)
+    Output { title, table, vertices }.written(form, arguments)
 }
 
 /// `pgsolver`.
 pub fn pgsolver(arguments: &Arguments) -> Written {
     let game = Game::load(arguments.file(0))?;
     let (title, vertices) = (game.input.name.clone(), &game.input.vertices);
-    Output { title, table: game.table(), vertices, origin: Some(&game.input) }
-        .written(Some(Form::Pgsolver), arguments)
+    Output { title, table: game.table(), vertices }.written(Some(Form::Pgsolver), arguments)
 }
 
 /// `explain`.

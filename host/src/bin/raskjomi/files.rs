@@ -17,8 +17,8 @@ Command {
     usage: "pgsolver [GAME]",
     summary: "the game in PGSolver's format, for tools where the highest priority decides",
     details: "Priorities go through the conversion of `convert`; with --lowest they stay as they are. Ids \
-              and names are those of the file, or the vertices' numbers. A game that has two copies of \
-              an edge can't be written. `quotient`, `reduce`, `edit`, `replay`, `seed` and `convert` \
+              and names are those of the file, or the vertices' numbers. Copies of an edge are \
+              written once. `quotient`, `reduce`, `edit`, `replay`, `seed` and `convert` \
               write the format with --as pgsolver.",
     example: "./raskjomi pgsolver games/c.txt | ./raskjomi reduce",
     files: 0..=1,

@@ -6,7 +6,7 @@ use crate::locate::game_refused;
 use crate::solution::SOLUTION;
 use crate::source::{Encoding, Source};
 use crate::vertices::Vertices;
-use crate::{pgsolver, scanner};
+use crate::{pgsolver, scanner, tell};
 use std::io::{self, Read};
 use std::str::FromStr;
 
@@ -313,6 +313,9 @@ fn from_pgsolver(name: String, text: &str, lowest: bool) -> Result<Input, Failur
             "{name}: {problem} (it is read in PGSolver's format, as its first word is `parity`)"
         ))
     })?;
+    if let Some(repeats) = &parsed.repeats {
+        tell(&format!("{name}: {repeats}"));
+    }
     let (numbers, vertices, places) =
         (parsed.words, parsed.vertices, Places::Pgsolver(parsed.places));
     let mut input = Input { name, numbers, vertices, unit: Unit::Word, places };

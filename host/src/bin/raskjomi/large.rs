@@ -65,6 +65,9 @@ impl Loaded {
                 "{name}: its names take too much memory, so vertices are called by their ids"
             ));
         }
+        if let Some(repeats) = &read.repeats {
+            tell(&format!("{name}: {repeats}"));
+        }
         let game = LargeGame::new(read.words).map_err(|refusal| game_refused(refusal, &name))?;
         let GameFile { vertices, start, even, in_pgsolver, .. } = read;
         Ok(Loaded { name, game, vertices, start, even, in_pgsolver })

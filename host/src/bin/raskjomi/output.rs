@@ -2,8 +2,7 @@
 
 use crate::arguments::{Arguments, Form};
 use crate::failure::Failure;
-use crate::input::Input;
-use crate::pgsolver::{self, Unwritten};
+use crate::pgsolver;
 use crate::table::Table;
 use crate::text;
 use crate::vertices::Vertices;
@@ -14,8 +13,6 @@ pub struct Output<'a> {
     pub title: String,
     pub table: Table<'a>,
     pub vertices: &'a Vertices,
-    /// The game that it comes from, unless it is drawn.
-    pub origin: Option<&'a Input>,
 }
 
 /// The form that `--as` names, if it names one, for commands that draw no picture.
@@ -53,36 +50,11 @@ impl Output<'_> {
 
     fn pgsolver(&self, lowest: bool) -> Result<Vec<u8>, Failure> {
         let written = pgsolver::write(&self.table, self.vertices, lowest);
-        written.map(Vec::from).map_err(|unwritten| match unwritten {
-            Unwritten::Copies(edge) => self.copied(edge),
-            Unwritten::Refused(refusal) => {
-                let vertex = self.vertices.label(refusal.place - 2);
-                let remedy = refusal.explanation().remedy;
-                let place = format!("{}: vertex {vertex}, for PGSolver's format", self.title);
-                Failure::refused(
-                    refusal,
-                    format!("{place}: {refusal}; {remedy}; or write --lowest"),
-                )
-            }
+        written.map(Vec::from).map_err(|refusal| {
+            let vertex = self.vertices.label(refusal.place - 2);
+            let remedy = refusal.explanation().remedy;
+            let place = format!("{}: vertex {vertex}, for PGSolver's format", self.title);
+            Failure::refused(refusal, format!("{place}: {refusal}; {remedy}; or write --lowest"))
         })
-    }
-
-    /// The edge with this index has an earlier copy; a copy comes from the game itself.
-    fn copied(&self, edge: usize) -> Failure {
-        let ends = |table: &Table, edge: usize| (table.ends().0[edge], table.ends().1[edge]);
-        let (source, target) = ends(&self.table, edge);
-        let place = match self.origin {
-            Some(origin) => {
-                let table = Table::new(&origin.numbers);
-                let last = (0..table.m()).rfind(|&other| ends(&table, other) == (source, target));
-                origin.at(2 + 2 * table.n() + last.unwrap_or(0), "")
-            }
-            None => self.title.clone(),
-        };
-        let [source, target] = [source, target].map(|end| self.vertices.label(end as usize));
-        Failure::usage(format!(
-            "{place}: a second copy of the edge from {source} to {target}, which PGSolver's format can't \
-             say; write each edge once, or write the reduced game, which has each edge once"
-        ))
     }
 }

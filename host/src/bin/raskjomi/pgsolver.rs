@@ -4,6 +4,7 @@ use crate::check_solution::LARGER;
 use crate::scanner::{Problem, Scanner, Token};
 use crate::table::Table;
 use crate::vertices::Vertices;
+use raskjomi::large::Repeats;
 use raskjomi::Refusal;
 use std::collections::{HashMap, HashSet};
 use std::fmt::Write;
@@ -27,20 +28,24 @@ pub struct Parsed {
     pub words: Vec<u16>,
     pub places: Vec<(usize, Option<u64>)>,
     pub vertices: Vertices,
+    /// The successors that stand in their lines a second time.
+    pub repeats: Option<Repeats>,
 }
 
-/// Reads a game. Vertices are numbered by ascending id, and edges stand as the file lists them.
+/// Reads a game. Vertices are numbered by ascending id, and edges stand as the file lists them, each once.
 pub fn parse(text: &str) -> Result<Parsed, Problem> {
     let mut scanner = Scanner::new(text);
     let (line, most) = header(&mut scanner)?;
     let mut vertices: Vec<Vertex> = Vec::new();
     let mut lines = HashMap::new();
+    let mut repeats = None;
     while let Some((line, token)) = scanner.next()? {
         if token == Token::Word("start".into()) {
             start(&mut scanner)?;
             continue;
         }
-        let vertex = vertex(&mut scanner, line, token)?;
+        let mut vertex = vertex(&mut scanner, line, token)?;
+        Repeats::add(&mut repeats, line as u64, vertex.id, vertex.drop_repeats());
         let problem = |what, remedy| Err(Problem::at(line, Some(vertex.id), what, remedy));
         if most.is_some_and(|most| vertex.id > most) {
             return problem(
@@ -56,7 +61,16 @@ pub fn parse(text: &str) -> Result<Parsed, Problem> {
         }
         vertices.push(vertex);
     }
-    laid_out(line, vertices)
+    Ok(Parsed { repeats, ..laid_out(line, vertices)? })
+}
+
+impl Vertex {
+    /// Leaves each successor where it stands first; returns how many were taken off.
+    fn drop_repeats(&mut self) -> usize {
+        let (listed, mut seen) = (self.successors.len(), HashSet::new());
+        self.successors.retain(|&successor| seen.insert(successor));
+        listed - self.successors.len()
+    }
 }
 
 /// `parity N;`, where N, the highest id, may be missing: its line, and N.
@@ -110,17 +124,7 @@ fn successors(
 ) -> Result<(Vec<u64>, Option<String>), Problem> {
     let mut successors: Vec<u64> = Vec::new();
     let mut next = scanner.next()?;
-    while let Some((at, Token::Number(successor))) = next {
-        if successors.contains(&successor) {
-            return Err(Problem::at(
-                at,
-                Some(id),
-                format!(
-                    "successor {successor} stands there twice, and an edge can't have two copies"
-                ),
-                "list it once".into(),
-            ));
-        }
+    while let Some((_, Token::Number(successor))) = next {
         successors.push(successor);
         next = scanner.next()?;
         if let Some((at, Token::Comma)) = next {
@@ -165,6 +169,7 @@ fn laid_out(header: usize, mut vertices: Vec<Vertex>) -> Result<Parsed, Problem>
             vertices.iter().map(|vertex| vertex.id).collect(),
             vertices.into_iter().map(|vertex| vertex.name).collect(),
         ),
+        repeats: None,
     })
 }
 
@@ -201,25 +206,12 @@ fn ends(vertices: &[Vertex]) -> Result<Vec<(u16, u16)>, Problem> {
     Ok(ends)
 }
 
-/// Why a table can't be written.
-pub enum Unwritten {
-    /// Two copies of an edge, which has this index.
-    Copies(usize),
-    /// The conversion refuses it.
-    Refused(Refusal),
-}
-
-/// A table where the lowest priority decides, in PGSolver's format; through the conversion, as its
-/// readers let the highest decide, unless they are told to let the lowest.
-pub fn write(table: &Table, vertices: &Vertices, lowest: bool) -> Result<String, Unwritten> {
-    let mut seen = HashSet::new();
-    let (sources, targets) = table.ends();
-    if let Some(copy) = sources.iter().zip(targets).position(|edge| !seen.insert(edge)) {
-        return Err(Unwritten::Copies(copy));
-    }
+/// A table where the lowest priority decides, in PGSolver's format, each edge once; through the conversion,
+/// as its readers let the highest decide, unless they are told to let the lowest.
+pub fn write(table: &Table, vertices: &Vertices, lowest: bool) -> Result<String, Refusal> {
     let mut words = table.words().to_vec();
     if !lowest {
-        raskjomi::convert(table.words(), &mut words).map_err(Unwritten::Refused)?;
+        raskjomi::convert(table.words(), &mut words)?;
     }
     let priorities = Table::new(&words).priorities();
     let mut successors = vec![Vec::new(); table.n()];
