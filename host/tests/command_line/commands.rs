@@ -434,35 +434,35 @@ fn carried_plans_from_standard_input() {
 fn verdicts() {
     let say = |vertex: &str, player: &str| {
         let line = ["verdict", "games/d.txt", "games/c.plan.txt", "--vertex", vertex];
-        run(&[&line[..], &["--player", player]].concat()).text()
+        run(&[&line[..], &["--player", player]].concat())
     };
     for vertex in ["0", "5"] {
         let sentence = format!(
             "wins: Even wins at vertex {vertex}, as the plan wins for Even from class 0 of the reduced game, \
              which is the class of vertex {vertex}.\n"
         );
-        assert_eq!(say(vertex, "even"), sentence);
+        assert_eq!(say(vertex, "even").text(), sentence);
     }
     let sentence = "not shown: the plan wins for Even from class 0 of the reduced game, but vertex 2 is in class 2. \
                     This doesn't mean that Even loses at vertex 2, or that the other player wins there: a plan \
                     that starts at class 2 may still show either.\n";
-    assert_eq!(say("2", "even"), sentence);
+    assert_eq!(say("2", "even").not_shown(), sentence);
     let line =
         ["verdict", "games/d.txt", "games/c.plan.txt", "--json", "--player=even", "--vertex"];
-    let json = |vertex| run(&[&line[..], &[vertex]].concat()).text();
+    let json = |vertex| run(&[&line[..], &[vertex]].concat());
     let told = "{\"accepted\":true,\"shown\":true,\"player\":\"Even\",\
                 \"at\":{\"vertex\":5,\"id\":5,\"name\":null,\"class\":0},\"plan_starts_at_class\":0}\n";
-    assert_eq!(json("5"), told);
-    assert!(json("2").starts_with("{\"accepted\":true,\"shown\":false,"));
+    assert_eq!(json("5").text(), told);
+    assert!(json("2").not_shown().starts_with("{\"accepted\":true,\"shown\":false,"));
     // Odd's plan from class 1, which is below class 2; either input may be standard input.
     let odd = b"2 2 / 1 3 / 0 1 / 1 1";
     let line = ["verdict", "games/c.txt", "-", "--player=odd", "--vertex"];
-    let by_odd = |vertex| run_on(&[&line[..], &[vertex]].concat(), odd).text();
-    assert!(by_odd("1").starts_with("wins: Odd wins at vertex 1, as the plan wins "));
-    assert!(by_odd("2").starts_with("not shown: "));
+    let by_odd = |vertex| run_on(&[&line[..], &[vertex]].concat(), odd);
+    assert!(by_odd("1").text().starts_with("wins: Odd wins at vertex 1, as the plan wins "));
+    assert!(by_odd("2").not_shown().starts_with("not shown: "));
     let game = bytes(&shipped("d.txt"));
     let line = ["verdict", "-", "games/c.plan.txt", "--player=even", "--vertex=5"];
-    assert_eq!(run_on(&line, &game).text(), say("5", "even"));
+    assert_eq!(run_on(&line, &game).text(), say("5", "even").text());
 }
 
 /// The shipped plan shows that the controller wins at every closed door, and at no other vertex.
@@ -472,8 +472,11 @@ fn shipped_plan_on_the_reduced_game() {
         let (game, plan) = (path("lift-doors.txt"), path("lift-doors.reduced-plan.txt"));
         let vertex_word = vertex.to_string();
         let line = ["verdict", &game, &plan, "--player=even", "--vertex", &vertex_word];
-        let start = if vertex % 7 == 0 { "wins: " } else { "not shown: " };
-        assert!(run(&line).text().starts_with(start), "{vertex}");
+        let ran = run(&line);
+        match vertex % 7 {
+            0 => assert!(ran.text().starts_with("wins: "), "{vertex}"),
+            _ => assert!(ran.not_shown().starts_with("not shown: "), "{vertex}"),
+        }
     }
 }
 

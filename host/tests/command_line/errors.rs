@@ -74,7 +74,7 @@ fn plans_to_carry() {
     with(&["--vertex=5"], &["no player; write --player even"]);
     with(&["--vertex=5", "--player=both"], &["no player `both`"]);
     for word in ["x", "", "-1", "+1", "4294967296"] {
-        let parts = [&*format!("no vertex `{word}`"), "count from 0"];
+        let parts = [&*format!("no vertex `{word}`"), "a number from 0 to 5"];
         with(&["--player=even", "--vertex", word], &parts);
     }
     with(&["--player=even", "--vertex=5", "--as=dot"], &["carry: no form `dot`", "--as words\n"]);
@@ -97,7 +97,10 @@ fn verdicts() {
     );
     with(&["--vertex=5"], &["no player; write --player even"]);
     with(&["--vertex=5", "--player=2"], &["no player `2`"]);
-    with(&["--player=even", "--vertex=4294967296"], &["no vertex `4294967296`", "count from 0"]);
+    with(
+        &["--player=even", "--vertex=4294967296"],
+        &["no vertex `4294967296`", "a number from 0 to 5"],
+    );
     with(&["--player=even", "--vertex=5", "--as=words"], &["verdict: no option --as"]);
     with(&["more"], &["arguments: 3 instead of 2", "usage: raskjomi verdict GAME PLAN --vertex V"]);
     bad(&["verdict", "-", "-", "--player=odd", "--vertex=0"], &["both inputs", "name a file"]);

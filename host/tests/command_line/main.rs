@@ -19,4 +19,5 @@ mod questions;
 mod refusals;
 mod run;
 mod solutions;
+mod statuses;
 mod workflow;

@@ -26,6 +26,12 @@ impl Run {
         self.out
     }
 
+    /// Standard output as text, of a verdict that leaves open who wins.
+    pub fn not_shown(self) -> String {
+        assert_eq!((self.status, self.err.as_str()), (4, ""));
+        String::from_utf8(self.out).expect("text")
+    }
+
     /// Checks the status, and that the message has each part; gives standard output.
     pub fn fails(self, status: i32, parts: &[&str]) -> String {
         assert_eq!(self.status, status, "{self:?}");

@@ -18,7 +18,7 @@ use crate::table::Table;
 use crate::vertices::Vertices;
 use crate::{reduced, suggest, tell, text};
 use raskjomi::{Kind, Refusal, Verdict};
-use std::ffi::OsString;
+use std::ffi::{OsStr, OsString};
 use std::fs;
 
 /// What a command writes to standard output, or how it fails.
@@ -42,16 +42,32 @@ pub fn run(words: &[OsString]) -> Written {
         return Ok(help::of(command).into());
     }
     let arguments = Arguments::parse(command, rest)?;
-    let output = (command.run)(&arguments).map_err(|failure| match arguments.has("--json") {
+    let written = (command.run)(&arguments).map_err(|failure| match arguments.has("--json") {
         true => failure.with_json(),
         false => failure,
-    })?;
-    let Some(path) = arguments.output() else { return Ok(output) };
-    fs::write(path, output).map_err(|error| {
-        let (path, error) = (path.to_string_lossy(), plain_error(&error));
-        Failure::usage(format!("{path}: {error}; name a file that can be written after -o"))
-    })?;
-    Ok(Vec::new())
+    });
+    match arguments.output() {
+        Some(path) => to_file(path, written),
+        None => written,
+    }
+}
+
+/// Writes to a file what a command answers.
+fn to_file(path: &OsStr, written: Written) -> Written {
+    let write = |output: &[u8]| {
+        fs::write(path, output).map_err(|error| {
+            let (path, error) = (path.to_string_lossy(), plain_error(&error));
+            Failure::usage(format!("{path}: {error}; name a file that can be written after -o"))
+        })
+    };
+    match written {
+        Ok(output) => write(&output).map(|()| Vec::new()),
+        Err(mut failure) if failure.is_answer() => {
+            write(std::mem::take(&mut failure.output).as_bytes())?;
+            Err(failure)
+        }
+        failed => failed,
+    }
 }
 
 fn named(name: &str) -> Result<&'static Command, Failure> {
@@ -356,7 +372,7 @@ pub fn carry(arguments: &Arguments) -> Written {
     let as_words = as_words(arguments, "carry")?;
     let (game, plan) = two_inputs(arguments)?;
     let game = Game::of(game)?;
-    let vertex = vertex_to(vertex, &game.input.vertices)?;
+    let vertex = game.vertex(vertex, "--vertex")? as u32;
     let class = arguments.has("--class");
     let write = if class { Game::carry_class } else { Game::carry };
     let words = write(&game, player, &plan.numbers, vertex)
@@ -378,7 +394,7 @@ pub fn verdict(arguments: &Arguments) -> Written {
     let (player, vertex) = (arguments.player()?, vertex_given(arguments, "the verdict is about")?);
     let (game, plan) = two_inputs(arguments)?;
     let game = Game::of(game).map_err(Failure::with_verdict)?;
-    let vertex = vertex_to(vertex, &game.input.vertices)?;
+    let vertex = game.vertex(vertex, "--vertex")? as u32;
     let (verdict, classes) = game.verdict(vertex, player, &plan.numbers);
     if let Verdict::Refused(refusal) = verdict {
         return Err(carry_refused(refusal, &game, &plan, vertex, true).with_verdict());
@@ -393,11 +409,11 @@ pub fn verdict(arguments: &Arguments) -> Written {
             ("at", vertex_value(&game, v, class)),
             ("plan_starts_at_class", Value::Number(start.into())),
         ]);
-        return Ok(format!("{value}\n").into());
+        return answer(shown, format!("{value}\n"));
     }
     let v = game.input.vertices.label(v);
     let passes = format!("the plan wins for {name} from class {start} of the reduced game");
-    Ok(match shown {
+    let sentence = match shown {
         true => format!(
             "wins: {name} wins at vertex {v}, as {passes}, which is the class of vertex {v}.\n"
         ),
@@ -406,27 +422,22 @@ pub fn verdict(arguments: &Arguments) -> Written {
              vertex {v}, or that the other player wins there: a plan that starts at class {class} may \
              still show either.\n"
         ),
+    };
+    answer(shown, sentence)
+}
+
+/// What is said of what is shown, or isn't.
+fn answer(shown: bool, output: String) -> Written {
+    match shown {
+        true => Ok(output.into()),
+        false => Err(Failure::not_shown(output)),
     }
-    .into())
 }
 
 /// The word of `--vertex`, for what it is used.
 pub fn vertex_given<'a>(arguments: &'a Arguments, use_of_it: &str) -> Result<&'a str, Failure> {
     arguments.value("--vertex").ok_or_else(|| {
         Failure::usage(format!("no vertex; write --vertex with the vertex that {use_of_it}"))
-    })
-}
-
-/// The vertex that a word means; whether the game has that number, the library judges.
-fn vertex_to(word: &str, vertices: &Vertices) -> Result<u32, Failure> {
-    let found = vertices.find(word).and_then(|vertex| u32::try_from(vertex).ok());
-    found.ok_or_else(|| {
-        let what = if vertices.of_pgsolver() {
-            "an id or a name of the game"
-        } else {
-            "a number, as vertices count from 0"
-        };
-        Failure::usage(format!("no vertex `{word}`; write --vertex with {what}"))
     })
 }
 
@@ -449,7 +460,7 @@ pub fn edit(arguments: &Arguments) -> Written {
     let form = form_given(arguments, "edit")?;
     ends_given(arguments)?;
     let game = Game::load(arguments.file(0))?;
-    let (edits, vertices) = (edits(arguments, &game.input.vertices)?, &game.input.vertices);
+    let (edits, vertices) = (edits(arguments, &game)?, &game.input.vertices);
     let preview = arguments.has("--preview");
     let after = if preview { game.previewed(&edits) } else { game.edited(&edits) };
     let after = after.map_err(|(i, refusal)| {
@@ -474,24 +485,28 @@ fn ends_given(arguments: &Arguments) -> Result<Vec<(&str, &str)>, Failure> {
     }
     let ends = given
         .iter()
-        .map(|(option, edge)| edge.split_once(':').ok_or_else(|| no_edge(option, edge)));
+        .map(|(option, edge)| edge.split_once(':').ok_or_else(|| no_edge(option, edge, "")));
     ends.collect()
 }
 
-/// The edits; whether the game can have them, the library judges.
-fn edits(arguments: &Arguments, vertices: &Vertices) -> Result<Vec<Edit>, Failure> {
-    let find = |word| vertices.find(word).and_then(|vertex| u32::try_from(vertex).ok());
+/// The edits, between vertices of the game; whether it can have them, the library judges.
+fn edits(arguments: &Arguments, game: &Game) -> Result<Vec<Edit>, Failure> {
+    let (vertices, count) = (&game.input.vertices, game.size.vertices);
+    let find = |word| vertices.find(word).filter(|&vertex| vertex < count).map(|v| v as u32);
+    let range = format!("; {}", vertices.range(count));
     let edits = ends_given(arguments)?.into_iter().zip(arguments.repeated());
     let edits = edits.map(|((source, target), (option, edge))| {
         let ends = find(source).zip(find(target));
-        let (source, target) = ends.ok_or_else(|| no_edge(option, edge))?;
+        let (source, target) = ends.ok_or_else(|| no_edge(option, edge, &range))?;
         Ok(Edit { add: option == "--add", source, target })
     });
     edits.collect()
 }
 
-fn no_edge(option: &str, edge: &str) -> Failure {
-    Failure::usage(format!("edit: {option}: no edge `{edge}`; write two vertices, as {option} 0:2"))
+fn no_edge(option: &str, edge: &str, range: &str) -> Failure {
+    Failure::usage(format!(
+        "edit: {option}: no edge `{edge}`; write two vertices, as {option} 0:2{range}"
+    ))
 }
 
 /// `replay`.

@@ -12,6 +12,15 @@ pub struct Failure {
     refusal: Option<Refusal>,
 }
 
+/// What each exit status says, of all commands.
+pub const STATUSES: [(u8, &str); 5] = [
+    (0, "done; accepted or right; of `verdict`: the player wins"),
+    (1, "refused or wrong: the inputs are read, and one isn't what is asked of it"),
+    (2, "bad usage, a file that can't be read or written, a bad word, a vertex that isn't there"),
+    (3, "of the script ./raskjomi alone: the program can't be built"),
+    (4, "not shown: `verdict` leaves open who wins"),
+];
+
 impl Failure {
     /// The command line or a file can't be used.
     pub fn usage(message: impl Into<String>) -> Failure {
@@ -26,6 +35,16 @@ impl Failure {
     /// Something is told, and something is wrong.
     pub fn told(output: String, message: String, status: u8) -> Failure {
         Failure { output, message, status, refusal: None }
+    }
+
+    /// An answer that leaves open what is asked.
+    pub fn not_shown(output: String) -> Failure {
+        Failure::told(output, String::new(), 4)
+    }
+
+    /// Whether the output is an answer, with nothing wrong.
+    pub fn is_answer(&self) -> bool {
+        self.message.is_empty()
     }
 
     /// The refusal's number and place in words, if it is a refusal.

@@ -1,7 +1,7 @@
 //! What each command takes, and its help.
 
 use crate::arguments::Arguments;
-use crate::failure::Failure;
+use crate::failure::{Failure, STATUSES};
 use crate::{check_reduction, check_solution, commands, files};
 use crate::{manual, options, questions, reduced, winners};
 use std::ops::RangeInclusive;
@@ -93,9 +93,6 @@ const GAMES: &str = "A game comes from a file, or from standard input, whose nam
                      several times: it counts as one edge of the game, but each time among the words. A \
                      game whose first word is `parity` is in PGSolver's format, in which the highest \
                      priority decides: it is read through `convert`, and written back through it.";
-
-/// What the exit status says.
-pub const STATUS: &str = "0 accepted, 1 refused, 2 bad usage, an unreadable file or a bad word.";
 
 /// How options are written.
 const OPTIONS: &str =
@@ -242,7 +239,7 @@ pub const COMMANDS: [Command; 16] = [
                   for the player and starts at the class of V, the player wins at V in GAME itself, \
                   and the output begins with `wins`. Where it starts at another class, the output \
                   begins with `not shown`, even if one of the classes is below the other: who wins at V \
-                  is then left open. A plan that doesn't win is refused, as `check-plan` does.",
+                  is then left open, and the exit status is 4. A plan that doesn't win is refused, as `check-plan` does.",
         example: "./raskjomi verdict games/lift-doors.txt games/lift-doors.reduced-plan.txt --vertex 7 --player even",
         files: 2..=2,
         options: &[
@@ -392,7 +389,10 @@ pub fn overview() -> String {
         text += &format!("  {:15} {}\n", command.name, command.summary);
     }
     text += "\n`raskjomi COMMAND --help` tells more, with an example.\n";
-    text += &format!("Exit status: {STATUS}\n");
+    text += "\nExit status, of all commands:\n";
+    for (status, meaning) in STATUSES {
+        text += &format!("{status}  {meaning}\n");
+    }
     [GAMES, OPTIONS, MORE].iter().fold(text, |text, part| text + "\n" + &wrapped(part))
 }
 

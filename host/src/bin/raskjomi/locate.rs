@@ -123,14 +123,11 @@ pub fn carry_refused(
     class: bool,
 ) -> Failure {
     let of = if class { " of the reduced game" } else { "" };
-    let (count, vertices) = (game.size.vertices, &game.input.vertices);
+    let vertices = &game.input.vertices;
     let reduced = class.then(|| game.reduced().ok()).flatten();
     let classes = reduced.as_ref().map(|reduced| game.class_vertices(&reduced.classes));
     let of_plan = classes.as_ref().unwrap_or(vertices);
     let place = match refusal.number {
-        33 if vertex as usize >= count => {
-            format!("{}: vertex {vertex} ({})", game.input.name, vertices.range(count))
-        }
         33 => {
             let start = of_plan.label(plan.numbers[2].into());
             let start = plan.at(2, &format!("the plan starts at vertex {start}{of}"));

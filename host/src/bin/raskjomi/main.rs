@@ -1,4 +1,4 @@
-//! The command line over the library. Exit status 0: accepted; 1: refused; 2: bad usage.
+//! The command line over the library.
 #![forbid(unsafe_code)]
 
 mod analysis;
@@ -43,15 +43,15 @@ use std::process::ExitCode;
 fn main() -> ExitCode {
     let words: Vec<OsString> = env::args_os().skip(1).collect();
     let (output, message, status) = match commands::run(&words) {
-        Ok(output) => (output, None, 0),
-        Err(failure) => (failure.output.into(), Some(failure.message), failure.status),
+        Ok(output) => (output, String::new(), 0),
+        Err(failure) => (failure.output.into(), failure.message, failure.status),
     };
     if let Err(error) = print(&output) {
         let error = source::plain_error(&error);
         tell(&format!("standard output: {error}; write it where there is room"));
         return ExitCode::from(2);
     }
-    if let Some(message) = message {
+    if !message.is_empty() {
         tell(&message);
     }
     ExitCode::from(status)

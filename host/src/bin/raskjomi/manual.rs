@@ -2,6 +2,7 @@
 
 use crate::arguments::Arguments;
 use crate::commands::Written;
+use crate::failure::STATUSES;
 use crate::help::{self, Command};
 use crate::options;
 
@@ -48,7 +49,10 @@ fn man(_: &Arguments) -> Written {
         commands += &format!(".PP\nExample:\n.PP\n.nf\n{}\n.fi\n", roff(command.example));
     }
     page += &format!(".SH COMMANDS\n{commands}");
-    page += &format!(".SH EXIT STATUS\n{}\n", roff(help::STATUS));
+    page += ".SH EXIT STATUS\n";
+    for (status, meaning) in STATUSES {
+        page += &format!(".TP\n\\fB{status}\\fR\n{}\n", roff(meaning));
+    }
     Ok(page.into())
 }
 
