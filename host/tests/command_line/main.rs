@@ -13,6 +13,7 @@ mod habits;
 mod inputs;
 mod large;
 mod large_reductions;
+mod options;
 mod outputs;
 mod pgsolver;
 mod questions;

@@ -44,10 +44,19 @@ impl Arguments {
                 _ => arguments.files.push(word.clone()),
             }
         }
-        if arguments.has("--text") && arguments.has("--binary") {
-            return Err(bad(command, "--text and --binary exclude each other".into()));
+        arguments.fit(command)?;
+        Ok(arguments)
+    }
+
+    /// Whether the command uses all of them: no option excludes another one, and the arguments are as many as it takes.
+    fn fit(&self, command: &Command) -> Result<(), Failure> {
+        for mut options in options::apart(command) {
+            options.retain(|option| self.has(option));
+            if let [one, other, ..] = options[..] {
+                return Err(bad(command, format!("{one} and {other} exclude each other")));
+            }
         }
-        let count = arguments.files.len();
+        let count = self.files.len();
         if !command.files.contains(&count) {
             let wanted = match (command.files.start(), command.files.end()) {
                 (least, most) if least == most => format!("{least}"),
@@ -55,7 +64,7 @@ impl Arguments {
             };
             return Err(bad(command, format!("number of arguments: {count} instead of {wanted}")));
         }
-        Ok(arguments)
+        Ok(())
     }
 
     /// Adds `--name value` or `--name=value`; the value may be the next of the words.

@@ -47,7 +47,7 @@ struct Files {
 
 /// `check-reduction`.
 fn check_reduction(arguments: &Arguments) -> Written {
-    let (from, to) = certificate_files(arguments)?;
+    let (from, to) = certificate_files(arguments);
     let sources = [0, 1, 2].map(|index| arguments.file(index));
     one_standard(&with_certificate(&sources, from))?;
     let files = Files::load(sources)?;

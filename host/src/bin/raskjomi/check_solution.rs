@@ -50,7 +50,7 @@ pub const COMMANDS: [Command; 1] = [Command {
 
 /// `check-solution`.
 fn check_solution(arguments: &Arguments) -> Written {
-    let (from, to) = certificate_files(arguments)?;
+    let (from, to) = certificate_files(arguments);
     let sources = [arguments.file(0), arguments.file(1)];
     one_standard(&with_certificate(&sources, from))?;
     let solved = Solved::load(Loaded::load(sources[0])?, sources[1])?;
@@ -70,13 +70,8 @@ fn check_solution(arguments: &Arguments) -> Written {
 }
 
 /// The files that a certificate is to come from or to go to.
-pub fn certificate_files(arguments: &Arguments) -> Result<(Option<&str>, Option<&str>), Failure> {
-    match (arguments.value("--certificate"), arguments.value("--save-certificate")) {
-        (Some(_), Some(_)) => Err(Failure::usage(
-            "--certificate and --save-certificate exclude each other: what is read is there already",
-        )),
-        files => Ok(files),
-    }
+pub fn certificate_files(arguments: &Arguments) -> (Option<&str>, Option<&str>) {
+    (arguments.value("--certificate"), arguments.value("--save-certificate"))
 }
 
 /// All inputs, with that of a certificate if there is one.

@@ -256,12 +256,12 @@ fn table(
             "the classes are comments, for text alone; write --with-classes --as text, or see raskjomi merged",
         ));
     }
-    if form == Form::Dot {
-        return Ok(picture::merged(name, &merged, vertices, &game.reduced()?).into());
-    }
     if let Some(path) = arguments.value("--classes") {
         let classes: Vec<u32> = merged.classes.iter().map(|&class| class.into()).collect();
         reduced::save_classes(path, &classes)?;
+    }
+    if form == Form::Dot {
+        return Ok(picture::merged(name, &merged, vertices, &game.reduced()?).into());
     }
     let comments = text::class_comments(&merged.classes, vertices);
     let vertices = &game.class_vertices(&merged.classes);
@@ -535,6 +535,11 @@ fn told(edits: &[Edit]) -> String {
 /// `seed`.
 pub fn seed(arguments: &Arguments) -> Written {
     let form = form_given(arguments, "seed")?;
+    if arguments.has("--lowest") && form != Some(Form::Pgsolver) {
+        return Err(Failure::usage(
+            "seed: --lowest is for PGSolver's format alone; write --as pgsolver --lowest",
+        ));
+    }
     let numbers = seed_numbers(arguments)?;
     let [seed, n, degree, priorities] = numbers;
     let mut words = vec![0; raskjomi::MOST_TABLE_WORDS];

@@ -97,7 +97,7 @@ const GAMES: &str = "A game comes from a file, or from standard input, whose nam
 /// How options are written.
 const OPTIONS: &str =
     "Options and files may stand in any sequence, a value after a blank or after =; after \
-                       -- all words are files. `raskjomi --version` tells the version.";
+                       -- all words are files. Options between bars in a usage exclude each other. `raskjomi --version` tells the version.";
 
 /// Where to read on, and why a run can take long.
 const MORE: &str =
@@ -251,7 +251,7 @@ pub const COMMANDS: [Command; 16] = [
     },
     Command {
         name: "edit",
-        usage: "edit GAME --add V:W --remove V:W .. [--preview] [--classes] [--as text|words|pgsolver]",
+        usage: "edit GAME --add V:W --remove V:W .. [--preview | --classes | --as text|words|pgsolver]",
         summary: "the game after edges are added and removed, or what that does to its classes",
         details:
             "--add V:W adds the edge from V to W behind the others, --remove V:W removes every copy of \
@@ -275,7 +275,7 @@ pub const COMMANDS: [Command; 16] = [
     },
     Command {
         name: "replay",
-        usage: "replay GAME TRACE [--classes] [--as text|words|pgsolver]",
+        usage: "replay GAME TRACE [--classes | --as text|words|pgsolver]",
         summary: "the game after a recorded list of edits, or what that does to its classes",
         details: "A trace has its count, at most 4,096, then as many sources, then as many targets. Its \
                   entries are done in sequence: an edge that the game doesn't have is added behind \
@@ -320,7 +320,7 @@ pub const COMMANDS: [Command; 16] = [
     },
     Command {
         name: "seed",
-        usage: "seed SEED VERTICES DEGREE PRIORITIES [--as text|words|pgsolver]",
+        usage: "seed SEED VERTICES DEGREE PRIORITIES [--as text|words|pgsolver] [--lowest]",
         summary: "a game drawn by a seed, the same on every machine",
         details:
             "SEED is any number below 4,294,967,296. There are VERTICES vertices, 1 to 512, with \

@@ -9,6 +9,9 @@ const OF_GAMES: [Opt; 3] = [
     Opt { name: "--binary", value: None },
 ];
 
+/// Those that exclude each other, as a usage has it.
+const OF_GAMES_APART: &str = "[--text | --binary]";
+
 /// The options of every command.
 const OF_ALL: [Opt; 1] = [Opt { name: "-o", value: Some("a file") }];
 
@@ -16,6 +19,16 @@ const OF_ALL: [Opt; 1] = [Opt { name: "-o", value: Some("a file") }];
 pub fn of(command: &Command) -> impl Iterator<Item = &Opt> {
     let shared: &[Opt] = if command.takes_game() { &OF_GAMES } else { &[] };
     command.options.iter().chain(shared).chain(&OF_ALL)
+}
+
+/// The options of a command that exclude each other, in groups: its usage has bars between them, in one pair of brackets.
+pub fn apart(command: &Command) -> impl Iterator<Item = Vec<&'static str>> {
+    let parts =
+        [command.usage, OF_GAMES_APART].into_iter().flat_map(|usage| usage.split(['[', ']']));
+    parts.map(|part| {
+        let names = part.split(" | ").filter_map(|option| option.split(' ').next());
+        names.filter(|name| name.starts_with("--")).collect()
+    })
 }
 
 /// What an option of a command is for.
