@@ -148,10 +148,10 @@ fn inputs_that_are_standard_input() {
         words[index + 1] = "-";
         assert_eq!(run_on(&words, text.as_bytes()).text(), RIGHT);
     }
-    run(&["check-reduction", "-", &reduced.0, "-"]).fails(2, &["both inputs are standard input"]);
+    run(&["check-reduction", "-", &reduced.0, "-"]).fails(2, &["two inputs are standard input"]);
     run(&["check-reduction", "-", &reduced.0, &classes.0, "--certificate=-"])
-        .fails(2, &["both inputs are standard input"]);
-    run(&["winners", "-", "-"]).fails(2, &["both inputs are standard input"]);
+        .fails(2, &["two inputs are standard input"]);
+    run(&["winners", "-", "-"]).fails(2, &["two inputs are standard input"]);
     let solved = file("in.sol", b"paritysol 2; 0 0 2; 1 1 1; 2 0;");
     let text = run_on(&["winners", "-", &solved, "--large"], GAME.as_bytes()).text();
     assert!(

@@ -28,8 +28,36 @@ fn commands_and_options() {
     bad(&["convert", "games/c.txt", "--as", "dot"], &["no form `dot`", "raskjomi dot"]);
     bad(&["check-plan", "a", "b"], &["no player", "--player even"]);
     bad(&["check-plan", "a", "b", "--player", "2"], &["no player `2`", "--player odd"]);
-    bad(&["check-relation", "-", "-"], &["both inputs", "name a file"]);
-    bad(&["check-plan", "-", "-", "--player", "odd"], &["both inputs", "name a file"]);
+    bad(&["check-relation", "-", "-"], &["two inputs", "name a file"]);
+    bad(&["check-plan", "-", "-", "--player", "odd"], &["two inputs", "name a file"]);
+}
+
+/// Every command that has two inputs or more, with all of them standard input but for one.
+#[test]
+fn standard_input_twice() {
+    let lines: [&[&str]; 14] = [
+        &["check", "-", "-"],
+        &["check", "games/b.txt", "-", "games/c.txt", "-", "--json"],
+        &["replay", "-", "-"],
+        &["replay", "-", "-", "--classes"],
+        &["check-relation", "-", "-"],
+        &["check-plan", "-", "-", "--player=even"],
+        &["carry", "-", "-", "--player=even", "--vertex=0"],
+        &["verdict", "-", "-", "--player=even", "--vertex=0"],
+        &["governed", "check", "-", "-"],
+        &["plan", "-", "-", "--vertex=0"],
+        &["check-solution", "-", "-"],
+        &["check-solution", "games/c.txt", "-", "--certificate=-"],
+        &["check-reduction", "-", "games/c.txt", "-"],
+        &["winners", "-", "-"],
+    ];
+    for line in lines {
+        bad(line, &["two inputs are standard input; name a file for one of them; usage: "]);
+    }
+    // A vertex may be called by that name.
+    let game = b"parity 1;\n0 0 0 1 \"-\";\n1 0 0 0;\n";
+    let why = run_on(&["why", "-", "-", "1"], game).text();
+    assert!(why.starts_with("Vertex 0 \"-\" is below vertex 1. "), "{why}");
 }
 
 #[test]
@@ -44,7 +72,7 @@ fn governed_bisimulations() {
     bad(&["governed", "order", "games/c.txt", "--as=svg"], &["no form `svg`"]);
     let json = run(&["governed", "order", "games/c.txt", "--json"]);
     json.fails(2, &["governed: --json is for governed classes and governed check"]);
-    bad(&["governed", "check", "-", "-"], &["both inputs", "name a file"]);
+    bad(&["governed", "check", "-", "-"], &["two inputs", "name a file"]);
 }
 
 #[test]
@@ -80,7 +108,7 @@ fn plans_to_carry() {
     with(&["--player=even", "--vertex=5", "--as=dot"], &["carry: no form `dot`", "--as words\n"]);
     with(&["--player=even", "--vertex=5", "--class=0"], &["--class takes no value"]);
     with(&["more"], &["arguments: 3 instead of 2", "usage: raskjomi carry GAME PLAN --player"]);
-    bad(&["carry", "-", "-", "--player=odd", "--vertex=0"], &["both inputs", "name a file"]);
+    bad(&["carry", "-", "-", "--player=odd", "--vertex=0"], &["two inputs", "name a file"]);
     bad(
         &["carry", "games/d.txt", "none", "--player=odd", "--vertex=0"],
         &["none: ", "name a file"],
@@ -103,7 +131,7 @@ fn verdicts() {
     );
     with(&["--player=even", "--vertex=5", "--as=words"], &["verdict: no option --as"]);
     with(&["more"], &["arguments: 3 instead of 2", "usage: raskjomi verdict GAME PLAN --vertex V"]);
-    bad(&["verdict", "-", "-", "--player=odd", "--vertex=0"], &["both inputs", "name a file"]);
+    bad(&["verdict", "-", "-", "--player=odd", "--vertex=0"], &["two inputs", "name a file"]);
 }
 
 #[test]

@@ -63,6 +63,9 @@ fn outputs_to_a_file() {
     fs::write(&path, "old").expect("a file");
     run(&["report", "games/c.plan.txt", "-o", output]).fails(1, &["refused 4"]);
     assert_eq!(fs::read(&path).expect("the file"), b"old", "it stays where the command fails");
+    let standard = run(&["reduce", "games/d.txt", "-o", "-"]).bytes();
+    assert_eq!(standard, run(&["reduce", "games/d.txt"]).bytes());
+    assert!(!root().join("-").exists(), "no file of that name");
     run(&["reduce", "games/d.txt", "-o"]).fails(2, &["reduce: -o needs a file; usage: "]);
     run(&["reduce", "games/d.txt", "-o", "a", "-o", "b"]).fails(2, &["-o is given twice"]);
     let no = run(&["reduce", "games/d.txt", "-o", "/none/a"]);

@@ -123,9 +123,9 @@ fn a_game_from_standard_input() {
     let solution = file("large-gaps.sol", b"paritysol 9;\n3 0 5;\n5 0;\n9 0 9;\n");
     let told = run_on(&["check-solution", "-", &solution], GAPS.as_bytes()).text();
     assert_eq!(told, "right: Even wins at 3 vertices, Odd at 0\n");
-    run(&["check-solution", "-", "-"]).fails(2, &["both inputs are standard input"]);
+    run(&["check-solution", "-", "-"]).fails(2, &["two inputs are standard input"]);
     run(&["check-solution", "-", &solution, "--certificate=-"])
-        .fails(2, &["both inputs are standard input"]);
+        .fails(2, &["two inputs are standard input"]);
 }
 
 /// On the game with gaps a solution is turned down.

@@ -46,6 +46,26 @@ fn an_output_that_is_full() {
     }
 }
 
+#[test]
+fn an_output_that_is_closed() {
+    let told = |line: String| {
+        let ran = Command::new("sh").args(["-c", &line]).current_dir(root()).output();
+        let ran = ran.expect("a shell");
+        (ran.status.code(), String::from_utf8(ran.stderr).expect("text"))
+    };
+    // One that is open for reading alone.
+    let (status, message) =
+        told(format!("'{}' report games/b.txt 1</dev/null", env!("CARGO_BIN_EXE_raskjomi")));
+    assert_eq!(status, Some(2), "{message}");
+    assert!(
+        message.starts_with("raskjomi: standard output: bad file descriptor; write"),
+        "{message}"
+    );
+    let (status, message) = told("./raskjomi report games/b.txt >&-".into());
+    assert_eq!(status, Some(2), "{message}");
+    assert!(message.starts_with("raskjomi: standard output is closed; write"), "{message}");
+}
+
 /// The script's report on a game, run in a folder.
 fn script(path: &Path, folder: &Path, game: &str) -> Output {
     Command::new(path).args(["report", game]).current_dir(folder).output().expect("a script")

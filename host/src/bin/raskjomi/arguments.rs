@@ -64,7 +64,24 @@ impl Arguments {
             };
             return Err(bad(command, format!("number of arguments: {count} instead of {wanted}")));
         }
+        if self.inputs(command).filter(|path| *path == "-").count() > 1 {
+            return Err(bad(
+                command,
+                "two inputs are standard input; name a file for one of them".into(),
+            ));
+        }
         Ok(())
+    }
+
+    /// The inputs, if it reads a game. Behind the game, `why` takes vertices, which may be called -.
+    fn inputs(&self, command: &Command) -> impl Iterator<Item = &OsStr> {
+        let most = match command.name {
+            _ if !command.takes_game() => 0,
+            "why" => 1,
+            _ => self.files.len(),
+        };
+        let certificate = self.value("--certificate").map(OsStr::new);
+        self.files.iter().take(most).map(OsString::as_os_str).chain(certificate)
     }
 
     /// Adds `--name value` or `--name=value`; the value may be the next of the words.
@@ -121,9 +138,9 @@ impl Arguments {
         self.files.len()
     }
 
-    /// The file that the output is to go to, if one is named.
+    /// The file that the output is to go to, if one is named; - is standard output.
     pub fn output(&self) -> Option<&OsStr> {
-        self.output.as_deref()
+        self.output.as_deref().filter(|path| *path != "-")
     }
 
     /// Whether there is an argument at the index.

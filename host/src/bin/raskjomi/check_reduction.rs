@@ -1,8 +1,8 @@
 //! The command that checks a reduction of a game of any size.
 
 use crate::arguments::Arguments;
-use crate::check_solution::{certificate_files, grouped, unsaved, with_certificate};
-use crate::commands::{one_standard, Written};
+use crate::check_solution::{certificate_files, grouped, unsaved};
+use crate::commands::Written;
 use crate::failure::Failure;
 use crate::help::{Command, Opt};
 use crate::json::{self, Value};
@@ -49,7 +49,6 @@ struct Files {
 fn check_reduction(arguments: &Arguments) -> Written {
     let (from, to) = certificate_files(arguments);
     let sources = [0, 1, 2].map(|index| arguments.file(index));
-    one_standard(&with_certificate(&sources, from))?;
     let files = Files::load(sources)?;
     let reduction = match from {
         Some(path) => files.read(path)?,

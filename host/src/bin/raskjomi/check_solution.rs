@@ -1,7 +1,7 @@
 //! The command that checks a solution of a game of any size.
 
 use crate::arguments::Arguments;
-use crate::commands::{one_standard, Written};
+use crate::commands::Written;
 use crate::failure::Failure;
 use crate::help::{Command, Opt};
 use crate::json::{self, Value};
@@ -52,7 +52,6 @@ pub const COMMANDS: [Command; 1] = [Command {
 fn check_solution(arguments: &Arguments) -> Written {
     let (from, to) = certificate_files(arguments);
     let sources = [arguments.file(0), arguments.file(1)];
-    one_standard(&with_certificate(&sources, from))?;
     let solved = Solved::load(Loaded::load(sources[0])?, sources[1])?;
     let asked = asked(arguments, &solved)?;
     let certificate = match from {
@@ -72,12 +71,6 @@ fn check_solution(arguments: &Arguments) -> Written {
 /// The files that a certificate is to come from or to go to.
 pub fn certificate_files(arguments: &Arguments) -> (Option<&str>, Option<&str>) {
     (arguments.value("--certificate"), arguments.value("--save-certificate"))
-}
-
-/// All inputs, with that of a certificate if there is one.
-pub fn with_certificate<'a>(sources: &[Source<'a>], from: Option<&'a str>) -> Vec<Source<'a>> {
-    let certificate = from.map(|path| Source { path: path.as_ref(), ..sources[0] });
-    sources.iter().copied().chain(certificate).collect()
 }
 
 /// The vertices that the options ask for, each with what it is called.

@@ -13,7 +13,7 @@ use crate::locate::{
 };
 use crate::output::{form_given, Output};
 use crate::progress::watch;
-use crate::source::{plain_error, Source};
+use crate::source::plain_error;
 use crate::table::Table;
 use crate::vertices::Vertices;
 use crate::{reduced, suggest, tell, text};
@@ -273,25 +273,9 @@ fn table(
     Ok(written)
 }
 
-/// Both inputs of a check, of which one at most is standard input; the game is argument number `file`.
-fn two_files(arguments: &Arguments, file: usize) -> Result<(Source<'_>, Source<'_>), Failure> {
-    let (game, other) = (arguments.file(file), arguments.file(file + 1));
-    one_standard(&[game, other])?;
-    Ok((game, other))
-}
-
 /// A game and a plan.
 fn two_inputs(arguments: &Arguments) -> Result<(Input, Input), Failure> {
-    let (game, plan) = two_files(arguments, 0)?;
-    Ok((Input::game(game)?, Input::read(plan, Unit::Word)?))
-}
-
-/// Standard input can't be two of them.
-pub fn one_standard(sources: &[Source]) -> Result<(), Failure> {
-    if sources.iter().filter(|source| source.is_standard()).count() > 1 {
-        return Err(Failure::usage("both inputs are standard input; name a file for one of them"));
-    }
-    Ok(())
+    Ok((Input::game(arguments.file(0))?, Input::read(arguments.file(1), Unit::Word)?))
 }
 
 /// `check-relation`.
@@ -299,15 +283,14 @@ pub fn check_relation(arguments: &Arguments) -> Written {
     judged(arguments, 0, raskjomi::accept_relation)
 }
 
-/// A relation judged. Like the library, it judges the marks of the game's pairs alone.
+/// A relation on the game that is argument number `file`, judged. Like the library, it judges the marks of the game's pairs alone.
 fn judged(
     arguments: &Arguments,
     file: usize,
     accept: fn(&[u16], &[u8]) -> Result<(), Refusal>,
 ) -> Written {
-    let (game, relation) = two_files(arguments, file)?;
-    let game = Game::load(game).map_err(Failure::with_verdict)?;
-    let relation = Input::read(relation, Unit::Mark(game.size.marks()))?;
+    let game = Game::load(arguments.file(file)).map_err(Failure::with_verdict)?;
+    let relation = Input::read(arguments.file(file + 1), Unit::Mark(game.size.marks()))?;
     tell_surplus(&relation, &game);
     let watching = watch("the relation");
     let verdict = accept(&game.input.numbers, &relation.packed(game.pairs()));

@@ -47,7 +47,6 @@ Command {
 fn plan(arguments: &Arguments) -> Written {
     let word = vertex_given(arguments, "the plan is to start at")?;
     let as_words = as_words(arguments, "plan")?;
-    commands::one_standard(&[arguments.file(0), arguments.file(1)])?;
     let game = Game::load(arguments.file(0))?;
     let (name, text) = Input::solution(arguments.file(1))?;
     let vertex = game.vertex(word, "--vertex")?;

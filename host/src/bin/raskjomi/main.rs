@@ -37,7 +37,9 @@ mod winners;
 
 use std::env;
 use std::ffi::OsString;
+use std::fs::File;
 use std::io::{self, ErrorKind, Write};
+use std::os::fd::AsFd;
 use std::process::ExitCode;
 
 fn main() -> ExitCode {
@@ -48,7 +50,7 @@ fn main() -> ExitCode {
     };
     if let Err(error) = print(&output) {
         let error = source::plain_error(&error);
-        tell(&format!("standard output: {error}; write it where there is room"));
+        tell(&format!("standard output: {error}; write it where it can be written"));
         return ExitCode::from(2);
     }
     if !message.is_empty() {
@@ -57,10 +59,11 @@ fn main() -> ExitCode {
     ExitCode::from(status)
 }
 
-/// Writes to standard output; a reader that has gone away is no error of ours.
+/// Writes to standard output; a reader that has gone away is no error of ours. Written as a file, since Rust's own standard
+/// output takes one that can't be written for one that nobody wants.
 fn print(output: &[u8]) -> io::Result<()> {
-    let mut out = io::stdout().lock();
-    match out.write_all(output).and_then(|()| out.flush()) {
+    let mut out = File::from(io::stdout().as_fd().try_clone_to_owned()?);
+    match out.write_all(output) {
         Err(error) if error.kind() == ErrorKind::BrokenPipe => Ok(()),
         result => result,
     }

@@ -56,7 +56,9 @@ pub fn about(command: &str, option: &str) -> &'static str {
         (_, "--preview") => "which vertices would part or merge, in place of the game",
         (_, "--reduced") => "the reduced game, in place of the game with its classes",
         (_, "--json") => "the output, and a refusal, as JSON in one line",
-        (_, "-o") => "write to FILE, which stays as it was where the command fails",
+        (_, "-o") => {
+            "write to FILE, which stays as it was where the command fails; - is standard output"
+        }
         (_, "--text") => "the inputs are text, whatever characters they have",
         (_, "--binary") => "the inputs are binary, whatever bytes they have",
         (_, "--svg") => "the picture itself, drawn by Graphviz, which has to be installed",

@@ -2,7 +2,7 @@
 
 use crate::arguments::Arguments;
 use crate::check_solution::{judge, made, summary, winner, won};
-use crate::commands::{one_standard, Written};
+use crate::commands::Written;
 use crate::failure::Failure;
 use crate::help::{Command, Opt};
 use crate::json::{self, Value};
@@ -40,7 +40,6 @@ struct Answered {
 /// `winners`.
 fn winners(arguments: &Arguments) -> Written {
     let sources = [arguments.file(0), arguments.file(1)];
-    one_standard(&sources)?;
     let (of, json) = (Loaded::load(sources[0])?, arguments.has("--json"));
     let answered = match within_limits(&of.game).filter(|_| !arguments.has("--large")) {
         Some(game) => by_order(of, &game.reduce(), sources[1], json)?,
