@@ -107,7 +107,7 @@ fn usage() {
     run(&line).fails(2, &["no vertex; write --vertex"]);
     run(&[&line[..], &["--vertex=5"]].concat()).fails(2, &["no vertex `5`", "from 0 to 4"]);
     run(&[&line[..], &["--vertex=0", "--as=dot"]].concat()).fails(2, &["plan: no form `dot`"]);
-    run(&["plan", "-", "-", "--vertex=0"]).fails(2, &["both inputs", "name a file"]);
+    run(&["plan", "-", "-", "--vertex=0"]).fails(2, &["two inputs", "name a file"]);
     let text = run(&[&line[..], &["--vertex=0"]].concat()).text();
     assert_eq!(
         numbers(&text),
