@@ -324,6 +324,30 @@ fn edits() {
     }
 }
 
+/// A buffer as the library's edits leave it: zeros behind the table.
+#[test]
+fn buffers_longer_than_their_table() {
+    let mut buffer = [&shipped("b.txt")[..], &[0; 4]].concat();
+    let (mut marks, mut classes) = ([0; 2], [0; 3]);
+    let edited = raskjomi::remove_edge(&mut buffer, 0, 1, &mut marks, &mut [0; 2], &mut classes);
+    assert_eq!(edited.map_err(|refusal| refusal.number), Err(38), "nothing is written");
+    raskjomi::add_edge(&mut buffer, 0, 2, &mut marks, &mut [0; 2], &mut classes).expect("an edit");
+    raskjomi::remove_edge(&mut buffer, 0, 2, &mut marks, &mut [0; 2], &mut classes)
+        .expect("an edit");
+    assert_eq!(buffer, [&shipped("b.txt")[..], &[0; 4]].concat());
+    let text: Vec<String> = buffer.iter().map(u16::to_string).collect();
+    let expected = run(&["edit", "games/b.txt", "--add=0:2"]).bytes();
+    for input in [bytes(&buffer), text.join(" ").into_bytes()] {
+        assert_eq!(run_on(&["edit", "-", "--add=0:2"], &input).bytes(), expected);
+        let buffer = file("buffer.bin", &input);
+        let trace = run_on(&["replay", &buffer, "-"], b"1 / 0 / 2").text();
+        assert_eq!(numbers(&trace), numbers(&String::from_utf8_lossy(&expected)));
+        run_on(&["reduce"], &input).fails(1, &["refused 4 at 18"]);
+    }
+    let other = [&buffer[..], &[1]].concat();
+    run_on(&["edit", "-", "--add=0:2"], &bytes(&other)).fails(1, &["refused 4 at 19"]);
+}
+
 #[test]
 fn edits_and_classes() {
     let classes = |edits: &[&str]| run(&[&["edit", "games/d.txt", "--classes"], edits].concat());

@@ -47,6 +47,19 @@ impl Game {
         Game::of(Input::game(source)?)
     }
 
+    /// Reads a game table that may begin a longer buffer, with zeros behind it, as the library's edits leave it.
+    pub fn load_buffer(source: Source) -> Result<Game, Failure> {
+        let mut input = Input::game(source)?;
+        if let [n, m, ..] = input.numbers[..] {
+            let length = 2 + 2 * usize::from(n) + 2 * usize::from(m);
+            let behind = input.numbers.get(length..).unwrap_or_default();
+            if behind.iter().all(|&word| word == 0) {
+                input.numbers.truncate(length);
+            }
+        }
+        Game::of(input)
+    }
+
     /// The game of an input.
     pub fn of(input: Input) -> Result<Game, Failure> {
         match raskjomi::read(&input.numbers) {

@@ -442,7 +442,7 @@ pub fn as_words(arguments: &Arguments, command: &str) -> Result<bool, Failure> {
 pub fn edit(arguments: &Arguments) -> Written {
     let form = form_given(arguments, "edit")?;
     ends_given(arguments)?;
-    let game = Game::load(arguments.file(0))?;
+    let game = Game::load_buffer(arguments.file(0))?;
     let (edits, vertices) = (edits(arguments, &game)?, &game.input.vertices);
     let preview = arguments.has("--preview");
     let after = if preview { game.previewed(&edits) } else { game.edited(&edits) };
@@ -495,7 +495,7 @@ fn no_edge(option: &str, edge: &str, range: &str) -> Failure {
 /// `replay`.
 pub fn replay(arguments: &Arguments) -> Written {
     let form = form_given(arguments, "replay")?;
-    let game = Game::load(arguments.file(0))?;
+    let game = Game::load_buffer(arguments.file(0))?;
     let trace = Input::read(arguments.file(1), Unit::Word)?;
     let after = game
         .replayed(&trace.numbers)

@@ -213,7 +213,8 @@ pub const COMMANDS: [Command; 16] = [
         summary: "a winning plan, carried to another vertex",
         details:
             "PLAN is given as for `check-plan`, wins for the player, and starts at the vertex of its \
-                  position 0. For Even that must be below V, for Odd V below it; `order` writes \
+                  position 0. Its words are numbers of vertices, from 0 by ascending id, and no ids or \
+                  names of a file in PGSolver's format; V is a number, or such an id or name. For Even that must be below V, for Odd V below it; `order` writes \
                   who is below whom, and members of one class are below each other. With --class, \
                   PLAN is on the reduced game, as `reduce` writes it, and its start is a class, \
                   which compares as its members do. The output is a plan on GAME, of at most \
@@ -257,7 +258,8 @@ pub const COMMANDS: [Command; 16] = [
             "--add V:W adds the edge from V to W behind the others, --remove V:W removes every copy of \
                   it. Both may be given several times, and are done in sequence. A vertex keeps an \
                   edge out, and a table has at most 4,096 edges; where an edit is refused, nothing \
-                  is written. The output is a game table, which every command reads; with --classes, \
+                  is written. GAME may have zeros behind its table, as the library's edits leave them in \
+                  their buffer. The output is a game table, which every command reads; with --classes, \
                   it is the number of classes before and after, and each vertex that then shares its \
                   class with others than before. With --preview no game is written: the output is the \
                   number of classes before and after, and a line for each class that would fall apart \
@@ -281,7 +283,9 @@ pub const COMMANDS: [Command; 16] = [
                   entries are done in sequence: an edge that the game doesn't have is added behind \
                   the others, and one that it has is removed with every copy. Where an entry is \
                   refused, nothing is written, and the message tells how many were done before it. \
-                  The output is a game table, which every command reads; with --classes, it is the \
+                  The words of a trace are numbers of vertices, from 0 by ascending id, and no ids or names \
+                  of a file in PGSolver's format; `edit` takes those. GAME may have zeros behind its table, \
+                  as for `edit`. The output is a game table, which every command reads; with --classes, it is the \
                   number of classes before and after, and each vertex that then shares its class with \
                   others than before.",
         example: "./raskjomi replay games/d.txt games/d.trace.txt --classes",
