@@ -407,8 +407,14 @@ fn shipped_plans_win() {
         assert_eq!(run(&words).text(), "accepted\n");
     }
     let plan = file("plan.bin", &bytes(&shipped("c.plan.txt")));
-    let words = ["check-plan", "--player", "0", "-", &plan];
-    assert_eq!(run_on(&words, &bytes(&shipped("c.txt"))).text(), "accepted\n");
+    for player in ["0", "even", "Even"] {
+        let words = ["check-plan", "--player", player, "-", &plan];
+        assert_eq!(run_on(&words, &bytes(&shipped("c.txt"))).text(), "accepted\n");
+    }
+    for player in ["1", "odd", "Odd"] {
+        let words = ["check-plan", "--player", player, "-", &plan];
+        run_on(&words, &bytes(&shipped("c.txt"))).fails(1, &["refused 15 at "]);
+    }
 }
 
 #[test]

@@ -78,8 +78,7 @@ fn governed_bisimulations() {
 #[test]
 fn numbers() {
     bad(&["explain"], &["arguments: 0 instead of 1"]);
-    bad(&["explain", "-1"], &["no option -1"]);
-    for word in ["17", "0", "42", "x", "+8", "65544"] {
+    for word in ["17", "0", "-1", "42", "x", "+8", "65544"] {
         bad(
             &["explain", word],
             &[
@@ -165,7 +164,7 @@ fn numbers_of_a_seed() {
     bad(&["seed", "1", "3", "2"], &["arguments: 3 instead of 4", usage]);
     bad(&["seed", "1", "3", "2", "4", "--as", "dot"], &["no form `dot`", "raskjomi dot"]);
     for (which, name) in ["SEED", "VERTICES", "DEGREE", "PRIORITIES"].into_iter().enumerate() {
-        for word in ["x", "", "+1", "1.5", "4294967296"] {
+        for word in ["x", "", "+1", "-1", "1.5", "4294967296"] {
             let mut words = ["seed", "1", "3", "2", "4"];
             words[1 + which] = word;
             bad(&words, &[&format!("seed: {name} `{word}` is no number from 0 to 4294967295")]);

@@ -6,7 +6,7 @@ use std::ffi::OsStr;
 use std::fs;
 use std::os::unix::ffi::OsStrExt;
 use std::path::PathBuf;
-use std::process::Command;
+use std::process::{Command, Stdio};
 
 fn folder() -> PathBuf {
     PathBuf::from(env!("CARGO_TARGET_TMPDIR"))
@@ -137,6 +137,40 @@ fn control_characters_and_utf_16() {
         .fails(2, &["--text and --binary exclude each other"]);
     let text = fs::read(root().join("games/b.txt")).expect("a game");
     assert_eq!(run_on(&["report", "--text"], &text).text(), run(&["report", "games/b.txt"]).text());
+}
+
+#[test]
+fn two_vertices_of_one_name() {
+    let game = file("twins.pg", b"parity 5;\n1 0 0 1 \"a\";\n3 0 0 1 \"a\";\n5 0 0 1 \"b\";\n");
+    let told = "2 vertices are called a: those with the ids 1, 3";
+    let lines: [&[&str]; 5] = [
+        &["report", &game, "--vertex=a"],
+        &["why", &game, "a", "b"],
+        &["why", &game, "b", "a", "--large"],
+        &["edit", &game, "--add=b:a"],
+        &["edit", &game, "--remove=a:b"],
+    ];
+    for line in lines {
+        run(line).fails(2, &[told]);
+    }
+    assert!(run(&["report", &game, "--vertex=b"]).text().starts_with("Vertex id 5 "));
+}
+
+/// `script` of util-linux runs a command in a terminal.
+#[test]
+fn a_command_that_waits_for_a_terminal_says_so() {
+    let line = |words: &str| format!("'{}' {words}", env!("CARGO_BIN_EXE_raskjomi"));
+    let shown = |words: &str| {
+        let mut script = Command::new("script");
+        script.args(["-qec", &line(words), "/dev/null"]).current_dir(root());
+        let ran = script.stdin(Stdio::null()).output().expect("script of util-linux");
+        String::from_utf8_lossy(&ran.stdout).into_owned()
+    };
+    let told = "raskjomi: waiting for input from this terminal; end it by Ctrl-D";
+    for words in ["report", "check -", "reduce -", "check-plan games/c.txt - --player even"] {
+        assert!(shown(words).contains(told), "{words}: {}", shown(words));
+    }
+    assert!(!shown("report games/b.txt").contains(told));
 }
 
 #[test]

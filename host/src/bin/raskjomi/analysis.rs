@@ -82,6 +82,9 @@ impl Game {
     pub fn vertex(&self, word: &str, option: &str) -> Result<usize, Failure> {
         let (vertices, count) = (&self.input.vertices, self.size.vertices);
         vertices.find(word).filter(|&vertex| vertex < count).ok_or_else(|| {
+            if let Some(several) = vertices.ambiguous(word) {
+                return Failure::usage(format!("{several}; write {option} with one of these ids"));
+            }
             let what = match vertices.of_pgsolver() {
                 true => format!("an id or a name; {}", vertices.range(count)),
                 false => format!("a number from 0 to {}", count - 1),

@@ -38,7 +38,7 @@ impl Arguments {
             }
             match &*word.to_string_lossy() {
                 "--" => arguments.files.extend(words.by_ref().cloned()),
-                option if option.starts_with('-') && option != "-" => {
+                option if option.starts_with('-') && option != "-" && !is_negative(option) => {
                     arguments.add_option(command, option, &mut words)?
                 }
                 _ => arguments.files.push(word.clone()),
@@ -185,8 +185,8 @@ impl Arguments {
     /// The player that `--player` names.
     pub fn player(&self) -> Result<u32, Failure> {
         match self.value("--player") {
-            Some("even" | "0") => Ok(raskjomi::EVEN),
-            Some("odd" | "1") => Ok(raskjomi::ODD),
+            Some("even" | "Even" | "0") => Ok(raskjomi::EVEN),
+            Some("odd" | "Odd" | "1") => Ok(raskjomi::ODD),
             Some(other) => Err(Failure::usage(format!(
                 "no player `{other}`; write --player even or --player odd"
             ))),
@@ -214,6 +214,12 @@ fn output(
         Some(_) => Err(bad(command, "-o is given twice; write it once".into())),
         None => Ok(true),
     }
+}
+
+/// Whether the word is a number below 0, which no option is called: what takes a number tells what is wrong with it.
+fn is_negative(word: &str) -> bool {
+    let digits = word.strip_prefix('-').unwrap_or_default();
+    !digits.is_empty() && digits.bytes().all(|byte| byte.is_ascii_digit())
 }
 
 /// The player's name.

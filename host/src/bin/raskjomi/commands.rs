@@ -480,7 +480,10 @@ fn edits(arguments: &Arguments, game: &Game) -> Result<Vec<Edit>, Failure> {
     let edits = ends_given(arguments)?.into_iter().zip(arguments.repeated());
     let edits = edits.map(|((source, target), (option, edge))| {
         let ends = find(source).zip(find(target));
-        let (source, target) = ends.ok_or_else(|| no_edge(option, edge, &range))?;
+        let (source, target) = ends.ok_or_else(|| {
+            let several = [source, target].into_iter().find_map(|end| vertices.ambiguous(end));
+            no_edge(option, edge, &several.map_or(range.clone(), |told| format!("; {told}")))
+        })?;
         Ok(Edit { add: option == "--add", source, target })
     });
     edits.collect()

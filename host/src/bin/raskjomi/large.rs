@@ -6,6 +6,7 @@ use crate::json::{self, Value};
 use crate::progress::watch;
 use crate::source::{Encoding, Source};
 use crate::tell;
+use crate::vertices::several;
 use raskjomi::large::{read_game, read_solution, FileForm, GameFile, Identifiers};
 use raskjomi::{Flaw, LargeGame, LargeSolution, Refusal};
 use std::io::Read;
@@ -81,6 +82,14 @@ impl Loaded {
             None => self.vertices.named(name),
         };
         found.ok_or_else(|| {
+            let all = 0..self.game.size().vertices as u32;
+            let called = |&vertex: &u32| self.vertices.name(vertex).as_deref() == Some(name);
+            let ids: Vec<u32> =
+                all.filter(called).map(|vertex| self.vertices.id(vertex)).collect();
+            if ids.len() > 1 {
+                let several = several(word, &ids);
+                return Failure::usage(format!("{several}; write {option} with one of these ids"));
+            }
             let last = self.game.size().vertices as u32 - 1;
             let [first, last] = [0, last].map(|vertex| self.vertices.id(vertex));
             Failure::usage(format!(

@@ -1,9 +1,10 @@
 //! Where inputs come from.
 
 use crate::failure::Failure;
+use crate::tell;
 use std::ffi::OsStr;
 use std::fs::File;
-use std::io::{self, Read};
+use std::io::{self, IsTerminal, Read};
 
 /// Where an input comes from, and how it is read.
 #[derive(Clone, Copy, Debug)]
@@ -38,6 +39,9 @@ impl Source<'_> {
 
     /// Its bytes.
     pub fn open(&self) -> io::Result<Box<dyn Read>> {
+        if self.is_standard() && io::stdin().is_terminal() {
+            tell("waiting for input from this terminal; end it by Ctrl-D on a line of its own, or name a file");
+        }
         Ok(match self.is_standard() {
             true => Box::new(io::stdin().lock()),
             false => Box::new(File::open(self.path)?),

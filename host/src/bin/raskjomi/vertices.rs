@@ -5,6 +5,9 @@ use crate::input::number;
 /// The most characters of a name that a message shows.
 const SHOWN: usize = 40;
 
+/// The most vertices of one name that a message shows.
+const SHOWN_IDS: usize = 8;
+
 /// The vertices' ids and names, where a file gives them; else a vertex has its number alone.
 #[derive(Debug, Default)]
 pub struct Vertices {
@@ -106,13 +109,23 @@ impl Vertices {
         if let Some(id) = number(word, u32::MAX) {
             return self.find_id(id.into());
         }
-        let word = word.strip_prefix('"').and_then(|word| word.strip_suffix('"')).unwrap_or(word);
-        let names = self.named.iter().flat_map(|named| &named.names).enumerate();
-        let mut found = names.filter(|(_, name)| name.as_deref() == Some(word));
-        match (found.next(), found.next()) {
-            (Some((vertex, _)), None) => Some(vertex),
+        match self.called(word)[..] {
+            [vertex] => Some(vertex),
             _ => None,
         }
+    }
+
+    /// The vertices of a name, which may stand in quotes.
+    fn called(&self, word: &str) -> Vec<usize> {
+        let word = word.strip_prefix('"').and_then(|word| word.strip_suffix('"')).unwrap_or(word);
+        let names = self.named.iter().flat_map(|named| &named.names).enumerate();
+        names.filter(|(_, name)| name.as_deref() == Some(word)).map(|(vertex, _)| vertex).collect()
+    }
+
+    /// That several vertices have this name, if so.
+    pub fn ambiguous(&self, word: &str) -> Option<String> {
+        let ids: Vec<u64> = self.called(word).into_iter().map(|vertex| self.id(vertex)).collect();
+        (ids.len() > 1).then(|| several(word, &ids))
     }
 
     /// What may stand for a vertex of a game with so many, in words.
@@ -125,6 +138,15 @@ impl Vertices {
             _ => format!("its vertices are 0 to {last}"),
         }
     }
+}
+
+/// That vertices with these ids have one name.
+pub fn several<T: ToString>(name: &str, ids: &[T]) -> String {
+    let mut shown: Vec<String> = ids.iter().take(SHOWN_IDS).map(T::to_string).collect();
+    if shown.len() < ids.len() {
+        shown.push("..".into());
+    }
+    format!("{} vertices are called {name}: those with the ids {}", ids.len(), shown.join(", "))
 }
 
 /// A name of at most so many characters.
