@@ -252,6 +252,12 @@ fn the_man_page_and_the_completions_have_every_command() {
         let known = [".TH ", ".SH ", ".SS ", ".PP", ".TP", ".nf", ".fi"];
         assert!(known.iter().any(|request| line.starts_with(request)), "{line}");
     }
+    assert!(page.is_ascii() && page.contains("n \\[u00D7] n marks"), "{page}");
+    let path = file("raskjomi.1", page.as_bytes());
+    // Where groff is installed, it has nothing to warn of.
+    if let Ok(ran) = Command::new("groff").args(["-man", "-ww", "-Tascii", "-z", &path]).output() {
+        assert!(ran.status.success() && ran.stderr.is_empty(), "{ran:?}");
+    }
     let path = file("completions.bash", script.as_bytes());
     let complete = |words: &str, last: usize| {
         let line = format!(

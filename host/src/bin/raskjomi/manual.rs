@@ -56,9 +56,15 @@ fn man(_: &Arguments) -> Written {
     Ok(page.into())
 }
 
-/// The text with what roff takes for its own escaped.
+/// The text with what roff takes for its own escaped, and in ASCII, as it needn't know the encoding.
 fn roff(text: &str) -> String {
-    let escaped = text.replace('\\', "\\e").replace('-', "\\-");
+    let plain = |c: char| match c {
+        '\\' => "\\e".to_string(),
+        '-' => "\\-".to_string(),
+        _ if c.is_ascii() => c.to_string(),
+        _ => format!("\\[u{:04X}]", u32::from(c)),
+    };
+    let escaped: String = text.chars().map(plain).collect();
     let line = |line: &str| match line {
         ".PP" => line.to_string(),
         _ if line.starts_with(['.', '\'']) => format!("\\&{line}"),
