@@ -1,7 +1,8 @@
 //! Files of large games and solutions, read and written.
 
 use super::{
-    read_game, read_solution, write_game, write_solution, FileForm, GameFile, Identifiers,
+    read_game, read_solution, write_game, write_game_as, write_solution, FileForm, GameFile,
+    Identifiers, Style,
 };
 use crate::{convert, LargeGame};
 use std::io::{self, Read};
@@ -300,6 +301,44 @@ fn games_and_solutions_come_back() {
     write_solution(&mut text, &words, &solution, &vertices).expect("memory takes all");
     assert_eq!(text, b"paritysol 9;\n3 0 9;\n5 0;\n9 0 9;\n");
     assert_eq!(read_solution(&*text, None, &words, &vertices).expect("a solution"), solution);
+}
+
+#[test]
+fn without_a_first_line() {
+    let with = game("parity 1;\nstart 1;\n0 2 0 0,1;\n1 1 1 0;\n");
+    for text in ["start 1;\n0 2 0 0,1;\n1 1 1 0;\n", "0 2 0 # 1\n0,1 \"a;\";\nstart 1;\n1 1 1 0;\n"]
+    {
+        let read = game(text);
+        assert_eq!((read.words, read.start), (with.words.clone(), Some(1)), "{text}");
+    }
+    begins("0 0 0 0;\nparity 1;\n", "line 2: `parity` instead of an id; ");
+    begins("parity 1; parity 1;\n", "line 1: `parity` instead of an id; ");
+    begins("1, 1, 0", "line 1: a comma instead of a number; ");
+    // More successors than a piece of the file has.
+    let all: Vec<String> = (0..60_000).map(|id| id.to_string()).collect();
+    let lines: String = (1..60_000).map(|id| format!("{id} 0 0 0;\n")).collect();
+    assert_eq!(game(&format!("0 0 0 {};\n{lines}", all.join(","))).words[1], 119_999);
+    let GameFile { words, vertices, .. } = with;
+    for text in ["0 0 0;\n1 0;\n", "0 0 0;\n1 0 -1;\n", "paritysol 1;\n0 0 0;\n1 0 -1 \"b\";\n"] {
+        let solution = read_solution(text.as_bytes(), None, &words, &vertices);
+        assert_eq!(solution.expect("a solution"), [0, 0, 0, 2], "{text}");
+    }
+    let error = read_solution(&b"0 0 -1;\n"[..], None, &words, &vertices).expect_err("no move");
+    assert!(error.to_string().starts_with("line 1, id 0: no strategy, though "), "{error}");
+}
+
+#[test]
+fn names_priorities_and_the_start_come_back() {
+    let text =
+        b"parity 2;\nstart 2;\n0 6 0 1 \"clos\xe9 \x93\";\n1 9 0 2 \"clos\xc3\xa9\";\n2 4 0 0;\n";
+    let GameFile { words, vertices, start, even, .. } =
+        read_game(&text[..], None, false).expect("a game");
+    let names = [0, 1].map(|vertex| vertices.name(vertex).expect("a name"));
+    assert_eq!(names, ["clos\u{e9} ?", "clos\u{e9}"]);
+    let mut written = Vec::new();
+    let style = Style { lowest: false, even, start };
+    write_game_as(&mut written, &words, &vertices, style).expect("memory takes all");
+    assert_eq!(written, text);
 }
 
 #[test]

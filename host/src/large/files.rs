@@ -6,7 +6,7 @@
 use super::components::NONE;
 use super::identifiers::Identifiers;
 use super::paritysol::{self, SOLUTION};
-use super::pgsolver::{self, GameFile, GAME};
+use super::pgsolver::{self, GameFile, GAME, START};
 use super::scan::{FileError, Scanner, Token};
 use std::io::Read;
 
@@ -51,8 +51,9 @@ pub fn read_game(
         words_of_game(bytes(&mut scanner)?)?
     } else {
         let first = scanner.next()?;
-        if scanner.is_word(first, GAME) {
-            return pgsolver::read(&mut scanner, lowest);
+        let is_word = |word| scanner.is_word(first, word);
+        if is_word(GAME) || is_word(START) || scanner.in_statement(first) {
+            return pgsolver::read(&mut scanner, first, lowest);
         }
         if scanner.is_word(first, SOLUTION) {
             let what = "a solution in PGSolver's format, where a game is wanted";
@@ -99,8 +100,8 @@ pub fn read_solution(
         return whole_words(&bytes(&mut scanner)?);
     }
     let first = scanner.next()?;
-    if scanner.is_word(first, SOLUTION) {
-        return paritysol::read(&mut scanner, game, vertices);
+    if scanner.is_word(first, SOLUTION) || scanner.in_statement(first) {
+        return paritysol::read(&mut scanner, first, game, vertices);
     }
     if scanner.is_word(first, GAME) {
         let what = "a game in PGSolver's format, where a solution is wanted";

@@ -49,7 +49,12 @@ impl Identifiers {
     /// The vertex's name, if it has one that was kept.
     pub fn name(&self, vertex: u32) -> Option<String> {
         let bytes = self.names.of(vertex)?;
-        Some(String::from_utf8_lossy(bytes).replace(char::is_control, "?"))
+        Some(name_text(bytes))
+    }
+
+    /// The bytes of the vertex's name in its file.
+    pub(super) fn name_bytes(&self, vertex: u32) -> Option<&[u8]> {
+        self.names.of(vertex)
     }
 
     /// The vertex with this name, if there is exactly one.
@@ -172,6 +177,13 @@ impl Identifiers {
         }
         Some(table)
     }
+}
+
+/// A name as it is shown: in UTF-8, or else in Latin-1, with a question mark for each control character.
+pub fn name_text(bytes: &[u8]) -> String {
+    let latin = || bytes.iter().map(|&byte| char::from(byte)).collect();
+    let text = std::str::from_utf8(bytes).map_or_else(|_| latin(), String::from);
+    text.replace(char::is_control, "?")
 }
 
 /// Names one behind the other, with the vertices whose they are and their ends.

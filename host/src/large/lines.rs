@@ -20,6 +20,10 @@ impl Lines {
         self.count += 1;
     }
 
+    pub fn is_empty(&self) -> bool {
+        self.count == 0
+    }
+
     /// The line of an entry.
     pub fn of(&self, entry: usize) -> u64 {
         let place = match self.steps.last() {

@@ -62,7 +62,7 @@ use crate::{exports, verdict, Refusal};
 pub use files::{read_game, read_solution, read_words, FileForm};
 pub use flaw::Flaw;
 pub use game::LargeGame;
-pub use identifiers::Identifiers;
+pub use identifiers::{name_text, Identifiers};
 pub use misfit::Misfit;
 pub use pgsolver::GameFile;
 pub use reduce::Unreduced;
@@ -71,7 +71,7 @@ pub use repeats::Repeats;
 pub use saved::{SavedError, SavedKind};
 pub use scan::FileError;
 pub use solution::{Certificate, LargeSolution, Uncertified};
-pub use write::{write_game, write_solution};
+pub use write::{write_game, write_game_as, write_solution, Style};
 
 /// The sizes of a large game's table.
 #[derive(Clone, Copy, Debug, PartialEq, Eq)]

@@ -7,8 +7,11 @@ use super::pgsolver::header;
 use super::scan::{FileError, Scanner, Token};
 use std::io::Read;
 
-/// The first word of a solution.
+/// The first word of a solution, where its file has one.
 pub(super) const SOLUTION: &str = "paritysol";
+
+/// What some solutions have in place of a strategy.
+const NO_MOVE: &str = "-1";
 
 const REMEDY: &str =
     "write `id winner strategy;`, with a strategy where the vertex is its winner's";
@@ -31,13 +34,18 @@ struct Draft<'a> {
     choices: Vec<u32>,
 }
 
-/// Reads a solution whose first word was seen.
+/// Reads a solution from its first token on.
 pub(super) fn read<R: Read>(
     scanner: &mut Scanner<R>,
+    first: Token,
     game: &[u32],
     vertices: &Identifiers,
 ) -> Result<Vec<u32>, FileError> {
-    header(scanner, SOLUTION)?;
+    let mut token = first;
+    if scanner.is_word(token, SOLUTION) {
+        header(scanner, SOLUTION)?;
+        token = scanner.next()?;
+    }
     let (n, m) = (game[0] as usize, game[1] as usize);
     let (owners, ends) = game[2 + n..].split_at(n);
     let (sources, targets) = ends.split_at(m);
@@ -48,11 +56,12 @@ pub(super) fn read<R: Read>(
         Draft { owners, sources, targets, vertices, lines, count: 0, entries, winners, choices };
     draft.winners.resize(n, 0);
     loop {
-        match scanner.next()? {
+        match token {
             Token::Number(id) => draft.entry(scanner, id)?,
             Token::End => return draft.finished(),
             found => return Err(scanner.unexpected(found, None, "an id", REMEDY)),
         }
+        token = scanner.next()?;
     }
 }
 
@@ -67,6 +76,8 @@ impl Draft<'_> {
         let (mut choice, mut next) = (None, scanner.next().map_err(error)?);
         if let Token::Number(found) = next {
             choice = Some(found);
+            next = scanner.next().map_err(error)?;
+        } else if scanner.is_word(next, NO_MOVE) {
             next = scanner.next().map_err(error)?;
         }
         if next == Token::Name {

@@ -10,8 +10,11 @@ use super::repeats::{drop_repeats, Repeats};
 use super::scan::{FileError, Scanner, Token};
 use std::io::Read;
 
-/// The first word of a game.
+/// The first word of a game, where its file has one.
 pub(super) const GAME: &str = "parity";
+
+/// The word before the id of the vertex that a game starts at.
+pub(super) const START: &str = "start";
 
 const REMEDY: &str = "write `id priority owner successor,successor \"name\";`";
 
@@ -47,17 +50,23 @@ struct Draft {
     repeats: Option<Repeats>,
 }
 
-/// Reads a game whose first word was seen. Where the highest priority decides in the file, each priority q becomes M - q, with M the smallest
+/// Reads a game from its first token on. Where the highest priority decides in the file, each priority q becomes M - q, with M the smallest
 /// even number not below the highest, as [`convert`](crate::convert()) does for small games.
-pub(super) fn read<R: Read>(scanner: &mut Scanner<R>, lowest: bool) -> Result<GameFile, FileError> {
-    let most = header(scanner, "parity")?;
-    let line = scanner.line;
+pub(super) fn read<R: Read>(
+    scanner: &mut Scanner<R>,
+    first: Token,
+    lowest: bool,
+) -> Result<GameFile, FileError> {
+    let (line, mut most, mut token) = (scanner.line, None, first);
     let mut draft = Draft::default();
     loop {
-        match scanner.next()? {
-            Token::Number(id) => draft.vertex(scanner, id, most)?,
+        match token {
+            Token::Number(id) => draft.vertex(scanner, id, most.flatten())?,
             Token::End => break,
-            found if scanner.is_word(found, "start") => {
+            found if scanner.is_word(found, GAME) && most.is_none() && draft.lines.is_empty() => {
+                most = Some(header(scanner, GAME)?);
+            }
+            found if scanner.is_word(found, START) => {
                 let remedy = "write `start ID;`, or leave it out";
                 let id = scanner.wanted(None, "an id after `start`", remedy)?;
                 draft.start = Some((id, scanner.line));
@@ -65,6 +74,7 @@ pub(super) fn read<R: Read>(scanner: &mut Scanner<R>, lowest: bool) -> Result<Ga
             }
             found => return Err(scanner.unexpected(found, None, "an id", REMEDY)),
         }
+        token = scanner.next()?;
     }
     if draft.priorities.is_empty() {
         return Err(FileError::at(line, None, "no vertex after the first line", REMEDY));

@@ -269,6 +269,25 @@ impl<R: Read> Scanner<R> {
         token == Token::Word && self.text == word.as_bytes()
     }
 
+    /// Whether the last token, a number, begins a statement of PGSolver's formats: numbers, commas and names up to a semicolon. Where more
+    /// comes behind the present piece, a comma decides.
+    pub fn in_statement(&self, token: Token) -> bool {
+        let (mut rest, mut listed) = (self.rest(), false);
+        while let (Token::Number(_), Some((&byte, after))) = (token, rest.split_first()) {
+            rest = after;
+            match byte {
+                b';' => return true,
+                b',' => listed = true,
+                b'"' => rest = behind(rest, b'"'),
+                b'#' | b'%' => rest = behind(rest, b'\n'),
+                b'/' if rest.first() == Some(&b'/') => rest = behind(rest, b'\n'),
+                _ if byte.is_ascii_whitespace() || byte.is_ascii_digit() || byte == b'-' => (),
+                _ => return false,
+            }
+        }
+        listed && self.piece.len() == PIECE
+    }
+
     /// Another token than the one that is wanted.
     pub fn unexpected(
         &self,
@@ -303,4 +322,10 @@ impl<R: Read> Scanner<R> {
             found => Err(self.unexpected(found, id, wanted, remedy)),
         }
     }
+}
+
+/// What comes behind the next of these bytes.
+fn behind(bytes: &[u8], mark: u8) -> &[u8] {
+    let end = bytes.iter().position(|&byte| byte == mark).map_or(bytes.len(), |place| place + 1);
+    &bytes[end..]
 }

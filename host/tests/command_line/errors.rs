@@ -129,7 +129,10 @@ fn verdicts() {
         &["no vertex `4294967296`", "a number from 0 to 5"],
     );
     with(&["--player=even", "--vertex=5", "--as=words"], &["verdict: no option --as"]);
-    with(&["more"], &["arguments: 3 instead of 2", "usage: raskjomi verdict GAME PLAN --vertex V"]);
+    with(
+        &["more"],
+        &["arguments: 3 instead of 2", "usage: raskjomi verdict GAME PLAN [--vertex V]"],
+    );
     bad(&["verdict", "-", "-", "--player=odd", "--vertex=0"], &["two inputs", "name a file"]);
 }
 

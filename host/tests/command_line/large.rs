@@ -310,8 +310,7 @@ fn a_hundred_thousand_vertices() {
     let mut solution = format!("paritysol {};\n", n - 1);
     for v in 0..n {
         let priority = if v == 0 { 2 * n } else { v };
-        let ends = if v + 1 < n { format!("{},0", v + 1) } else { "0".into() };
-        text += &format!("{v} {priority} 1 {ends};\n");
+        text += &format!("{v} {priority} 1 {},0;\n", (v + 1) % n);
         solution += &format!("{v} 0;\n");
     }
     let game = file("large-round.pg", text.as_bytes());

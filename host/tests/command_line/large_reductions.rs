@@ -130,7 +130,7 @@ fn names_and_ids() {
     let part = "reduced-gaps.pg: 4 vertices merged by their moves into 3, with 4 edges; the contract's own reducer, by the order of all pairs, may \
                 make it smaller yet: --then-order runs it";
     let text = told(run(&["reduce", &game, "--large", "--classes", &classes]), &[part]);
-    assert_eq!(text, "parity 2;\n0 2 0 2 \"door\";\n1 1 1 0;\n2 0 0 1,2 \"end\";\n");
+    assert_eq!(text, "parity 2;\nstart 1;\n0 2 0 2 \"door\";\n1 1 1 0;\n2 0 0 1,2 \"end\";\n");
     assert_eq!(numbers(&fs::read_to_string(&classes).expect("classes")), [0, 1, 0, 2]);
     let reduced = file("reduced-gaps.merged.pg", text.as_bytes());
     assert_eq!(

@@ -33,18 +33,82 @@ fn told_apart_by_the_first_word() {
 #[test]
 fn written_back() {
     let back = run_on(&["pgsolver"], GAPS.as_bytes()).text();
-    let expected = "parity 9;\n3 2 0 5,9 \"door, open\";\n5 1 1 3;\n9 0 0 9 \"clos\u{e9}\";\n";
-    assert_eq!(back, expected, "ids, names and priorities are kept");
+    let expected =
+        "parity 9;\nstart 3;\n3 2 0 5,9 \"door, open\";\n5 1 1 3;\n9 0 0 9 \"clos\u{e9}\";\n";
+    assert_eq!(back, expected, "ids, names, priorities and the start are kept");
     assert_eq!(run_on(&["pgsolver", "--lowest"], GAPS.as_bytes()).text(), expected);
     // Priorities go down by an even number where the least is above 1.
     let high = b"parity 1; 0 7 0 1; 1 4 1 0;";
     assert_eq!(run_on(&["pgsolver"], high).text(), "parity 1;\n0 3 0 1;\n1 0 1 0;\n");
     let edited = run_on(&["edit", "-", "--add", "5:9", "--remove", "3:5"], GAPS.as_bytes()).text();
-    assert_eq!(edited, "parity 9;\n3 2 0 9 \"door, open\";\n5 1 1 3,9;\n9 0 0 9 \"clos\u{e9}\";\n");
+    assert_eq!(
+        edited,
+        "parity 9;\nstart 3;\n3 2 0 9 \"door, open\";\n5 1 1 3,9;\n9 0 0 9 \"clos\u{e9}\";\n"
+    );
     let trace = file("pgsolver-trace.txt", b"1 / 1 / 2");
     let game = file("gaps.pg", GAPS.as_bytes());
     let replayed = run(&["replay", &game, &trace]).text();
     assert!(replayed.contains("\n5 1 1 3,9;\n"), "{replayed}");
+}
+
+#[test]
+fn without_a_first_line() {
+    let game = "parity 1;\n0 2 0 0,1;\n1 1 1 0;\n";
+    for text in [
+        "0 2 0 0,1;\n1 1 1 0;",
+        "# numbers, then; marks\n% of it\n0 2\n 0 0 , 1 ;1 1 1 0;",
+        "\u{feff}1 1 1 0;\n0 2 0 0,1;\n",
+        "parity;\n0 2 0 0,1;\n1 1 1 0;\n",
+    ] {
+        assert_eq!(run_on(&["pgsolver"], text.as_bytes()).text(), game, "{text}");
+        assert_eq!(run_on(&["reduce"], text.as_bytes()).text(), game, "{text}");
+        let large = run_on(&["reduce", "--large"], text.as_bytes());
+        assert_eq!(large.fails(0, &["2 vertices merged by their moves into 2"]), game, "{text}");
+    }
+    let started = game.replace("1;\n0 2", "1;\nstart 1;\n0 2");
+    for text in ["start 1;\n0 2 0 0,1;\n1 1 1 0;", "start 1; parity 1; 0 2 0 0,1; 1 1 1 0;"] {
+        assert_eq!(run_on(&["pgsolver"], text.as_bytes()).text(), started, "{text}");
+        let large = run_on(&["reduce", "--large"], text.as_bytes());
+        assert_eq!(large.fails(0, &["2 vertices merged"]), started, "{text}");
+    }
+    bad("0 2 0 0,3;", 2, &["line 1, id 0: successor 3 ", "as a semicolon ends its first line)"]);
+    bad("start 2;\n0 0 0 0;", 2, &["line 1, id 2: the start is no vertex of the file; name one"]);
+    bad("3, 3, 0", 2, &["line 1, word 1: `3,` is no number"]);
+    let words = ["check-plan", "games/c.txt", "-", "--player=even"];
+    run_on(&words, b"0 0 1;").fails(2, &["lines of a game or a solution in PGSolver's format; "]);
+}
+
+#[test]
+fn the_start_is_that_of_a_class() {
+    let twins = "parity 3; start 2; 0 1 0 1 \"a\"; 1 0 0 1 \"end\"; 2 1 1 1 \"b\"; 3 1 0 1;";
+    let reduced = "parity 1;\nstart 0;\n0 1 0 1 \"a\";\n1 0 0 1 \"end\";\n";
+    assert_eq!(run_on(&["reduce"], twins.as_bytes()).text(), reduced);
+    let large = run_on(&["reduce", "--large"], twins.as_bytes());
+    assert_eq!(large.fails(0, &["merged"]), reduced);
+}
+
+#[test]
+fn names_keep_their_bytes() {
+    // Latin-1, with a character of Windows' own; UTF-8; a name over two lines.
+    let game =
+        b"parity 2;\n0 0 0 1 \"clos\xe9 \x93\";\n1 1 0 2 \"clos\xc3\xa9\";\n2 2 0 0 \"a\nb\";\n";
+    assert_eq!(run_on(&["pgsolver"], game).bytes(), game);
+    assert_eq!(run_on(&["reduce"], game).bytes(), game);
+    assert_eq!(run_on(&["reduce", "--large"], game).out, game);
+    let report = run_on(&["report"], game).text();
+    let told = "vertex 0 \"clos\u{e9} ?\" class 0\nvertex 1 \"clos\u{e9}\" class 1\nvertex 2 \"a?b\" class 2\n";
+    assert!(report.contains(told), "{report}");
+    let sentence = run_on(&["report", "--vertex", "clos\u{e9} ?"], game).text();
+    assert!(sentence.starts_with("Vertex 0 "), "{sentence}");
+}
+
+#[test]
+fn files_above_16_mib() {
+    let commented = format!("parity 0;\n% {}\n0 0 0 0;\n", "x".repeat(1 << 24));
+    let report = run_on(&["report"], commented.as_bytes()).text();
+    assert!(report.starts_with("game 1 1\n"), "{report}");
+    let many: String = (0..1_000_000).map(|id| format!("{id} 0 0 {id};\n")).collect();
+    bad(&many, 2, &["line 1: 1000000 vertices and 1000000 edges; a game has at most ", "reduce"]);
 }
 
 #[test]
@@ -222,7 +286,7 @@ fn errors_have_line_id_and_remedy() {
             "add a line for 7",
         ),
         ("parity 1; start ;", "line 1: a semicolon instead of an id after `start`", "leave it out"),
-        ("0 0 0 0;\n", "line 1, word 4: `0;` is no number", "begins with `parity N;`"),
+        ("0 0 0 x;\n", "line 1, word 4: `x;` is no number", "begins with `parity N;`"),
     ];
     for (game, place, remedy) in rows {
         bad(game, 2, &[&format!("standard input: {place}"), "; ", remedy]);

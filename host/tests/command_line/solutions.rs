@@ -60,7 +60,7 @@ fn bad(solution: &str, status: i32, parts: &[&str]) {
 
 #[test]
 fn errors_have_line_vertex_and_remedy() {
-    bad("0 0 1;", 2, &["no solution, whose first word is `paritysol`; write"]);
+    bad("0 0 1", 2, &["no solution, whose first word is `paritysol`; write"]);
     bad("paritysol x;", 2, &["line 1: `x` instead of the highest id; write `paritysol N;`"]);
     bad(
         "paritysol 1;\n0;",
@@ -99,6 +99,28 @@ fn errors_have_line_vertex_and_remedy() {
         &["Even is said to win from vertex 0, but vertex 3 shows that the plan fails: refused 16 at 2: ",
           "; here a walk of 1 link by vertices 3 -> 3, with lowest priority 1; "],
     );
+}
+
+#[test]
+fn without_a_first_line_and_with_no_move() {
+    let plan = run(&["plan", "games/c.txt", "games/c.sol", "--vertex=0"]).text();
+    let lines = "0 0 2;\n1 1 -1;\n2 0 4 \"end\";\n3 1 -1;\n4 0 4;\n";
+    for solution in [lines.to_string(), format!("# solved\nparitysol 4;\n{lines}")] {
+        let game = ["plan", "games/c.txt", "-", "--vertex=0"];
+        assert_eq!(run_on(&game, solution.as_bytes()).text(), plan);
+    }
+    bad("0 0 -1;\n", 2, &["line 1, vertex 0: no strategy, though the vertex is its winner's; "]);
+    let game = file("start.pg", b"start 1;\n0 2 0 0;\n1 1 1 0,1;\n");
+    let solution = file("start.sol", b"0 0 0;\n1 1 1;\n");
+    let text = run(&["plan", &game, &solution]).text();
+    assert!(text.starts_with("# This plan wins for Odd from vertex 1.\n"), "{text}");
+    let text = run(&["check-solution", &game, &solution, "--start"]).text();
+    assert_eq!(text, "right: Even wins at 1 vertex, Odd at 1\nOdd wins at the start, vertex 1\n");
+    let plan = file("start.plan.txt", run(&["plan", &game, &solution]).text().as_bytes());
+    let verdict = run(&["verdict", &game, &plan, "--player=odd"]).text();
+    assert!(verdict.starts_with("wins: Odd wins at vertex 1, "), "{verdict}");
+    let carried = run(&["carry", &game, &plan, "--player=odd"]).text();
+    assert!(carried.starts_with("# This plan wins for Odd from vertex 1, "), "{carried}");
 }
 
 #[test]

@@ -93,20 +93,10 @@ impl Game {
         })
     }
 
-    /// What the classes of its vertices are called: by their numbers, and where a PGSolver file gave the
-    /// game, by the name of the lowest member.
+    /// What the classes of its vertices are called.
     pub fn class_vertices(&self, classes: &[u16]) -> Vertices {
-        let vertices = &self.input.vertices;
-        if !vertices.of_pgsolver() {
-            return Vertices::default();
-        }
-        let name = |members: &Vec<usize>| vertices.name(members[0]).map(String::from);
-        let names: Vec<Option<String>> = members(classes).iter().map(name).collect();
-        let named = Vertices::named((0..names.len() as u64).collect(), names);
-        match vertices.even() {
-            Some(even) => named.converted(even),
-            None => named,
-        }
+        let lowest: Vec<usize> = members(classes).iter().map(|members| members[0]).collect();
+        self.input.vertices.of_classes(classes, &lowest)
     }
 
     /// The order.

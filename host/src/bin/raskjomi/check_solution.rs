@@ -15,7 +15,7 @@ use std::io::{self, BufWriter};
 /// How games of any size are given.
 pub const GAMES: &str =
     "A game may have any number of vertices and edges that 32 bits can count. It comes from a file, or from standard input, whose name is -, \
-     in PGSolver's format, where its first word is `parity` and the highest priority decides, or as words in the layout of the other commands: \
+     in PGSolver's format, where the highest priority decides, or as words in the layout of the other commands: \
      decimal text, or binary, 32-bit or 16-bit words, low byte first. A file is read once, from its start to its end, and names are kept as \
      long as they take less than 8 bytes for each edge and a MiB.";
 

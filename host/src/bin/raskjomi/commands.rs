@@ -350,12 +350,12 @@ pub fn check_plan(arguments: &Arguments) -> Written {
 
 /// `carry`.
 pub fn carry(arguments: &Arguments) -> Written {
-    let (player, vertex) =
-        (arguments.player()?, vertex_given(arguments, "the plan is to start at")?);
+    let player = arguments.player()?;
     let as_words = as_words(arguments, "carry")?;
     let (game, plan) = two_inputs(arguments)?;
+    let vertex = vertex_given(arguments, &game.vertices, "the plan is to start at")?;
     let game = Game::of(game)?;
-    let vertex = game.vertex(vertex, "--vertex")? as u32;
+    let vertex = game.vertex(&vertex, "--vertex")? as u32;
     let class = arguments.has("--class");
     let write = if class { Game::carry_class } else { Game::carry };
     let words = write(&game, player, &plan.numbers, vertex)
@@ -374,10 +374,11 @@ pub fn carry(arguments: &Arguments) -> Written {
 
 /// `verdict`: in a sentence, what is confirmed of a player and a vertex, or what is left open.
 pub fn verdict(arguments: &Arguments) -> Written {
-    let (player, vertex) = (arguments.player()?, vertex_given(arguments, "the verdict is about")?);
+    let player = arguments.player()?;
     let (game, plan) = two_inputs(arguments)?;
+    let vertex = vertex_given(arguments, &game.vertices, "the verdict is about")?;
     let game = Game::of(game).map_err(Failure::with_verdict)?;
-    let vertex = game.vertex(vertex, "--vertex")? as u32;
+    let vertex = game.vertex(&vertex, "--vertex")? as u32;
     let (verdict, classes) = game.verdict(vertex, player, &plan.numbers);
     if let Verdict::Refused(refusal) = verdict {
         return Err(carry_refused(refusal, &game, &plan, vertex, true).with_verdict());
@@ -417,9 +418,14 @@ fn answer(shown: bool, output: String) -> Written {
     }
 }
 
-/// The word of `--vertex`, for what it is used.
-pub fn vertex_given<'a>(arguments: &'a Arguments, use_of_it: &str) -> Result<&'a str, Failure> {
-    arguments.value("--vertex").ok_or_else(|| {
+/// The word of `--vertex`, or the id of the start that the game's file names, for what it is used.
+pub fn vertex_given(
+    arguments: &Arguments,
+    vertices: &Vertices,
+    use_of_it: &str,
+) -> Result<String, Failure> {
+    let start = || vertices.start().map(|start| vertices.id(start).to_string());
+    arguments.value("--vertex").map(String::from).or_else(start).ok_or_else(|| {
         Failure::usage(format!("no vertex; write --vertex with the vertex that {use_of_it}"))
     })
 }

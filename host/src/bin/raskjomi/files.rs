@@ -27,9 +27,9 @@ Command {
 },
 Command {
     name: "plan",
-    usage: "plan GAME SOLUTION --vertex V [--as text|words]",
+    usage: "plan GAME SOLUTION [--vertex V] [--as text|words]",
     summary: "a plan for the winner of a vertex, from a solver's solution, judged",
-    details: "SOLUTION is a file as PGSolver and Oink write it: `paritysol N;`, then `id winner strategy;` \
+    details: "SOLUTION is a file as PGSolver and Oink write it: `paritysol N;`, which may be missing, then `id winner strategy;` \
               for each vertex, 0 for Even and 1 for Odd, with a strategy where the vertex is its \
               winner's. The strategy becomes a plan that starts at V, for the player who is said to win \
               there. It is written only if `check-plan` accepts it, so a solution with a mistake is found \
@@ -45,11 +45,11 @@ Command {
 
 /// `plan`.
 fn plan(arguments: &Arguments) -> Written {
-    let word = vertex_given(arguments, "the plan is to start at")?;
     let as_words = as_words(arguments, "plan")?;
     let game = Game::load(arguments.file(0))?;
+    let word = vertex_given(arguments, &game.input.vertices, "the plan is to start at")?;
     let (name, text) = Input::solution(arguments.file(1))?;
-    let vertex = game.vertex(word, "--vertex")?;
+    let vertex = game.vertex(&word, "--vertex")?;
     let (table, vertices) = (game.table(), &game.input.vertices);
     let (player, words) = Solution::parse(&name, &text)?.plan(&table, vertices, vertex)?;
     let (winner, label) = (name_of(player), vertices.label(vertex));

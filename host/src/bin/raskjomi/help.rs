@@ -91,8 +91,10 @@ const GAMES: &str = "A game comes from a file, or from standard input, whose nam
                      binary. The words are: number of vertices, number of edges, priorities, owners \
                      (0 Even, 1 Odd), sources of the edges, targets of the edges. An edge may stand \
                      several times: it counts as one edge of the game, but each time among the words. A \
-                     game whose first word is `parity` is in PGSolver's format, in which the highest \
-                     priority decides: it is read through `convert`, and written back through it.";
+                     game whose first word is `parity` or `start`, or whose first line ends with a \
+                     semicolon, is in PGSolver's format, in which the highest priority decides: it is \
+                     read through `convert`, and written back through it. A \
+                     successor that stands twice there is one edge.";
 
 /// How options are written.
 const OPTIONS: &str =
@@ -209,7 +211,7 @@ pub const COMMANDS: [Command; 16] = [
     },
     Command {
         name: "carry",
-        usage: "carry GAME PLAN --player even|odd --vertex V [--class] [--as text|words]",
+        usage: "carry GAME PLAN --player even|odd [--vertex V] [--class] [--as text|words]",
         summary: "a winning plan, carried to another vertex",
         details:
             "PLAN is given as for `check-plan`, wins for the player, and starts at the vertex of its \
@@ -233,7 +235,7 @@ pub const COMMANDS: [Command; 16] = [
     },
     Command {
         name: "verdict",
-        usage: "verdict GAME PLAN --vertex V --player even|odd [--json]",
+        usage: "verdict GAME PLAN [--vertex V] --player even|odd [--json]",
         summary: "whether a plan on the reduced game shows that a player wins at a vertex",
         details:
             "PLAN is given as for `check-plan`, and is on the reduced game, as `reduce` writes it. Where it wins \

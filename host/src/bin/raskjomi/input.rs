@@ -53,11 +53,11 @@ pub struct Input {
     places: Places,
 }
 
-/// The most bytes of an input: 16 MiB, with much room for comments.
+/// The most bytes of an input that isn't in PGSolver's format: 16 MiB, with much room for comments.
 pub const MOST_BYTES: usize = 1 << 24;
 
 impl Input {
-    /// Reads a game, in PGSolver's format if its first word says so.
+    /// Reads a game, in PGSolver's format if its first word or line says so.
     pub fn game(source: Source) -> Result<Input, Failure> {
         Bytes::read(source)?.game(source.lowest)
     }
@@ -73,24 +73,26 @@ impl Input {
         if bytes.is_packed(unit) {
             return bytes.numbers(unit);
         }
-        if bytes.in_format(pgsolver::GAME).is_some() {
-            return Err(bytes
-                .bad("a game in PGSolver's format, where no game is wanted; name the game first"));
-        }
-        if bytes.in_format(SOLUTION).is_some() {
-            return Err(bytes.bad(
+        match bytes.format() {
+            Some(Format::Game) => Err(bytes
+                .bad("a game in PGSolver's format, where no game is wanted; name the game first")),
+            Some(Format::Solution) => Err(bytes.bad(
                 "a solution in PGSolver's format; make it into a plan by raskjomi plan GAME SOLUTION --vertex V",
-            ));
+            )),
+            Some(Format::Lines) => Err(bytes.bad(
+                "lines of a game or a solution in PGSolver's format; name the game first, and make a solution \
+                 into a plan by raskjomi plan GAME SOLUTION --vertex V",
+            )),
+            None => bytes.numbers(unit),
         }
-        bytes.numbers(unit)
     }
 
     /// The name and the text of a solution in PGSolver's format.
-    pub fn solution(source: Source) -> Result<(String, String), Failure> {
+    pub fn solution(source: Source) -> Result<(String, Vec<u8>), Failure> {
         let bytes = Bytes::read(source)?;
-        match bytes.in_format(SOLUTION) {
-            Some(text) => Ok((bytes.name, text)),
-            None => Err(bytes.bad(
+        match bytes.format() {
+            Some(Format::Solution | Format::Lines) => Ok((bytes.name, bytes.bytes)),
+            _ => Err(bytes.bad(
                 "no solution, whose first word is `paritysol`; write `paritysol N;`, with N the highest id, \
                  then a line `id winner strategy;` for each vertex",
             )),
@@ -150,6 +152,15 @@ impl Input {
     }
 }
 
+/// What is in PGSolver's formats.
+#[derive(Clone, Copy)]
+enum Format {
+    Game,
+    Solution,
+    /// Lines without a first word, of a game or a solution.
+    Lines,
+}
+
 /// The bytes of an input.
 struct Bytes {
     name: String,
@@ -160,40 +171,56 @@ struct Bytes {
 impl Bytes {
     fn read(source: Source) -> Result<Bytes, Failure> {
         let (name, form) = (source.name(), source.form);
-        let bytes = all_bytes(source).map_err(|error| source.unreadable(&error))?;
-        if bytes.len() > MOST_BYTES {
+        let unreadable = |error: io::Error| source.unreadable(&error);
+        let (mut input, mut first) = (source.open().map_err(unreadable)?, Vec::new());
+        let taken = input.by_ref().take(MOST_BYTES as u64 + 1).read_to_end(&mut first);
+        taken.map_err(unreadable)?;
+        let mut bytes = Bytes { name, bytes: first, form };
+        if bytes.bytes.len() <= MOST_BYTES {
+            return Ok(bytes);
+        }
+        let Some(_) = bytes.format() else {
             let (n, m) = (raskjomi::MOST_VERTICES, raskjomi::MOST_EDGES);
             return Err(Failure::usage(format!(
-                "{name}: more than 16 MiB, the most that is read; a game has at most {n} vertices and {m} \
-                 edges: name a file that can be read; {LARGER}"
+                "{}: more than 16 MiB, the most that is read; a game has at most {n} vertices and {m} \
+                 edges: name a file that can be read; {LARGER}",
+                bytes.name
             )));
-        }
-        Ok(Bytes { name, bytes, form })
+        };
+        input.read_to_end(&mut bytes.bytes).map_err(unreadable)?;
+        Ok(bytes)
     }
 
     /// A game.
     fn game(self, lowest: bool) -> Result<Input, Failure> {
-        if self.in_format(SOLUTION).is_some() {
-            return Err(self.bad(
-                "a solution in PGSolver's format, where a game is wanted; name the game, or see raskjomi plan",
-            ));
-        }
-        match self.in_format(pgsolver::GAME) {
-            Some(text) => from_pgsolver(self.name, &text, lowest),
-            None => self.numbers(Unit::Word),
-        }
+        let why = match self.format() {
+            None => return self.numbers(Unit::Word),
+            Some(Format::Solution) => {
+                return Err(self.bad(
+                    "a solution in PGSolver's format, where a game is wanted; name the game, or see raskjomi plan",
+                ))
+            }
+            Some(Format::Game) => "as its first word is `parity` or `start`",
+            Some(Format::Lines) => "as a semicolon ends its first line",
+        };
+        from_pgsolver(self.name, &self.bytes, lowest, why)
     }
 
     fn bad(&self, what: &str) -> Failure {
         Failure::usage(format!("{}: {what}", self.name))
     }
 
-    /// The text, if it is in a format of PGSolver's, whose first word this is.
-    fn in_format(&self, first: &str) -> Option<String> {
-        let text = String::from_utf8_lossy(&self.bytes);
-        let text = text.trim_start_matches('\u{feff}');
-        let is_text = self.form != Some(Encoding::Binary);
-        (is_text && scanner::first_word(text).as_deref() == Some(first)).then(|| text.to_string())
+    /// What it is of PGSolver's, if it is anything.
+    fn format(&self) -> Option<Format> {
+        if self.form == Some(Encoding::Binary) {
+            return None;
+        }
+        match scanner::first_word(&self.bytes).as_deref() {
+            Some(pgsolver::GAME | pgsolver::START) => Some(Format::Game),
+            Some(SOLUTION) => Some(Format::Solution),
+            Some(_) => None,
+            None => scanner::is_statement(&self.bytes).then_some(Format::Lines),
+        }
     }
 
     /// Whether they are marks, eight in a byte, where nobody says what they are.
@@ -241,12 +268,6 @@ impl Bytes {
         let code = self.bytes[byte];
         self.bad(&format!("line {line}, column {column}: control character {code}; {remedy}"))
     }
-}
-
-fn all_bytes(source: Source) -> io::Result<Vec<u8>> {
-    let mut bytes = Vec::new();
-    source.open()?.take(MOST_BYTES as u64 + 1).read_to_end(&mut bytes)?;
-    Ok(bytes)
 }
 
 /// The first control character that isn't a blank.
@@ -307,11 +328,9 @@ fn from_text(name: String, bytes: &[u8], unit: Unit) -> Result<Input, Failure> {
 
 /// A game in PGSolver's format: through the conversion, unless the lowest priority decides there, too.
 /// One that the reader refuses keeps its priorities: the call that gets it tells why.
-fn from_pgsolver(name: String, text: &str, lowest: bool) -> Result<Input, Failure> {
+fn from_pgsolver(name: String, text: &[u8], lowest: bool, why: &str) -> Result<Input, Failure> {
     let parsed = pgsolver::parse(text).map_err(|problem| {
-        Failure::usage(format!(
-            "{name}: {problem} (it is read in PGSolver's format, as its first word is `parity`)"
-        ))
+        Failure::usage(format!("{name}: {problem} (it is read in PGSolver's format, {why})"))
     })?;
     if let Some(repeats) = &parsed.repeats {
         tell(&format!("{name}: {repeats}"));

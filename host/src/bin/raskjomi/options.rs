@@ -35,9 +35,9 @@ pub fn apart(command: &Command) -> impl Iterator<Item = Vec<&'static str>> {
 pub fn about(command: &str, option: &str) -> &'static str {
     match (command, option) {
         ("report", "--vertex") => "one sentence on this vertex alone",
-        ("plan", "--vertex") => "where the plan is to start",
-        ("carry", "--vertex") => "where the carried plan is to start",
-        ("verdict", "--vertex") => "where the player is to win",
+        ("plan", "--vertex") => "where the plan is to start, if not at the file's `start`",
+        ("carry", "--vertex") => "where the carried plan is to start, if not at the file's `start`",
+        ("verdict", "--vertex") => "where the player is to win, if not at the file's `start`",
         ("check-solution", "--vertex") => "say who wins at this vertex, too",
         (_, "--start") => "say who wins at the vertex that the file names by `start ID;`, too",
         (_, "--certificate") => "check by the certificate in FILE, and make none",

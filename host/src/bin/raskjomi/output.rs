@@ -50,7 +50,7 @@ impl Output<'_> {
 
     fn pgsolver(&self, lowest: bool) -> Result<Vec<u8>, Failure> {
         let written = pgsolver::write(&self.table, self.vertices, lowest);
-        written.map(Vec::from).map_err(|refusal| {
+        written.map_err(|refusal| {
             let vertex = self.vertices.label(refusal.place - 2);
             let remedy = refusal.explanation().remedy;
             let place = format!("{}: vertex {vertex}, for PGSolver's format", self.title);

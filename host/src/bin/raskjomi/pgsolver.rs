@@ -7,10 +7,12 @@ use crate::vertices::Vertices;
 use raskjomi::large::Repeats;
 use raskjomi::Refusal;
 use std::collections::{HashMap, HashSet};
-use std::fmt::Write;
 
-/// The first word of a game.
+/// The first word of a game, where its file has one.
 pub const GAME: &str = "parity";
+
+/// The word before the id of the vertex that a game starts at.
+pub const START: &str = "start";
 
 /// A line of the file: a vertex.
 struct Vertex {
@@ -19,7 +21,7 @@ struct Vertex {
     priority: u16,
     owner: u16,
     successors: Vec<u64>,
-    name: Option<String>,
+    name: Option<Vec<u8>>,
 }
 
 /// A game as the file has it: the words of its table, each with the line and the id that it comes from,
@@ -32,36 +34,75 @@ pub struct Parsed {
     pub repeats: Option<Repeats>,
 }
 
+/// A game as its lines come in.
+#[derive(Default)]
+struct Draft {
+    /// The line of the header, and the highest id that it names.
+    header: Option<(usize, Option<u64>)>,
+    /// The line of the start, and its id.
+    start: Option<(usize, u64)>,
+    /// The vertices, as long as words can number them.
+    vertices: Vec<Vertex>,
+    lines: HashMap<u64, usize>,
+    /// How many vertices and edges the file has.
+    sizes: (usize, usize),
+    repeats: Option<Repeats>,
+}
+
 /// Reads a game. Vertices are numbered by ascending id, and edges stand as the file lists them, each once.
-pub fn parse(text: &str) -> Result<Parsed, Problem> {
-    let mut scanner = Scanner::new(text);
-    let (line, most) = header(&mut scanner)?;
-    let mut vertices: Vec<Vertex> = Vec::new();
-    let mut lines = HashMap::new();
-    let mut repeats = None;
+pub fn parse(text: &[u8]) -> Result<Parsed, Problem> {
+    let (mut scanner, mut draft) = (Scanner::new(text), Draft::default());
     while let Some((line, token)) = scanner.next()? {
-        if token == Token::Word("start".into()) {
-            start(&mut scanner)?;
-            continue;
+        let is_first = draft.header.is_none() && draft.vertices.is_empty();
+        match token {
+            Token::Word(word) if word == START => draft.start = Some(start(&mut scanner)?),
+            Token::Word(word) if word == GAME && is_first => {
+                draft.header = Some((line, header(&mut scanner, line)?));
+            }
+            token => draft.add(vertex(&mut scanner, line, token)?)?,
         }
-        let mut vertex = vertex(&mut scanner, line, token)?;
-        Repeats::add(&mut repeats, line as u64, vertex.id, vertex.drop_repeats());
+    }
+    draft.finished()
+}
+
+impl Draft {
+    /// Takes the next vertex.
+    fn add(&mut self, mut vertex: Vertex) -> Result<(), Problem> {
+        let line = vertex.line;
+        Repeats::add(&mut self.repeats, line as u64, vertex.id, vertex.drop_repeats());
+        self.sizes = (self.sizes.0 + 1, self.sizes.1 + vertex.successors.len());
+        if sizes(line, self.sizes).is_err() {
+            return Ok(());
+        }
         let problem = |what, remedy| Err(Problem::at(line, Some(vertex.id), what, remedy));
+        let most = self.header.and_then(|(_, most)| most);
         if most.is_some_and(|most| vertex.id > most) {
             return problem(
                 "the id is above the highest id that the first line names".into(),
                 format!("write `parity {};` there, or more", vertex.id),
             );
         }
-        if let Some(before) = lines.insert(vertex.id, line) {
+        if let Some(before) = self.lines.insert(vertex.id, line) {
             return problem(
                 format!("line {before} has this id already"),
                 "give each vertex an id of its own".into(),
             );
         }
-        vertices.push(vertex);
+        self.vertices.push(vertex);
+        Ok(())
     }
-    Ok(Parsed { repeats, ..laid_out(line, vertices)? })
+
+    /// The game of all lines.
+    fn finished(self) -> Result<Parsed, Problem> {
+        let line = self.header.map_or(1, |(line, _)| line);
+        let sizes = sizes(line, self.sizes)?;
+        if let Some((line, id)) = self.start.filter(|(_, id)| !self.lines.contains_key(id)) {
+            let what = "the start is no vertex of the file".into();
+            return Err(Problem::at(line, Some(id), what, "name one of its vertices".into()));
+        }
+        let start = self.start.map(|(_, id)| id);
+        Ok(Parsed { repeats: self.repeats, ..laid_out(line, sizes, start, self.vertices)? })
+    }
 }
 
 impl Vertex {
@@ -73,24 +114,24 @@ impl Vertex {
     }
 }
 
-/// `parity N;`, where N, the highest id, may be missing: its line, and N.
-fn header(scanner: &mut Scanner) -> Result<(usize, Option<u64>), Problem> {
-    let (line, _) = scanner.next()?.expect("the first word was seen");
+/// `parity N;` from N on, where N, the highest id, may be missing.
+fn header(scanner: &mut Scanner, line: usize) -> Result<Option<u64>, Problem> {
     let remedy = "write `parity N;`, with N the highest id";
     let most = match scanner.next()? {
-        Some((_, Token::Semicolon)) => return Ok((line, None)),
+        Some((_, Token::Semicolon)) => return Ok(None),
         Some((_, Token::Number(most))) => most,
         found => return Err(Problem::unexpected(found, line, None, "the highest id", remedy)),
     };
     scanner.end(line, None, remedy)?;
-    Ok((line, Some(most)))
+    Ok(Some(most))
 }
 
-/// `start id;`, which some tools write: it says nothing about the game.
-fn start(scanner: &mut Scanner) -> Result<(), Problem> {
+/// `start id;` from the id on: its line, and the id.
+fn start(scanner: &mut Scanner) -> Result<(usize, u64), Problem> {
     let remedy = "write `start ID;`, or leave it out";
     let (line, id) = scanner.number(None, "an id after `start`", remedy)?;
-    scanner.end(line, Some(id), remedy)
+    scanner.end(line, Some(id), remedy)?;
+    Ok((line, id))
 }
 
 /// A vertex, from its id on.
@@ -121,7 +162,7 @@ fn successors(
     line: usize,
     id: u64,
     remedy: &str,
-) -> Result<(Vec<u64>, Option<String>), Problem> {
+) -> Result<(Vec<u64>, Option<Vec<u8>>), Problem> {
     let mut successors: Vec<u64> = Vec::new();
     let mut next = scanner.next()?;
     while let Some((_, Token::Number(successor))) = next {
@@ -149,8 +190,12 @@ fn successors(
 }
 
 /// The table of the vertices. Sizes above the limits stand at the first vertex or edge too many.
-fn laid_out(header: usize, mut vertices: Vec<Vertex>) -> Result<Parsed, Problem> {
-    let sizes = sizes(header, &vertices)?;
+fn laid_out(
+    header: usize,
+    sizes: [u16; 2],
+    start: Option<u64>,
+    mut vertices: Vec<Vertex>,
+) -> Result<Parsed, Problem> {
     let place = |vertex: &Vertex| (vertex.line, Some(vertex.id));
     let vertex_too_many = vertices.get(raskjomi::MOST_VERTICES).map_or((header, None), place);
     vertices.sort_by_key(|vertex| vertex.id);
@@ -162,31 +207,32 @@ fn laid_out(header: usize, mut vertices: Vec<Vertex>) -> Result<Parsed, Problem>
     let column = |of: fn(&Vertex) -> u16| vertices.iter().map(of).collect::<Vec<u16>>();
     let [priorities, owners] = [column(|vertex| vertex.priority), column(|vertex| vertex.owner)];
     let first = vec![vertex_too_many, edge_too_many];
+    let start = start.and_then(|id| vertices.iter().position(|vertex| vertex.id == id));
     Ok(Parsed {
         words: [sizes.to_vec(), priorities, owners, sources, targets].concat(),
         places: [first, each.clone(), each, of_edges.clone(), of_edges].concat(),
         vertices: Vertices::named(
             vertices.iter().map(|vertex| vertex.id).collect(),
             vertices.into_iter().map(|vertex| vertex.name).collect(),
+            start,
         ),
         repeats: None,
     })
 }
 
 /// The numbers of vertices and of edges, if they fit words.
-fn sizes(header: usize, vertices: &[Vertex]) -> Result<[u16; 2], Problem> {
-    let edges: usize = vertices.iter().map(|vertex| vertex.successors.len()).sum();
+fn sizes(line: usize, (vertices, edges): (usize, usize)) -> Result<[u16; 2], Problem> {
     let size = |count: usize| {
         u16::try_from(count).map_err(|_| {
-            let what = format!("{} vertices and {edges} edges", vertices.len());
+            let what = format!("{vertices} vertices and {edges} edges");
             let (n, m) = (raskjomi::MOST_VERTICES, raskjomi::MOST_EDGES);
             let remedy = format!(
                 "a game has at most {n} vertices and {m} edges; bring a part of it; {LARGER}"
             );
-            Problem::at(header, None, what, remedy)
+            Problem::at(line, None, what, remedy)
         })
     };
-    Ok([size(vertices.len())?, size(edges)?])
+    Ok([size(vertices)?, size(edges)?])
 }
 
 /// The ends of all edges, as numbers of vertices, which stand by ascending id.
@@ -206,24 +252,33 @@ fn ends(vertices: &[Vertex]) -> Result<Vec<(u16, u16)>, Problem> {
     Ok(ends)
 }
 
-/// A table where the lowest priority decides, in PGSolver's format, each edge once; through the conversion,
-/// as its readers let the highest decide, unless they are told to let the lowest.
-pub fn write(table: &Table, vertices: &Vertices, lowest: bool) -> Result<String, Refusal> {
-    let mut words = table.words().to_vec();
-    if !lowest {
-        raskjomi::convert(table.words(), &mut words)?;
-    }
-    let priorities = Table::new(&words).priorities();
+/// A table where the lowest priority decides, in PGSolver's format, each edge once.
+pub fn write(table: &Table, vertices: &Vertices, lowest: bool) -> Result<Vec<u8>, Refusal> {
+    let priorities = priorities(table, lowest)?;
     let mut successors = vec![Vec::new(); table.n()];
     for (source, target) in table.edges() {
         successors[source as usize].push(vertices.id(target as usize).to_string());
     }
-    let mut text = format!("parity {};\n", vertices.id(table.n() - 1));
+    let mut text = format!("{GAME} {};\n", vertices.id(table.n() - 1)).into_bytes();
+    if let Some(start) = vertices.start() {
+        text.extend(format!("{START} {};\n", vertices.id(start)).bytes());
+    }
     for (v, successors) in successors.iter().enumerate() {
         let (id, owner) = (vertices.id(v), table.owners()[v]);
-        let name = vertices.name(v).map_or(String::new(), |name| format!(" \"{name}\""));
-        writeln!(text, "{id} {} {owner} {}{name};", priorities[v], successors.join(","))
-            .expect("a string takes all");
+        text.extend(format!("{id} {} {owner} {}", priorities[v], successors.join(",")).bytes());
+        let name = vertices.name_bytes(v).map(|name| [b" \"", name, b"\""].concat());
+        text.extend(name.unwrap_or_default());
+        text.extend(b";\n");
     }
     Ok(text)
+}
+
+/// The priorities to write. Readers of the format let the highest decide, unless they are told to let the
+/// lowest: so they come through the conversion.
+fn priorities(table: &Table, lowest: bool) -> Result<Vec<u16>, Refusal> {
+    let mut words = table.words().to_vec();
+    if !lowest {
+        raskjomi::convert(table.words(), &mut words)?;
+    }
+    Ok(Table::new(&words).priorities().to_vec())
 }

@@ -8,7 +8,7 @@ use crate::output::form_given;
 use crate::progress::watch;
 use crate::source::plain_error;
 use crate::{tell, text};
-use raskjomi::large::write_game;
+use raskjomi::large::{write_game_as, Style};
 use raskjomi::{LargeGame, LargeReduction};
 use std::fs;
 
@@ -145,7 +145,8 @@ fn written(of: &Loaded, form: Option<Form>, lowest: bool) -> Written {
         Form::Words => Ok(words.iter().flat_map(|word| word.to_le_bytes()).collect()),
         Form::Pgsolver => {
             let mut bytes = Vec::new();
-            let written = write_game(&mut bytes, words, &of.vertices, lowest);
+            let style = Style { lowest, even: of.even, start: of.start };
+            let written = write_game_as(&mut bytes, words, &of.vertices, style);
             written.map_err(|error| Failure::usage(format!("{}: {error}", of.name)))?;
             Ok(bytes)
         }

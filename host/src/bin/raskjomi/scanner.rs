@@ -1,15 +1,14 @@
 //! The tokens of PGSolver's formats, with their lines.
 
 use std::fmt;
-use std::iter::Peekable;
-use std::str::Chars;
 
 /// A token.
 #[derive(Clone, Debug, PartialEq, Eq)]
 pub enum Token {
     Number(u64),
     Word(String),
-    Name(String),
+    /// The bytes of a name, in whatever encoding.
+    Name(Vec<u8>),
     Comma,
     Semicolon,
 }
@@ -70,42 +69,70 @@ impl fmt::Display for Problem {
 
 /// The tokens of a text one after the other.
 pub struct Scanner<'a> {
-    rest: Peekable<Chars<'a>>,
+    rest: &'a [u8],
     line: usize,
 }
 
 /// The first word of a text, whatever comments come before it.
-pub fn first_word(text: &str) -> Option<String> {
+pub fn first_word(text: &[u8]) -> Option<String> {
     let mut scanner = Scanner::new(text);
     scanner.skip_blanks();
-    Some(scanner.taken(|c| c.is_ascii_alphabetic())).filter(|word| !word.is_empty())
+    let word = scanner.taken(|byte| byte.is_ascii_alphabetic());
+    (!word.is_empty()).then(|| lossy(word))
 }
 
-impl Scanner<'_> {
-    pub fn new(text: &str) -> Scanner<'_> {
-        Scanner { rest: text.chars().peekable(), line: 1 }
+/// Whether a text begins with a statement: numbers, commas and names up to a semicolon.
+pub fn is_statement(text: &[u8]) -> bool {
+    let mut scanner = Scanner::new(text);
+    let mut is_first = true;
+    loop {
+        match scanner.next() {
+            Ok(Some((_, Token::Number(_)))) => is_first = false,
+            Ok(Some((_, Token::Comma | Token::Name(_)))) if !is_first => (),
+            Ok(Some((_, Token::Word(word)))) if word == NO_MOVE && !is_first => (),
+            Ok(Some((_, Token::Semicolon))) => return !is_first,
+            _ => return false,
+        }
+    }
+}
+
+/// What some solutions have in place of a strategy.
+pub const NO_MOVE: &str = "-1";
+
+fn lossy(bytes: &[u8]) -> String {
+    String::from_utf8_lossy(bytes).into()
+}
+
+impl<'a> Scanner<'a> {
+    /// The tokens of a text; a mark of the byte order at its start is passed.
+    pub fn new(text: &'a [u8]) -> Scanner<'a> {
+        let text = text.strip_prefix("\u{feff}".as_bytes()).unwrap_or(text);
+        Scanner { rest: text, line: 1 }
     }
 
     /// The next token with its line, or none at the end.
     pub fn next(&mut self) -> Result<Option<(usize, Token)>, Problem> {
         self.skip_blanks();
         let line = self.line;
-        let Some(&first) = self.rest.peek() else { return Ok(None) };
+        let Some(&first) = self.rest.first() else { return Ok(None) };
         let token = match first {
-            ',' | ';' => {
-                self.rest.next();
-                if first == ',' {
+            b',' | b';' => {
+                self.rest = &self.rest[1..];
+                if first == b',' {
                     Token::Comma
                 } else {
                     Token::Semicolon
                 }
             }
-            '"' => self.name()?,
+            b'"' => self.name()?,
             _ if first.is_ascii_digit() => {
-                let digits = self.taken(|c| c.is_ascii_alphanumeric());
+                let digits = lossy(self.taken(|byte| byte.is_ascii_alphanumeric()));
                 digits.parse().map_or(Token::Word(digits), Token::Number)
             }
-            _ => Token::Word(self.taken(|c| !c.is_whitespace() && !",;\"".contains(c))),
+            _ => {
+                let is_of_word = |byte| !is_blank(byte) && !b",;\"".contains(&byte);
+                Token::Word(lossy(self.taken(is_of_word)))
+            }
         };
         Ok(Some((line, token)))
     }
@@ -131,13 +158,16 @@ impl Scanner<'_> {
         }
     }
 
-    /// A name between quotes, with a question mark for each control character.
+    /// A name between quotes.
     fn name(&mut self) -> Result<Token, Problem> {
         let line = self.line;
-        self.rest.next();
-        let name = self.taken(|c| c != '"');
-        match self.rest.next() {
-            Some(_) => Ok(Token::Name(name.replace(char::is_control, "?"))),
+        self.rest = &self.rest[1..];
+        let name = self.taken(|byte| byte != b'"');
+        match self.rest.split_first() {
+            Some((_, rest)) => {
+                self.rest = rest;
+                Ok(Token::Name(name.to_vec()))
+            }
             None => Err(Problem::at(
                 line,
                 None,
@@ -150,22 +180,24 @@ impl Scanner<'_> {
     /// Passes over blanks, and over comments: from #, % or // to the end of the line.
     fn skip_blanks(&mut self) {
         loop {
-            self.taken(char::is_whitespace);
-            let mut ahead = self.rest.clone();
-            match (ahead.next(), ahead.next()) {
-                (Some('#' | '%'), _) | (Some('/'), Some('/')) => self.taken(|c| c != '\n'),
+            self.taken(is_blank);
+            match self.rest {
+                [b'#' | b'%', ..] | [b'/', b'/', ..] => self.taken(|byte| byte != b'\n'),
                 _ => return,
             };
         }
     }
 
-    /// Takes the characters that pass, and counts lines.
-    fn taken(&mut self, pass: impl Fn(char) -> bool) -> String {
-        let mut taken = String::new();
-        while let Some(c) = self.rest.next_if(|&c| pass(c)) {
-            self.line += usize::from(c == '\n');
-            taken.push(c);
-        }
+    /// Takes the bytes that pass, and counts lines.
+    fn taken(&mut self, pass: impl Fn(u8) -> bool) -> &'a [u8] {
+        let end = self.rest.iter().position(|&byte| !pass(byte)).unwrap_or(self.rest.len());
+        let (taken, rest) = self.rest.split_at(end);
+        self.line += taken.iter().filter(|&&byte| byte == b'\n').count();
+        self.rest = rest;
         taken
     }
+}
+
+fn is_blank(byte: u8) -> bool {
+    byte.is_ascii_whitespace() || byte == b'\x0b'
 }

@@ -1,12 +1,13 @@
 //! Solutions in PGSolver's format, `paritysol N; id winner strategy; ..`, and the plans that they give.
 
 use crate::failure::Failure;
-use crate::scanner::{Problem, Scanner, Token};
+use crate::scanner::{Problem, Scanner, Token, NO_MOVE};
 use crate::table::Table;
 use crate::vertices::Vertices;
 use std::collections::HashMap;
+use std::mem;
 
-/// The first word of a solution.
+/// The first word of a solution, where its file has one.
 pub const SOLUTION: &str = "paritysol";
 
 const REMEDY: &str =
@@ -28,7 +29,7 @@ pub struct Solution {
 
 impl Solution {
     /// Reads a solution.
-    pub fn parse(name: &str, text: &str) -> Result<Solution, Failure> {
+    pub fn parse(name: &str, text: &[u8]) -> Result<Solution, Failure> {
         let failure = |problem| Failure::usage(format!("{name}: {problem}"));
         let of = lines(text).map_err(failure)?;
         Ok(Solution { name: name.into(), of })
@@ -108,17 +109,13 @@ impl Solution {
 }
 
 /// The file's lines by their ids.
-fn lines(text: &str) -> Result<HashMap<u64, Won>, Problem> {
-    const HEADER: &str = "write `paritysol N;`, with N the highest id";
-    let mut scanner = Scanner::new(text);
-    let (line, _) = scanner.next()?.expect("the first word was seen");
-    match scanner.next()? {
-        Some((_, Token::Semicolon)) => (),
-        Some((_, Token::Number(_))) => scanner.end(line, None, HEADER)?,
-        found => return Err(Problem::unexpected(found, line, None, "the highest id", HEADER)),
-    }
-    let mut of = HashMap::new();
+fn lines(text: &[u8]) -> Result<HashMap<u64, Won>, Problem> {
+    let (mut scanner, mut of, mut is_first) = (Scanner::new(text), HashMap::new(), true);
     while let Some((line, token)) = scanner.next()? {
+        if mem::take(&mut is_first) && token == Token::Word(SOLUTION.into()) {
+            header(&mut scanner, line)?;
+            continue;
+        }
         let Token::Number(id) = token else {
             return Err(Problem::unexpected(Some((line, token)), line, None, "an id", REMEDY));
         };
@@ -131,6 +128,16 @@ fn lines(text: &str) -> Result<HashMap<u64, Won>, Problem> {
     Ok(of)
 }
 
+/// `paritysol N;` from N on, where N, the highest id, may be missing.
+fn header(scanner: &mut Scanner, line: usize) -> Result<(), Problem> {
+    const REMEDY: &str = "write `paritysol N;`, with N the highest id";
+    match scanner.next()? {
+        Some((_, Token::Semicolon)) => Ok(()),
+        Some((_, Token::Number(_))) => scanner.end(line, None, REMEDY),
+        found => Err(Problem::unexpected(found, line, None, "the highest id", REMEDY)),
+    }
+}
+
 /// A line from its winner on.
 fn won(scanner: &mut Scanner, line: usize, id: u64) -> Result<Won, Problem> {
     let (_, winner) = scanner.number(Some(id), "a winner", REMEDY)?;
@@ -139,9 +146,13 @@ fn won(scanner: &mut Scanner, line: usize, id: u64) -> Result<Won, Problem> {
         Problem::at(line, Some(id), format!("winner {winner}"), remedy)
     })?;
     let (mut choice, mut next) = (None, scanner.next()?);
-    if let Some((_, Token::Number(found))) = next {
-        choice = Some(found);
-        next = scanner.next()?;
+    match &next {
+        Some((_, Token::Number(found))) => {
+            choice = Some(*found);
+            next = scanner.next()?;
+        }
+        Some((_, Token::Word(word))) if word == NO_MOVE => next = scanner.next()?,
+        _ => (),
     }
     if let Some((_, Token::Name(_))) = next {
         next = scanner.next()?;

@@ -1,6 +1,7 @@
 //! What the vertices of a game are called in messages, pictures and on the command line.
 
 use crate::input::number;
+use raskjomi::large::name_text;
 
 /// The most characters of a name that a message shows.
 const SHOWN: usize = 40;
@@ -18,15 +19,38 @@ pub struct Vertices {
 #[derive(Debug)]
 struct Named {
     ids: Vec<u64>,
-    names: Vec<Option<String>>,
+    names: Vec<Option<Name>>,
+    /// The vertex that the file names as the start.
+    start: Option<usize>,
     /// What a priority and the file's own add up to, where the file's were converted.
     even: Option<u32>,
 }
 
+/// A name as its file has it, and as it is shown.
+#[derive(Clone, Debug)]
+struct Name {
+    bytes: Vec<u8>,
+    shown: String,
+}
+
 impl Vertices {
-    /// Vertices of a PGSolver file, by ascending id.
-    pub fn named(ids: Vec<u64>, names: Vec<Option<String>>) -> Vertices {
-        Vertices { named: Some(Named { ids, names, even: None }) }
+    /// Vertices of a PGSolver file, by ascending id, and its start.
+    pub fn named(ids: Vec<u64>, names: Vec<Option<Vec<u8>>>, start: Option<usize>) -> Vertices {
+        let name = |bytes: Vec<u8>| Name { shown: name_text(&bytes), bytes };
+        let names = names.into_iter().map(|bytes| bytes.map(name)).collect();
+        Vertices { named: Some(Named { ids, names, start, even: None }) }
+    }
+
+    /// What the classes of these vertices are called, from the lowest member of each: by their numbers, and
+    /// where a file gave the vertices, by the name of that member.
+    pub fn of_classes(&self, classes: &[u16], lowest: &[usize]) -> Vertices {
+        let of_classes = |named: &Named| Named {
+            ids: (0..lowest.len() as u64).collect(),
+            names: lowest.iter().map(|&vertex| named.names[vertex].clone()).collect(),
+            start: named.start.map(|vertex| classes[vertex].into()),
+            even: named.even,
+        };
+        Vertices { named: self.named.as_ref().map(of_classes) }
     }
 
     /// The vertices of a file whose priority q is now `even` - q.
@@ -54,7 +78,17 @@ impl Vertices {
 
     /// The vertex's name, if it has one.
     pub fn name(&self, vertex: usize) -> Option<&str> {
-        self.named.as_ref()?.names[vertex].as_deref()
+        self.named.as_ref()?.names[vertex].as_ref().map(|name| &*name.shown)
+    }
+
+    /// The bytes of the vertex's name in its file.
+    pub fn name_bytes(&self, vertex: usize) -> Option<&[u8]> {
+        self.named.as_ref()?.names[vertex].as_ref().map(|name| &*name.bytes)
+    }
+
+    /// The vertex that the file names as the start, if it names one.
+    pub fn start(&self) -> Option<usize> {
+        self.named.as_ref()?.start
     }
 
     /// A priority as the file has it.
@@ -119,7 +153,8 @@ impl Vertices {
     fn called(&self, word: &str) -> Vec<usize> {
         let word = word.strip_prefix('"').and_then(|word| word.strip_suffix('"')).unwrap_or(word);
         let names = self.named.iter().flat_map(|named| &named.names).enumerate();
-        names.filter(|(_, name)| name.as_deref() == Some(word)).map(|(vertex, _)| vertex).collect()
+        let is_it = |name: &Option<Name>| name.as_ref().is_some_and(|name| name.shown == word);
+        names.filter(|(_, name)| is_it(name)).map(|(vertex, _)| vertex).collect()
     }
 
     /// That several vertices have this name, if so.
