@@ -37,9 +37,6 @@ fn written_back() {
         "parity 9;\nstart 3;\n3 2 0 5,9 \"door, open\";\n5 1 1 3;\n9 0 0 9 \"clos\u{e9}\";\n";
     assert_eq!(back, expected, "ids, names, priorities and the start are kept");
     assert_eq!(run_on(&["pgsolver", "--lowest"], GAPS.as_bytes()).text(), expected);
-    // Priorities go down by an even number where the least is above 1.
-    let high = b"parity 1; 0 7 0 1; 1 4 1 0;";
-    assert_eq!(run_on(&["pgsolver"], high).text(), "parity 1;\n0 3 0 1;\n1 0 1 0;\n");
     let edited = run_on(&["edit", "-", "--add", "5:9", "--remove", "3:5"], GAPS.as_bytes()).text();
     assert_eq!(
         edited,
@@ -49,6 +46,29 @@ fn written_back() {
     let game = file("gaps.pg", GAPS.as_bytes());
     let replayed = run(&["replay", &game, &trace]).text();
     assert!(replayed.contains("\n5 1 1 3,9;\n"), "{replayed}");
+}
+
+#[test]
+fn priorities_stay_as_they_were() {
+    let high = "parity 2;\n0 7 0 1;\n1 4 1 0,2;\n2 5 1 2;\n";
+    for command in [&["pgsolver"][..], &["convert", "--as=pgsolver"], &["reduce"], &["quotient"]] {
+        assert_eq!(run_on(command, high.as_bytes()).text(), high, "{command:?}");
+    }
+    let edited = run_on(&["edit", "-", "--add=2:0"], high.as_bytes()).text();
+    assert_eq!(edited, high.replace("2 5 1 2;", "2 5 1 2,0;"), "one line is another");
+    let large = run_on(&["reduce", "--large"], high.as_bytes());
+    assert_eq!(large.fails(0, &["3 vertices merged by their moves into 3"]), high);
+    for picture in [&["dot"][..], &["dot", "--reduced"]] {
+        let picture = run_on(picture, high.as_bytes()).text();
+        assert!(
+            [7, 4, 5].iter().all(|p| picture.contains(&format!("priority {p}\""))),
+            "{picture}"
+        );
+    }
+    let why = run_on(&["why", "-", "0", "1"], high.as_bytes()).text();
+    assert!(why.contains('7') && why.contains('4'), "{why}");
+    let top = "parity 0;\n0 65535 0 0;\n";
+    assert_eq!(run_on(&["pgsolver"], top.as_bytes()).text(), top);
 }
 
 #[test]

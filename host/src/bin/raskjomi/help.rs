@@ -93,7 +93,7 @@ const GAMES: &str = "A game comes from a file, or from standard input, whose nam
                      several times: it counts as one edge of the game, but each time among the words. A \
                      game whose first word is `parity` or `start`, or whose first line ends with a \
                      semicolon, is in PGSolver's format, in which the highest priority decides: it is \
-                     read through `convert`, and written back through it. A \
+                     read through `convert`, and written back with the priorities that it had. A \
                      successor that stands twice there is one edge.";
 
 /// How options are written.

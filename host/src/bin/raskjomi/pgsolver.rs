@@ -254,7 +254,7 @@ fn ends(vertices: &[Vertex]) -> Result<Vec<(u16, u16)>, Problem> {
 
 /// A table where the lowest priority decides, in PGSolver's format, each edge once.
 pub fn write(table: &Table, vertices: &Vertices, lowest: bool) -> Result<Vec<u8>, Refusal> {
-    let priorities = priorities(table, lowest)?;
+    let priorities = priorities(table, vertices, lowest)?;
     let mut successors = vec![Vec::new(); table.n()];
     for (source, target) in table.edges() {
         successors[source as usize].push(vertices.id(target as usize).to_string());
@@ -274,11 +274,12 @@ pub fn write(table: &Table, vertices: &Vertices, lowest: bool) -> Result<Vec<u8>
 }
 
 /// The priorities to write. Readers of the format let the highest decide, unless they are told to let the
-/// lowest: so they come through the conversion.
-fn priorities(table: &Table, lowest: bool) -> Result<Vec<u16>, Refusal> {
-    let mut words = table.words().to_vec();
-    if !lowest {
-        raskjomi::convert(table.words(), &mut words)?;
+/// lowest: so they are those that the game was read with, or come through the conversion.
+fn priorities(table: &Table, vertices: &Vertices, lowest: bool) -> Result<Vec<u32>, Refusal> {
+    if lowest || vertices.even().is_some() {
+        return Ok(table.priorities().iter().map(|&p| vertices.priority(p)).collect());
     }
-    Ok(Table::new(&words).priorities().to_vec())
+    let mut words = table.words().to_vec();
+    raskjomi::convert(table.words(), &mut words)?;
+    Ok(Table::new(&words).priorities().iter().map(|&p| p.into()).collect())
 }

@@ -61,12 +61,11 @@ pub fn classes_of(of: &Loaded, classes: &[u32], game: LargeGame) -> Loaded {
     for (vertex, &class) in (0..).zip(classes) {
         lowest[class as usize] = vertex.min(lowest[class as usize]);
     }
-    let highest = (0..lowest.len() as u32).map(|class| game.priority(class)).max();
     Loaded {
         name: format!("the reduced game of {}", of.name),
         vertices: of.vertices.renumbered(&lowest),
         start: of.start.map(|vertex| classes[vertex as usize]),
-        even: of.even.and(highest).map(|highest| u64::from(highest).next_multiple_of(2)),
+        even: of.even,
         in_pgsolver: of.in_pgsolver,
         game,
     }
