@@ -530,6 +530,12 @@ fn help_begins_with_what_a_newcomer_needs() {
         assert!(first.replace('\n', " ").contains(fact), "{first}");
         assert!(run(&["reduce", "--help"]).text().replace('\n', " ").contains(fact), "{fact}");
     }
+    // The format is said once.
+    let format = "The words are: number of vertices, number of edges,";
+    assert_eq!(overview.replace('\n', " ").matches(format).count(), 1, "{overview}");
+    let of_reduce = run(&["reduce", "--help"]).text().replace('\n', " ");
+    assert!(of_reduce.contains("`raskjomi --help` says how a game is given"), "{of_reduce}");
+    assert!(!of_reduce.contains(format), "{of_reduce}");
     assert!(rest.contains("docs/CONTRACT.md"), "{rest}");
     assert!(root().join("docs/CONTRACT.md").is_file());
 }

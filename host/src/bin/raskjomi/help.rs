@@ -49,8 +49,8 @@ impl Command {
     fn of_games(&self) -> &'static [&'static str] {
         match self.name {
             "check-solution" | "check-reduction" | "winners" => &[check_solution::GAMES],
-            "reduce" | "merged" | "why" => &[reduced::LARGE, LIMITS, GAMES],
-            _ if self.takes_game() => &[LIMITS, GAMES],
+            "reduce" | "merged" | "why" => &[reduced::LARGE, LIMITS, GIVEN],
+            _ if self.takes_game() => &[LIMITS, GIVEN],
             _ => &[],
         }
     }
@@ -82,6 +82,9 @@ const LIMITS: &str =
     "A game has at most 512 vertices and 4,096 edges, but for `check-solution`, `check-reduction`, `winners`, `reduce`, `merged` and `why`, which \
      take any size. The lowest priority seen for ever decides, and even favours Even; a game of a tool that says the highest goes through \
      `convert` first.";
+
+/// Where the help of a command that takes a game says how it is given.
+const GIVEN: &str = "`raskjomi --help` says how a game is given, and what its words are.";
 
 /// How games are given, for every command that takes one.
 const GAMES: &str = "A game comes from a file, or from standard input, whose name is -; where the \
