@@ -219,7 +219,8 @@ pub const COMMANDS: [Command; 16] = [
         details:
             "PLAN is given as for `check-plan`, wins for the player, and starts at the vertex of its \
                   position 0. Its words are numbers of vertices, from 0 by ascending id, and no ids or \
-                  names of a file in PGSolver's format; V is a number, or such an id or name. For Even that must be below V, for Odd V below it; `order` writes \
+                  names of a file in PGSolver's format; V is a number, or such an id or name. For Even \
+                  that must be below V, for Odd V below it; `order` writes \
                   who is below whom, and members of one class are below each other. With --class, \
                   PLAN is on the reduced game, as `reduce` writes it, and its start is a class, \
                   which compares as its members do. The output is a plan on GAME, of at most \
