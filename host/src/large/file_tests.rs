@@ -176,10 +176,7 @@ fn long_names_and_comments_cross_pieces() {
     let text: String =
         Some("parity 4;\n".to_string()).into_iter().chain((0..n).map(line)).collect();
     let read = game(&text);
-    assert_eq!(
-        &read.words[2 + 2 * n..],
-        [0, 0, 1, 1, 2, 2, 3, 3, 4, 1, 0, 2, 0, 3, 0, 4, 0, 0]
-    );
+    assert_eq!(&read.words[2 + 2 * n..], [0, 0, 1, 1, 2, 2, 3, 3, 4, 1, 0, 2, 0, 3, 0, 4, 0, 0]);
     assert!(
         read.vertices.left_out() && read.vertices.name(0).is_none(),
         "1.5 MB of names on 10 edges"
