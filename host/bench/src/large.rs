@@ -209,7 +209,7 @@ fn show_crafted() {
 }
 
 /// The best times of the reader of files and of `wc -w`, in turn, on a file that has the words of a game.
-fn file_times(file: &Path, words: usize) -> [Duration; 2] {
+fn file_times(file: &Path, n: usize) -> [Duration; 2] {
     let read = || read_game(File::open(file).expect("the file is there"), None, true);
     let count = || Command::new("wc").arg("-w").arg(file).output();
     let mut times = [Duration::MAX; 2];
@@ -219,7 +219,7 @@ fn file_times(file: &Path, words: usize) -> [Duration; 2] {
         let between = Instant::now();
         assert!(count().is_ok_and(|output| output.status.success()), "wc -w counts");
         times = [times[0].min(between - start), times[1].min(between.elapsed())];
-        assert_eq!(game.words.len(), words, "the file has the game");
+        assert_eq!(game.words[0] as usize, n, "the file has the game");
     }
     times
 }
@@ -261,7 +261,7 @@ pub fn with_file<T>(game: &LargeTable, work: impl FnOnce(&Path) -> io::Result<T>
 /// The reader of files beside `wc -w`, on a file that was just written.
 fn show_file(name: &str, game: &LargeTable, file: &Path) -> io::Result<()> {
     let megabytes = fs::metadata(file)?.len() as f64 / 1e6;
-    let times = file_times(file, 2 + 2 * game.n() + 2 * game.m());
+    let times = file_times(file, game.n());
     let each = |most: usize| format!("{:.1}", most as f64 / game.m() as f64);
     let each = most_bytes("read", file).map_or("-".into(), each);
     println!(
