@@ -22,7 +22,7 @@ use Rattle.table.specs.Answers.{Clean}
 use Rattle.table.specs.AnswersLaws.{judge-accepted, clean-split}
 use Rattle.table.specs.WellFormed.{WellFormed}
 use Rattle.table.specs.Reading.{gameRows, readAnswer, readingAnswer}
-use Rattle.table.specs.ReadingLaws.{reading-accepted, clean-well}
+use Rattle.table.specs.ReadingLaws.{read-accepted, clean-well}
 use Rattle.table.specs.TableLaws.{edges-listed}
 use Rattle.table.specs.declared.Reading.{Reading}
 use Rattle.table.specs.Filling.{fillingAnswer}
@@ -70,10 +70,10 @@ fifth-count {v} e = ap (λ (l : List ℕ). getD l 4 v) e
 
 pub reading-small : (g : List ℕ) (r : Reading) → readingAnswer r ≡ readAnswer g → SmallSizes r
 reading-small g (Accepted sizes) e =
-    let w = reading-accepted g sizes e in (
-      omega (arith, w .vertices, w .well .vertices),
-      omega (arith, w .edges, w .well .edges),
-      omega (arith, w .different, edges-listed g, w .well .edges),
+    let (w, c) = read-accepted g _ (sym e) in (
+      omega (arith, first-count c, w .vertices),
+      omega (arith, second-count c, w .edges),
+      omega (arith, third-count c, edges-listed g, w .edges),
     )
 reading-small g (Refused refusal) e = tt
 

@@ -7,7 +7,7 @@ use reduction::TableCounts;
 use reduction::Tabulation;
 use reduction::tabulate_classes;
 use table::Acceptance;
-use table::Reading;
+use table::Filling;
 use table::Refusal;
 use table::refusal_of;
 ghost use mathlib.Core.Bool.{true};
@@ -50,8 +50,8 @@ pub fn carry_plan(
         (new marks) (new spare) (new output)
         ⌝ }
 {
-    let reading = table_reader::read(game);
-    let Reading::Accepted(sizes) = reading else {
+    let reading = table_reader::read_sizes(game);
+    let Filling::Accepted(sizes) = reading else {
         return Carrying::Refused(refusal_of(reading));
     };
     let needed = length_for(sizes.vertices);
@@ -93,8 +93,8 @@ pub fn carry_class_plan(
         (new marks) (new spare) (new classes) (new reduction) (new output)
         ⌝ }
 {
-    let reading = table_reader::read(game);
-    let Reading::Accepted(sizes) = reading else {
+    let reading = table_reader::read_sizes(game);
+    let Filling::Accepted(sizes) = reading else {
         return ClassCarrying::Refused(refusal_of(reading));
     };
     let written = tabulate_classes(game, sizes, marks, spare, classes, reduction, true);

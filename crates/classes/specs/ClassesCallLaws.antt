@@ -13,11 +13,12 @@ use Rattle.theory.specs.classes.Reduction.{classCount, classNumber}
 use Rattle.table.specs.Table.{vertexCount}
 use Rattle.table.specs.Answers.{Row, accepted, refused, judge, written}
 use Rattle.table.specs.AnswersLaws.{judge-clean, judge-accepted, judge-past, judge-stays, after-clean, after-refused, clean-append}
-use Rattle.table.specs.Reading.{gameRows, readAnswer, readingAnswer}
+use Rattle.table.specs.Reading.{gameRows, sizesAnswer}
+use Rattle.table.specs.Filling.{fillingAnswer}
 use Rattle.table.specs.ReadingLaws.{reading-stays, well-clean}
 use Rattle.table.specs.WellFormed.{WellFormed}
 use Rattle.table.specs.declared.Refusal.{Refusal}
-use Rattle.table.specs.declared.Reading.the-variants.{Refused}
+use Rattle.table.specs.declared.Filling.the-variants.{Refused}
 use Rattle.marks.specs.Marks.{relation}
 use Rattle.order.specs.OrderWritten.{MarksDone}
 use Rattle.order.specs.OrderCall.{bytesOf}
@@ -44,7 +45,7 @@ module _ (game marks spare classes : List ℕ) where
   -- ---- what the rows say, whatever counts an acceptance has
 
   module _ (counts : List ℕ) where
-    pub rows-handed : (f : Refusal) → readingAnswer (Refused f) ≡ readAnswer game → judge rows counts ≡ refused (f .number) (f .place)
+    pub rows-handed : (f : Refusal) → fillingAnswer (Refused f) ≡ sizesAnswer game → judge rows counts ≡ refused (f .number) (f .place)
     unfolding classRows
     rows-handed f e = reading-stays game f e memory counts
 
@@ -65,7 +66,7 @@ module _ (game marks spare classes : List ℕ) where
     }
 
     -- the reader's refusal is the call's
-    pub classes-handed : (f : Refusal) → readingAnswer (Refused f) ≡ readAnswer game → NumberedCall relation total words game marks spare classes (refused (f .number) (f .place)) marks spare classes
+    pub classes-handed : (f : Refusal) → fillingAnswer (Refused f) ≡ sizesAnswer game → NumberedCall relation total words game marks spare classes (refused (f .number) (f .place)) marks spare classes
     unfolding totalAnswer
     classes-handed f e = classes-old (f .number) (f .place) (rows-handed _ f e)
 

@@ -3,6 +3,7 @@ pub mod NumberedMemory
 pub mod ClassesRules
 pub mod Numbering
 pub mod NumberingLaws
+pub mod MemberSearchLaws
 pub mod OrderedMarksLaws
 pub mod ClassesRulesLaws
 pub mod ClassesCallLaws

@@ -2,7 +2,7 @@
 pub mod numbering;
 
 use marks::packed::length_for;
-use table::Reading;
+use table::Filling;
 use table::Refusal;
 use table::refusal_of;
 ghost use mathlib.Core.Path.{_≡_};
@@ -127,8 +127,8 @@ pub fn write_classes(
 ) -> Classification
     ensures { λ r. ⌜ ClassesCall (old game) (old marks) (old spare) (old classes) (classificationAnswer r) (new marks) (new spare) (new classes) ⌝ }
 {
-    let reading = table_reader::read(game);
-    let Reading::Accepted(sizes) = reading else {
+    let reading = table_reader::read_sizes(game);
+    let Filling::Accepted(sizes) = reading else {
         return Classification::Refused(refusal_of(reading));
     };
     write_numbered(game, sizes.vertices, marks, spare, classes, false)

@@ -1,27 +1,46 @@
 // A part of the calls that write classes; no host calls it.
 // The classes of a preorder on n vertices that is given by its marks.
 use marks::packed::is_marked;
+use marks::reading::read_bits;
 use table::limits::VERTICES;
+use words::lowest;
+use words::rest;
 ghost use mathlib.Core.Path.{_≡_};
-ghost use Prim.Native.Nat.{_+_, _<_, _≤_};
+ghost use Prim.Native.Nat.{_+_, _<_, _≤_, min};
 ghost use lib.ListN.{length, set};
-ghost use Rattle.theory.specs.logic.Range.{tabulate};
+ghost use Rattle.theory.specs.logic.Range.{first, tabulate};
 ghost use Rattle.theory.specs.classes.Reduction.{sameClass, lowest, classCount, classNumber};
 ghost use Rattle.table.specs.Lent.{old, new};
 ghost use Rattle.table.specs.Limits.{vertexLimit};
 ghost use Rattle.table.specs.Answers.{written};
 ghost use Rattle.marks.specs.Marks.{marksLength, relation};
+ghost use Rattle.marks.specs.MarkReading.{readBits};
 ghost use Rattle.classes.specs.Numbering.{PreorderMarks, Numbered};
 
-// Whether u and v are below each other.
-fn same_class(marks: &[u8], n: usize, u: usize, v: usize) -> bool
-    requires { ⌜ (u < n) × (v < n) × (n ≤ vertexLimit) × (marksLength n ≤ length (now marks)) ⌝ }
-    ensures { λ r. ⌜ r ≡ sameClass (relation n (old marks)) u v ⌝ }
+// The end of the vertices from w on, below n, that are asked at once.
+fn end_of(w: usize, n: usize) -> usize
+    requires { ⌜ (w ≤ n) × (n ≤ vertexLimit) ⌝ }
+    ensures { λ r. ⌜ r ≡ min n (w + readBits) ⌝ }
 {
-    if is_marked(marks, n, u, v) {
-        return is_marked(marks, n, v, u);
+    if w + 56 < n { w + 56 } else { n }
+}
+
+// The lowest member of v's class from `from` on, below `end`; `end` where there is none. Of the bits of v's row only those that are set
+// are asked for the other direction.
+fn lowest_between(marks: &[u8], n: usize, v: usize, from: usize, end: usize) -> usize
+    requires { ⌜ (v < n) × (n ≤ vertexLimit) × (marksLength n ≤ length (now marks)) ⌝ }
+    requires { ⌜ (from ≤ end) × (end ≤ n) × (end ≤ from + readBits) ⌝ }
+    ensures { λ r. ⌜ r ≡ first (λ u. sameClass (relation n (old marks)) u v) from end ⌝ }
+{
+    let mut left = read_bits(marks, v * n + from, end - from);
+    while left != 0 {
+        let u = from + lowest(left);
+        if is_marked(marks, n, u, v) {
+            return u;
+        }
+        left = rest(left);
     }
-    false
+    end
 }
 
 // The lowest member of v's class.
@@ -29,14 +48,16 @@ fn lowest_member(marks: &[u8], n: usize, v: usize) -> usize
     requires { ⌜ (v < n) × (n ≤ vertexLimit) × (marksLength n ≤ length (now marks)) ⌝ }
     ensures { λ r. ⌜ r ≡ lowest n (relation n (old marks)) v ⌝ }
 {
-    let mut u = 0;
-    while u < n {
-        if same_class(marks, n, u, v) {
-            return u;
+    let mut w = 0;
+    while w < n {
+        let end = end_of(w, n);
+        let low = lowest_between(marks, n, v, w, end);
+        if low < end {
+            return low;
         }
-        u += 1;
+        w = end;
     }
-    u
+    n
 }
 
 // Gives v its class, where k classes have a lower member: class k with the representative v if v is the lowest member, else the class of

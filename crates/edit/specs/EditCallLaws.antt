@@ -7,14 +7,15 @@ use lib.ListN.{length, take, length-take}
 use Rattle.table.specs.Table.{vertexCount, tableLength, tableIn}
 use Rattle.table.specs.Answers.{Row, accepted, refused, judge, Clean, written}
 use Rattle.table.specs.AnswersLaws.{judge-clean, judge-accepted, judge-past, judge-stays, after-clean, after-refused, clean-append}
-use Rattle.table.specs.Reading.{readAnswer, readingAnswer, refusalOf}
+use Rattle.table.specs.Reading.{sizesAnswer}
+use Rattle.table.specs.Filling.{fillingAnswer, refusalOf}
 use Rattle.table.specs.ReadingLaws.{reading-accepted}
 use Rattle.table.specs.Acceptance.{acceptanceAnswer}
 use Rattle.table.specs.WellFormed.{WellFormed}
-use Rattle.table.specs.declared.Sizes.{Sizes}
+use Rattle.table.specs.declared.FilledSizes.{FilledSizes}
 use Rattle.table.specs.declared.Refusal.{Refusal}
-use Rattle.table.specs.declared.Reading.{Reading}
-use Rattle.table.specs.declared.Reading.the-variants.{Accepted, Refused}
+use Rattle.table.specs.declared.Filling.{Filling}
+use Rattle.table.specs.declared.Filling.the-variants.{Accepted, Refused}
 use Rattle.table.specs.declared.Acceptance.{Acceptance}
 use Rattle.order.specs.OrderCall.{orderBytes}
 use Rattle.classes.specs.ClassesCall.{memoryRows, memoryAnswer, classWords}
@@ -32,7 +33,7 @@ use Rattle.edit.specs.EditCall.{callCounts, EditedBy}
 use Rattle.edit.specs.EditedMemory.{EditDone}
 
 -- the reader accepted the table that begins the buffer
-pub formed : (buffer : List ℕ) {reading : Reading} {sizes : Sizes} → reading ≡ Accepted sizes → readingAnswer reading ≡ readAnswer (tableIn buffer)
+pub formed : (buffer : List ℕ) {reading : Filling} {sizes : FilledSizes} → reading ≡ Accepted sizes → fillingAnswer reading ≡ sizesAnswer (tableIn buffer)
     → Formed (tableIn buffer) (sizes .vertices) (sizes .edges)
 formed buffer e a =
     let w = reading-accepted (tableIn buffer) _ (rw e at a) in
@@ -96,8 +97,8 @@ module _ (rest : List Row) (e : Edit) (game : List ℕ) (s t : ℕ) (buffer mark
   old f = call-old rows e g s t buffer marks spare classes (f .number) (f .place)
 
   -- the reader's refusal, taken out of its verdict, is the call's
-  pub call-handed : (reading : Reading) (f h : Refusal) → reading ≡ Refused f → readingAnswer reading ≡ readAnswer g → h ≡ refusalOf reading → Old h
-  unfolding readAnswer
+  pub call-handed : (reading : Filling) (f h : Refusal) → reading ≡ Refused f → fillingAnswer reading ≡ sizesAnswer g → h ≡ refusalOf reading → Old h
+  unfolding sizesAnswer
   call-handed reading f h r a k =
       rw (k, r) (old f (judge-stays (bufferRows game) _ _ _ (f .number) (f .place) (buffer-judge game _ ∙ sym (rw r at a))))
 

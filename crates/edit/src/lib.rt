@@ -9,7 +9,7 @@ use edit_rules::judge_edit;
 use reduction::TableCounts;
 use reduction::Tabulation;
 use table::Acceptance;
-use table::Reading;
+use table::Filling;
 use table::refusal_of;
 ghost use lib.ListN.{length};
 ghost use Rattle.table.specs.Lent.{old, new};
@@ -96,7 +96,7 @@ pub fn add_edge(
         ⌝ }
 {
     let reading = read_in(buffer);
-    let Reading::Accepted(sizes) = reading else {
+    let Filling::Accepted(sizes) = reading else {
         return Tabulation::Refused(refusal_of(reading));
     };
     edit_table(
@@ -127,7 +127,7 @@ pub fn remove_edge(
         ⌝ }
 {
     let reading = read_in(buffer);
-    let Reading::Accepted(sizes) = reading else {
+    let Filling::Accepted(sizes) = reading else {
         return Tabulation::Refused(refusal_of(reading));
     };
     edit_table(

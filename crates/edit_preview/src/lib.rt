@@ -7,7 +7,7 @@ use edit_rules::buffer::read_in;
 use edit_rules::judge_edit;
 use reduction::Tabulation;
 use table::Acceptance;
-use table::Reading;
+use table::Filling;
 use table::Refusal;
 use table::refusal_of;
 use table::slices;
@@ -75,7 +75,7 @@ pub fn preview_add(
         ⌝ }
 {
     let reading = read_in(game);
-    let Reading::Accepted(sizes) = reading else {
+    let Filling::Accepted(sizes) = reading else {
         return Tabulation::Refused(refusal_of(reading));
     };
     preview_table(
@@ -109,7 +109,7 @@ pub fn preview_remove(
         ⌝ }
 {
     let reading = read_in(game);
-    let Reading::Accepted(sizes) = reading else {
+    let Filling::Accepted(sizes) = reading else {
         return Tabulation::Refused(refusal_of(reading));
     };
     preview_table(

@@ -6,11 +6,12 @@ use lib.ListN.{length, take}
 use Rattle.table.specs.Table.{vertexCount, tableLength, tableIn}
 use Rattle.table.specs.Answers.{Row, Answer, accepted, refused, judge, Clean}
 use Rattle.table.specs.AnswersLaws.{judge-clean, judge-accepted, judge-past, judge-stays, after-clean, after-refused, clean-append}
-use Rattle.table.specs.Reading.{readAnswer, readingAnswer, refusalOf}
+use Rattle.table.specs.Reading.{sizesAnswer}
+use Rattle.table.specs.Filling.{fillingAnswer, refusalOf}
 use Rattle.table.specs.Acceptance.{acceptanceAnswer}
 use Rattle.table.specs.declared.Refusal.{Refusal}
-use Rattle.table.specs.declared.Reading.{Reading}
-use Rattle.table.specs.declared.Reading.the-variants.{Refused}
+use Rattle.table.specs.declared.Filling.{Filling}
+use Rattle.table.specs.declared.Filling.the-variants.{Refused}
 use Rattle.table.specs.declared.Acceptance.{Acceptance}
 use Rattle.table.specs.declared.NoCounts.{NoCounts}
 use Rattle.order.specs.OrderCall.{orderBytes}
@@ -55,9 +56,9 @@ module _ (buffer trace marks spare classes : List ℕ) where
   }
 
   -- the reader's, taken out of its verdict
-  pub start-handed : (reading : Reading) (f h : Refusal) → reading ≡ Refused f → readingAnswer reading ≡ readAnswer (tableIn buffer) → h ≡ refusalOf reading
+  pub start-handed : (reading : Filling) (f h : Refusal) → reading ≡ Refused f → fillingAnswer reading ≡ sizesAnswer (tableIn buffer) → h ≡ refusalOf reading
       → ReplayCall buffer trace marks spare classes (refused (h .number) (h .place)) 0 buffer marks spare classes
-  unfolding readAnswer startRows
+  unfolding sizesAnswer startRows
   start-handed reading f h r a k =
       rw (k, r) (start-old (f .number) (f .place)
       (judge-stays (bufferRows buffer) _ _ _ (f .number) (f .place) (buffer-judge buffer _ ∙ sym (rw r at a))))

@@ -8,7 +8,7 @@ use edit_trace::run_entries;
 use reduction::TableCounts;
 use reduction::Tabulation;
 use table::Acceptance;
-use table::Reading;
+use table::Filling;
 use table::refusal_of;
 ghost use Rattle.table.specs.Lent.{old, new};
 ghost use Rattle.table.specs.Table.{tableIn};
@@ -113,7 +113,7 @@ pub fn replay(
         ⌝ }
 {
     let reading = read_in(buffer);
-    let Reading::Accepted(sizes) = reading else {
+    let Filling::Accepted(sizes) = reading else {
         return Replaying {
             verdict: Tabulation::Refused(refusal_of(reading)),
             entries: 0,

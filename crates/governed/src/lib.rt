@@ -6,7 +6,7 @@ use order::Ordering;
 use order::write_relation;
 use order_acceptor::judge_marks;
 use table::Acceptance;
-use table::Reading;
+use table::Filling;
 use table::refusal_of;
 ghost use mathlib.Core.Path.{_≡_};
 ghost use Rattle.table.specs.Lent.{old, new};
@@ -19,8 +19,8 @@ ghost use Rattle.governed.specs.GovernedCall.{GovernedCall, governedAnsw
 pub fn write_governed(game: &[u16], marks: &mut [u8], spare: &mut [u8]) -> Ordering
     ensures { λ r. ⌜ GovernedCall (old game) (old marks) (old spare) (orderingAnswer r) (new marks) (new spare) ⌝ }
 {
-    let reading = table_reader::read(game);
-    let Reading::Accepted(sizes) = reading else {
+    let reading = table_reader::read_sizes(game);
+    let Filling::Accepted(sizes) = reading else {
         return Ordering::Refused(refusal_of(reading));
     };
     write_relation(game, sizes.vertices, marks, spare, true)
@@ -30,8 +30,8 @@ pub fn write_governed(game: &[u16], marks: &mut [u8], spare: &mut [u8]) -> Order
 pub fn accept_governed(game: &[u16], marks: &[u8]) -> Acceptance
     ensures { λ r. ⌜ acceptanceAnswer r ≡ governedAnswer (old game) (old marks) ⌝ }
 {
-    let reading = table_reader::read(game);
-    let Reading::Accepted(sizes) = reading else {
+    let reading = table_reader::read_sizes(game);
+    let Filling::Accepted(sizes) = reading else {
         return Acceptance::Refused(refusal_of(reading));
     };
     judge_marks(game, sizes.vertices, marks, true)
@@ -46,8 +46,8 @@ pub fn write_governed_classes(
 ) -> Classification
     ensures { λ r. ⌜ GovernedClassesCall (old game) (old marks) (old spare) (old classes) (classificationAnswer r) (new marks) (new spare) (new classes) ⌝ }
 {
-    let reading = table_reader::read(game);
-    let Reading::Accepted(sizes) = reading else {
+    let reading = table_reader::read_sizes(game);
+    let Filling::Accepted(sizes) = reading else {
         return Classification::Refused(refusal_of(reading));
     };
     write_numbered(game, sizes.vertices, marks, spare, classes, true)

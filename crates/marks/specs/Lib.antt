@@ -5,3 +5,5 @@ pub mod PairLaws
 pub mod PairInput
 pub mod MarkWriting
 pub mod MarkWritingLaws
+pub mod MarkReading
+pub mod MarkReadingLaws

@@ -107,7 +107,7 @@ begun-lt f base at = elim (ℕ-discrete (at % 8) 0) [
 ]
 
 -- a power of 2 in a word
-pub power-is : (count : ℕ) → count ≤ 8 → 1 * 2 ^ count % 2 ^ 64 ≡ 2 ^ count
+pub power-is : (count : ℕ) → count < 64 → 1 * 2 ^ count % 2 ^ 64 ≡ 2 ^ count
 power-is count h = shl-exact {a = 1} 1 count 64 (omega arith) (omega (arith, h)) ∙ one-mul (2 ^ count)
 
 module _ (word at count : ℕ) (some : 0 < count) (fits : at % 8 + count ≤ 8) where

@@ -9,11 +9,12 @@ use Rattle.theory.specs.games.Game.{Game}
 use Rattle.table.specs.Table.{vertexCount, gameOf}
 use Rattle.table.specs.Answers.{memoryRow, accepted, refused, judge}
 use Rattle.table.specs.AnswersLaws.{judge-hit, judge-next, judge-past, after-accepted, after-refused}
-use Rattle.table.specs.Reading.{gameRows, readAnswer, readingAnswer}
+use Rattle.table.specs.Reading.{gameRows, sizesAnswer}
+use Rattle.table.specs.Filling.{fillingAnswer}
 use Rattle.table.specs.ReadingLaws.{reading-stays, well-clean}
 use Rattle.table.specs.WellFormed.{WellFormed}
 use Rattle.table.specs.declared.Refusal.{Refusal}
-use Rattle.table.specs.declared.Reading.the-variants.{Refused}
+use Rattle.table.specs.declared.Filling.the-variants.{Refused}
 use Rattle.marks.specs.Marks.{marksLength}
 use Rattle.order.specs.OrderCall.{orderRows, passesAnswer, bytesOf, MarksCall}
 use Rattle.order.specs.OrderWritten.{MarksDone}
@@ -28,7 +29,7 @@ module _ (relation : Game → Marks) (passes : Game → ℕ) (game marks spare :
   }
 
   -- the reader's refusal is the call's
-  pub order-handed : (f : Refusal) → readingAnswer (Refused f) ≡ readAnswer game
+  pub order-handed : (f : Refusal) → fillingAnswer (Refused f) ≡ sizesAnswer game
       → MarksCall relation passes game marks spare (refused (f .number) (f .place)) marks spare
   order-handed f e = order-old (f .number) (f .place) (unfold passesAnswer orderRows in reading-stays game f e _ _)
 

@@ -6,7 +6,7 @@ use order_losses::edges::EDGE_WORDS;
 use order_losses::edges::fill;
 use order_rounds::rounds;
 use order_rows::row::WORDS;
-use table::Reading;
+use table::Filling;
 use table::Refusal;
 use table::limits::VERTICES;
 use table::refusal_of;
@@ -103,8 +103,8 @@ pub fn write_relation(
 pub fn write_order(game: &[u16], marks: &mut [u8], spare: &mut [u8]) -> Ordering
     ensures { λ r. ⌜ OrderCall (old game) (old marks) (old spare) (orderingAnswer r) (new marks) (new spare) ⌝ }
 {
-    let reading = table_reader::read(game);
-    let Reading::Accepted(sizes) = reading else {
+    let reading = table_reader::read_sizes(game);
+    let Filling::Accepted(sizes) = reading else {
         return Ordering::Refused(refusal_of(reading));
     };
     write_relation(game, sizes.vertices, marks, spare, false)

@@ -15,11 +15,12 @@ use Rattle.theory.specs.games.Game.{Game}
 use Rattle.table.specs.Table.{vertexCount, pairCount, gameOf}
 use Rattle.table.specs.Answers.{Row, row, memoryRow, accepted, refused, judge}
 use Rattle.table.specs.AnswersLaws.{judge-hit, judge-next, judge-past}
-use Rattle.table.specs.Reading.{gameRows, readAnswer, readingAnswer}
+use Rattle.table.specs.Reading.{gameRows, sizesAnswer}
+use Rattle.table.specs.Filling.{fillingAnswer}
 use Rattle.table.specs.ReadingLaws.{reading-stays, well-clean}
 use Rattle.table.specs.WellFormed.{WellFormed}
 use Rattle.table.specs.declared.Refusal.{Refusal}
-use Rattle.table.specs.declared.Reading.the-variants.{Refused}
+use Rattle.table.specs.declared.Filling.the-variants.{Refused}
 use Rattle.marks.specs.Marks.{marksLength, relation, hasUnused}
 use Rattle.order_acceptor.specs.RelationCall.{directPair, governedPair, pairBy, fails, firstFailing, acceptorRows, acceptorAnswer}
 
@@ -31,7 +32,7 @@ firstFailing-le asked g marks = first-le _ 0 (pairCount g) (omega arith)
 
 module _ (asked : Game → Rel → Rel) (g marks : List ℕ) where
   -- the reader's refusal is the call's
-  pub relation-handed : (f : Refusal) → readingAnswer (Refused f) ≡ readAnswer g → refused (f .number) (f .place) ≡ acceptorAnswer asked g marks
+  pub relation-handed : (f : Refusal) → fillingAnswer (Refused f) ≡ sizesAnswer g → refused (f .number) (f .place) ≡ acceptorAnswer asked g marks
   unfolding acceptorAnswer acceptorRows
   relation-handed f e = sym (reading-stays g f e _ _)
 

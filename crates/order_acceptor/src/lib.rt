@@ -4,8 +4,8 @@ mod failing;
 use marks::packed::has_unused;
 use marks::packed::length_for;
 use table::Acceptance;
+use table::Filling;
 use table::NoCounts;
-use table::Reading;
 use table::acceptor::refused;
 use table::refusal_of;
 ghost use mathlib.Core.Path.{_≡_};
@@ -41,8 +41,8 @@ pub fn judge_marks(game: &[u16], n: usize, marks: &[u8], mirror: bool) -> Accept
 pub fn accept_relation(game: &[u16], marks: &[u8]) -> Acceptance
     ensures { λ r. ⌜ acceptanceAnswer r ≡ relationAnswer (old game) (old marks) ⌝ }
 {
-    let reading = table_reader::read(game);
-    let Reading::Accepted(sizes) = reading else {
+    let reading = table_reader::read_sizes(game);
+    let Filling::Accepted(sizes) = reading else {
         return Acceptance::Refused(refusal_of(reading));
     };
     judge_marks(game, sizes.vertices, marks, false)

@@ -5,14 +5,14 @@ use mathlib.Core.List.{List}
 use Prim.Native.Nat.{ℕ, _+_, _*_, _≤_, _<_}
 use lib.Dec.{eqb, ltb}
 use lib.ListN.{getD}
-use Rattle.theory.specs.logic.Bools.{_&_}
+use Rattle.theory.specs.logic.Bools.{_&_, _or_}
 use Rattle.theory.specs.logic.Range.{anyBelow}
 use Rattle.theory.specs.order.Passes.{Rel}
 use Rattle.theory.specs.games.Game.{even, Game, own}
 use Rattle.theory.specs.order.Rows.{united, fall, loses}
 use Rattle.table.specs.Table.{isEdge}
 use Rattle.words.specs.Words.{has}
-use Rattle.order_rows.specs.Bits.{rowBits, rowWords, cell}
+use Rattle.order_rows.specs.Bits.{rowBits, rowWords, cell, apart}
 use Rattle.order_rows.specs.MembersLaws.{kept, Members}
 
 -- vertex w is below n, and its word from `from` on isn't the value
@@ -32,6 +32,14 @@ pub record EdgeRows (G : Game) (edges : List ℕ) : Type 0 where
   pub next : (v x : ℕ) → v < rowBits → x < rowBits → cell edges v x ≡ G .edge v x
   pub back : (x v : ℕ) → x < rowBits → v < rowBits → cell edges (rowBits + x) v ≡ G .edge v x
   pub odd : (v : ℕ) → v < G .n → cell edges (2 * rowBits) v ≡ not (own G even v)
+
+-- of `near` those of a player's, and those of the other's without a successor in x
+abbrev pub fallingRows : List ℕ → List ℕ → List ℕ → List ℕ → ℕ → Bool
+fallingRows edges near player x w = (has near w & has player w) or ((has near w & not (has player w)) & apart edges w x)
+
+-- l and x together are all vertices
+abbrev pub Vertices : Game → List ℕ → List ℕ → Type 0
+Vertices G l x = (w : ℕ) → w < rowBits → (has l w or has x w) ≡ ltb w (G .n)
 
 -- the first j edges of the table are in the rows
 pub record EdgesTo (g : List ℕ) (j : ℕ) (edges : List ℕ) : Type 0 where

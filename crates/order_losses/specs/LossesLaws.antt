@@ -5,15 +5,15 @@ use mathlib.Core.Bool.{Bool, true, false, not, cond, So}
 use mathlib.Core.List.{List}
 use Prim.Native.Nat.{ℕ, _+_, _-_, _*_, _≤_, _<_}
 use native.Mathlib.Omega.{arith}
-use lib.Dec.{eqb}
+use lib.Dec.{eqb, ltb}
 use lib.ListN.{getD}
-use borrow.Author.Tests.{eq-eqb}
+use borrow.Author.Tests.{eq-eqb, ltb-true, lt-ltb}
 use Rattle.theory.specs.logic.Bools.{_&_, _or_, imp}
-use Rattle.theory.specs.logic.BoolsLaws.{decide, So-ext, and-in, and-out, and-fails, not-out, and-first, and-one, and-assoc}
+use Rattle.theory.specs.logic.BoolsLaws.{decide, clash, So-ext, So-not, or-left, or-right, or-out, and-in, and-out, and-fails, not-out, and-first, and-one, and-assoc}
 use Rattle.theory.specs.logic.Range.{anyBelow}
 use Rattle.theory.specs.logic.RangeLaws.{any-in, any-out, any-ext, any-fails, first-le, first-before}
 use Rattle.theory.specs.order.Passes.{Rel}
-use Rattle.theory.specs.games.Game.{even, Game, own, Succ}
+use Rattle.theory.specs.games.Game.{even, Game, own, Succ, Total}
 use Rattle.theory.specs.order.Order.{anyNext}
 use Rattle.theory.specs.order.OrderLaws.{anyNext-in, anyNext-out}
 use Rattle.theory.specs.order.Rows.{united, fall, unitedLost, fails, loses}
@@ -25,7 +25,7 @@ use Rattle.words.specs.LeftLaws.{Onward, rest-above, onward-between}
 use Rattle.words.specs.WordsLaws.{has-at}
 use Rattle.order_rows.specs.MatrixLaws.{cell-base}
 use Rattle.order_rows.specs.MembersLaws.{kept-none, kept-skip, kept-step, members-skip, members-step}
-use Rattle.order_losses.specs.Losses.{EdgeRows, struck, Fell, oddLoss, Losses}
+use Rattle.order_losses.specs.Losses.{EdgeRows, fallingRows, Vertices, struck, Fell, oddLoss, Losses}
 
 -- ---- Bools
 
@@ -33,15 +33,34 @@ not-false : (b : Bool) → not b ≡ false → So b
 not-false true e = refl
 not-false false e = sym e
 
-fall-cases : (a b c : Bool) → ((a & not b) or ((a & not (not b)) & c)) ≡ a & imp b c
+fall-cases : (m a b c : Bool) → (((m & a) & not b) or (((m & a) & not (not b)) & c)) ≡ m & (a & imp b c)
 unfolding _&_ _or_ imp
-fall-cases true true c = refl
-fall-cases true false c = refl
-fall-cases false b c = refl
+fall-cases true true true c = refl
+fall-cases true true false c = refl
+fall-cases true false b c = refl
+fall-cases false a b c = refl
 
-fall-empty : (o c d : Bool) → ((false & o) or ((false & not o) & c)) ≡ false & d
+fall-empty : (m o c d : Bool) → (((m & false) & o) or (((m & false) & not o) & c)) ≡ m & (false & d)
 unfolding _&_ _or_
-fall-empty o c d = refl
+fall-empty true o c d = refl
+fall-empty false o c d = refl
+
+-- where one of both holds
+rest-cases : (l x e : Bool) → So (l or x) → true & not ((x & (true & not (not e))) or ((x & not (true & not (not e))) & not l)) ≡ l & imp e (not x)
+unfolding _&_ _or_ imp
+rest-cases true true true t = refl
+rest-cases true true false t = refl
+rest-cases true false true t = refl
+rest-cases true false false t = refl
+rest-cases false true true t = refl
+rest-cases false true false t = refl
+rest-cases false false e t = clash t refl
+
+mask-kept : (m a : Bool) → m & not (m & not a) ≡ m & a
+unfolding _&_
+mask-kept true true = refl
+mask-kept true false = refl
+mask-kept false a = refl
 
 -- ---- successors by rows
 
@@ -84,13 +103,36 @@ module _ (G : Game) (edges : List ℕ) (s : EdgeRows G edges) where
   unfolding apart
   apart-is x w h = ap not (next-any w h _ (has x) (λ y k. refl))
 
-  pub fall-rows : (l x : List ℕ) (near : Bool) (w : ℕ) → w < rowBits → near ≡ unitedRows edges rowBits l w
-      → ((near & cell edges (2 * rowBits) w) or ((near & not (cell edges (2 * rowBits) w)) & apart edges w x)) ≡ fall G (has l) (has x) w
+  -- of a mask, the vertices with a successor in l: what of them isn't apart from l
+  pub near-apart : (l : List ℕ) (m : Bool) (w : ℕ) → w < rowBits → m & not (m & apart edges w l) ≡ m & anyNext G w (has l)
+  near-apart l m w h = rw (apart-is l w h) (mask-kept m (anyNext G w (has l)))
+
+  pub fall-rows : (l x near odd : List ℕ) (m : Bool) (w : ℕ) → w < rowBits → has odd w ≡ cell edges (2 * rowBits) w
+      → has near w ≡ m & anyNext G w (has l) → fallingRows edges near odd x w ≡ m & fall G (has l) (has x) w
   unfolding fall
-  fall-rows l x near w h e = rw (e ∙ near-is l w h, apart-is x w h) (elim (decide (anyNext G w (has l))) [
-    | inl t ↦ rw (s .odd w (next-vertex (has l) w t)) (fall-cases (anyNext G w (has l)) (own G even w) _)
-    | inr f ↦ rw f (fall-empty (cell edges (2 * rowBits) w) (not (anyNext G w (has x))) (imp (own G even w) (not (anyNext G w (has x)))))
+  fall-rows l x near odd m w h o e = rw (o, e, apart-is x w h) (elim (decide (anyNext G w (has l))) [
+    | inl t ↦ rw (s .odd w (next-vertex (has l) w t)) (fall-cases m (anyNext G w (has l)) (own G even w) _)
+    | inr f ↦ rw f (fall-empty m (cell edges (2 * rowBits) w) (not (anyNext G w (has x))) (imp (own G even w) (not (anyNext G w (has x)))))
   ])
+
+  -- where l and x are all vertices, and each has an edge: all but those of Even's with a successor in x, and of Odd's with no other
+  pub fall-rest : (l x near even′ : List ℕ) (w : ℕ) → w < rowBits → Total G → Vertices G l x → has near w ≡ anyNext G w (has x)
+      → has even′ w ≡ (has l w or has x w) & not (cell edges (2 * rowBits) w)
+      → (has l w or has x w) & not (fallingRows edges near even′ l w) ≡ fall G (has l) (has x) w
+  unfolding fall
+  fall-rest l x near even′ w h total all n e = rw (n, e, apart-is l w h, all w h) (elim (decide (ltb w (G .n))) [
+    | inl t ↦ (let k = ltb-true w (G .n) t in
+        rw (t, s .odd w k) (rest-cases (anyNext G w (has l)) (anyNext G w (has x)) (own G even w) (some k)))
+    | inr f ↦ rw f (and-first _ refl ∙ sym (and-first _ (So-not (λ t. clash (lt-ltb w (G .n) (next-vertex (has l) w t)) f))))
+  ])
+    where
+      some : w < G .n → So (anyNext G w (has l) or anyNext G w (has x))
+      some k = let r = total w k in
+          let y : r .0 < rowBits = omega (arith, s .small, r .1 .inside) in
+          elim (or-out (all (r .0) y ∙ lt-ltb (r .0) (G .n) (r .1 .inside))) [
+            | inl a ↦ or-left _ (anyNext-in G w (has l) (r .0) (r .1) a)
+            | inr a ↦ or-right _ (anyNext-in G w (has x) (r .0) (r .1) a)
+          ]
 
   -- ---- what a row loses
 

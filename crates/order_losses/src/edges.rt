@@ -9,20 +9,23 @@ use order_rows::row::Row;
 use order_rows::row::WORDS;
 use order_rows::row::common;
 use order_rows::row::either;
+use order_rows::row::size;
 use order_rows::row::without;
 use table::limits::VERTICES;
 ghost use mathlib.Core.Path.{_≡_};
 ghost use mathlib.Core.Bool.{false};
 ghost use Prim.Native.Nat.{ℕ, _≤_};
 ghost use lib.ListN.{length};
-ghost use Rattle.theory.specs.games.Game.{Game};
+ghost use Rattle.theory.specs.logic.Bools.{_&_};
+ghost use Rattle.theory.specs.games.Game.{Game, Total};
+ghost use Rattle.theory.specs.order.Order.{anyNext};
 ghost use Rattle.theory.specs.order.Rows.{fall};
 ghost use Rattle.table.specs.Lent.{old, new};
 ghost use Rattle.table.specs.Table.{tableEdges, gameOf};
 ghost use Rattle.table.specs.WellFormed.{WellFormed};
 ghost use Rattle.words.specs.Words.{has};
 ghost use Rattle.order_rows.specs.Bits.{RowIs, cell};
-ghost use Rattle.order_losses.specs.Losses.{edgeWords, EdgesTo, EdgeRows};
+ghost use Rattle.order_losses.specs.Losses.{edgeWords, EdgesTo, EdgeRows, fallingRows, Vertices};
 
 pub const EDGE_WORDS: usize = (2 * VERTICES + 1) * WORDS;
 
@@ -59,6 +62,15 @@ pub fn fill(game: &[u16], edges: &mut [u64])
     put(edges, 2 * VERTICES, differing(game, 2 + n, n, 0));
 }
 
+// Of `near` those of a player's, and those of the other's without a successor in x.
+fn falling(edges: &[u64], near: Row, player: Row, x: Row) -> Row
+    requires { ⌜ edgeWords ≤ length (now edges) ⌝ }
+    ensures { λ r. ⌜ RowIs r (fallingRows (old edges) near player x) ⌝ }
+{
+    let stuck = apart_of(edges, without(near, player), x);
+    either(common(near, player), stuck)
+}
+
 // What leaves the controllable predecessors when l is taken out and x is left: of the vertices with a successor in l those of Odd's, and those
 // of Even's without a successor in x.
 pub fn fall_of(edges: &[u64], l: Row, x: Row) -> Row
@@ -66,7 +78,40 @@ pub fn fall_of(edges: &[u64], l: Row, x: Row) -> Row
     ensures { λ r. ⌜ ((G : Game) → EdgeRows G (old edges) → RowIs r (fall G (has l) (has x))) ⌝ }
 {
     let near = unite(edges, VERTICES, l);
-    let odd = row(edges, 2 * VERTICES);
-    let stuck = apart_of(edges, without(near, odd), x);
-    either(common(near, odd), stuck)
+    falling(edges, near, row(edges, 2 * VERTICES), x)
+}
+
+// The vertices of `mask` with a successor in l; the smaller of the two is gone through.
+fn near_within(edges: &[u64], mask: Row, l: Row) -> Row
+    requires { ⌜ edgeWords ≤ length (now edges) ⌝ }
+    ensures { λ r. ⌜ ((G : Game) → EdgeRows G (old edges) → RowIs r (λ w. has mask w & anyNext G w (has l))) ⌝ }
+{
+    if size(mask) < size(l) {
+        return without(mask, apart_of(edges, mask, l));
+    }
+    common(mask, unite(edges, VERTICES, l))
+}
+
+// Of `mask`, what `fall_of` gives.
+pub fn fall_within(edges: &[u64], mask: Row, l: Row, x: Row) -> Row
+    requires { ⌜ edgeWords ≤ length (now edges) ⌝ }
+    ensures { λ r. ⌜ ((G : Game) → EdgeRows G (old edges) → RowIs r (λ w. has mask w & fall G (has l) (has x) w)) ⌝ }
+{
+    let near = near_within(edges, mask, l);
+    falling(edges, near, row(edges, 2 * VERTICES), x)
+}
+
+// What `fall_of` gives, where l and x together are all vertices and each has an edge; the smaller of the two is gone through. What stays is in
+// the controllable predecessors of x: of the vertices with a successor in x those of Even's, and those of Odd's without a successor in l.
+pub fn fall_of_all(edges: &[u64], l: Row, x: Row) -> Row
+    requires { ⌜ edgeWords ≤ length (now edges) ⌝ }
+    ensures { λ r. ⌜ ((G : Game) → EdgeRows G (old edges) → Total G → Vertices G l x → RowIs r (fall G (has l) (has x))) ⌝ }
+{
+    if size(l) < size(x) {
+        return fall_of(edges, l, x);
+    }
+    let all = either(l, x);
+    let near = unite(edges, VERTICES, x);
+    let even = without(all, row(edges, 2 * VERTICES));
+    without(all, falling(edges, near, even, l))
 }

@@ -1,5 +1,5 @@
 // What each vertex loses in a round.
-use crate::edges::fall_of;
+use crate::edges::fall_within;
 use order_rows::matrix::add;
 use order_rows::matrix::holds;
 use order_rows::matrix::put;
@@ -34,7 +34,7 @@ fn lose_odd(edges: &[u64], related: &[u64], gone: Row, v: usize) -> Row
         return [0u64; WORDS];
     }
     let left = unite(related, 0, next);
-    common(row(related, v), fall_of(edges, less, left))
+    fall_within(edges, row(related, v), less, left)
 }
 
 // What v loses.

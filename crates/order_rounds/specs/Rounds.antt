@@ -13,7 +13,7 @@ use Rattle.theory.specs.games.Game.{Game}
 use Rattle.theory.specs.order.Order.{equalPriority}
 use Rattle.theory.specs.order.Governed.{marksBy, passesBy}
 use Rattle.theory.specs.order.Rows.{fall, Round, Mirrored, AfterRound}
-use Rattle.order_rows.specs.Bits.{rowBits, cell}
+use Rattle.order_rows.specs.Bits.{rowBits, RowIs, cell}
 use Rattle.order_losses.specs.Losses.{EdgeRows, relationWords, struck, Fell}
 
 -- rows for the relation, what it lost, the falls of its rows, and what it loses next
@@ -25,11 +25,19 @@ RowsFit related lost falls next =
 unfoldable pub unequal : Game → Rel
 unequal G u x = ltb x (G .n) & not (equalPriority G G u x)
 
+-- the others
+unfoldable pub equal : Game → Rel
+equal G u x = ltb x (G .n) & not (unequal G u x)
+
 -- pass 0 as far as row k: what is left of all pairs, what is taken out, and its fall
 pub record Parted (G : Game) (k : ℕ) (related lost falls : List ℕ) : Type 0 where
-  pub left : (u x : ℕ) → u < k → x < rowBits → cell related u x ≡ not (unequal G u x)
+  pub left : (u x : ℕ) → u < k → x < rowBits → cell related u x ≡ equal G u x
   pub loss : (u x : ℕ) → u < k → x < rowBits → cell lost u x ≡ unequal G u x
-  pub fallen : (u w : ℕ) → u < k → w < rowBits → cell falls u w ≡ fall G (unequal G u) (λ x. not (unequal G u x)) w
+  pub fallen : (u w : ℕ) → u < k → w < rowBits → cell falls u w ≡ fall G (unequal G u) (equal G u) w
+
+-- a row of all vertices
+abbrev pub AllVertices : Game → List ℕ → Type 0
+AllVertices G all = RowIs all (λ x. ltb x (G .n))
 
 -- the vertices before k that pass 0 takes something out for
 abbrev pub Started : Game → ℕ → List ℕ → Type 0

@@ -1,7 +1,7 @@
 -- Laws of rounds over rows: the first round is pass 0, a later one is the pass after, and the one that takes nothing out is the last.
 use mathlib.Core.Path.{_≡_, refl, sym, ap, ap₂, _∙_, subst}
 use mathlib.Core.Logic.{inl, inr}
-use mathlib.Core.Bool.{Bool, false, not, So, Bool·not-not}
+use mathlib.Core.Bool.{Bool, true, false, not, So, Bool·not-not}
 use mathlib.Core.List.{List}
 use Prim.Native.Nat.{ℕ, _+_, _<_}
 use native.Mathlib.Decide.{ℕ-discrete}
@@ -20,17 +20,18 @@ use Rattle.theory.specs.order.Order.{anyNext, equalPriority}
 use Rattle.theory.specs.order.OrderLaws.{anyNext-in}
 use Rattle.theory.specs.order.Rows.{fall, loses, taken, Mirrored, AfterRound}
 use Rattle.theory.specs.order.RowsLaws.{fall-same, loses-same, loses-none, mirroredBy-same, mirroredBy-out, taken-in, round-start, round-next, last-count, last-left}
-use Rattle.table.specs.Table.{vertexCount, priorityAt, gameOf}
+use Rattle.table.specs.Table.{vertexCount, priorityAt, ownerAt, gameOf}
+use Rattle.table.specs.WellFormed.{WellFormed}
 use Rattle.words.specs.Words.{has}
 use Rattle.order_rows.specs.Bits.{rowBits, RowIs, cell, Put, Added, unitedRows}
 use Rattle.order_rows.specs.MatrixLaws.{cell-row}
 use Rattle.order_rows.specs.MembersLaws.{kept-end}
-use Rattle.order_losses.specs.Losses.{differs, EdgeRows, struck, Fell, Losses, LossesTo}
+use Rattle.order_losses.specs.Losses.{differs, EdgeRows, Vertices, struck, Fell, Losses, LossesTo}
 use Rattle.order_losses.specs.LossesLaws.{near-is, next-vertex, loses-vertex}
 use Rattle.order_removal.specs.RowRemoval.{TakenTo}
 use Rattle.order_removal.specs.RowRemovalLaws.{out-count}
 use Rattle.order_removal.specs.ReverseLosses.{Completed}
-use Rattle.order_rounds.specs.Rounds.{unequal, Parted, Started, Begun, RoundOf, Settled}
+use Rattle.order_rounds.specs.Rounds.{unequal, equal, AllVertices, Parted, Started, Begun, RoundOf, Settled}
 
 below-next : (q : ℕ → Bool) (v u : ℕ) → ((eqb u v & q v) or (ltb u v & q u)) ≡ ltb u (v + 1) & q u
 below-next q v u =
@@ -76,6 +77,17 @@ unequal-same : (G : Game) (u v x : ℕ) → So (equalPriority G G u v) → unequ
 unfolding unequal equalPriority
 unequal-same G u v x t = rw (eqb-true (G .priority u) (G .priority v) t)
 
+equal-same : (G : Game) (u v x : ℕ) → So (equalPriority G G u v) → equal G u x ≡ equal G v x
+unfolding equal
+equal-same G u v x t = ap (λ b. ltb x (G .n) & not b) (unequal-same G u v x t)
+
+-- no vertex has owner 2
+pub all-row : (g : List ℕ) (all : List ℕ) → WellFormed g → RowIs all (differs g (2 + vertexCount g) (vertexCount g) 2) → AllVertices (gameOf g) all
+unfolding differs gameOf
+all-row g all well e x h =
+    e x h ∙ So-ext (λ t. and-out t .0)
+    (λ t. and-in t (not-in (So-not (λ d. let i = eqb-true (ownerAt g x) 2 d in let k = well .owners x (ltb-true x (vertexCount g) t) in absurd (omega arith)))))
+
 -- rows before k hold p, and the next one is put
 row-next : (p : Rel) (v : ℕ) (words words′ r : List ℕ) → ((u x : ℕ) → u < v → x < rowBits → cell words u x ≡ p u x) → RowIs r (p v) → Put words words′ v r
     → (u x : ℕ) → u < v + 1 → x < rowBits → cell words′ u x ≡ p u x
@@ -91,33 +103,46 @@ parted-none G related lost falls = record {
   fallen = λ u x h. absurd (omega arith);
 }
 
+split : (n e : Bool) → ((n & not e) or (n & not (n & not e))) ≡ n
+unfolding _&_ _or_
+split true true = refl
+split true false = refl
+split false e = refl
+
+module _ (G : Game) (v : ℕ) (all out left : List ℕ) (a : AllVertices G all) (o : RowIs out (unequal G v)) (l : RowIs left (λ x. has all x & not (has out x))) where
+  row-left : RowIs left (equal G v)
+  unfolding equal
+  row-left x k = l x k ∙ ap₂ (λ b c. b & not c) (a x k) (o x k)
+
+  -- what is taken out and what is left are all vertices
+  pub row-all : Vertices G out left
+  unfolding equal unequal
+  row-all x k = ap₂ _or_ (o x k) (row-left x k) ∙ split (ltb x (G .n)) (equalPriority G G v x)
+
 module _ (G : Game) (v : ℕ) (related lost falls left out fallen related′ lost′ falls′ : List ℕ) (s : Parted G v related lost falls)
     (ph : Put related related′ v left) (pl : Put lost lost′ v out) (pf : Put falls falls′ v fallen) where
-  parted-next : RowIs left (λ x. not (unequal G v x)) → RowIs out (unequal G v) → RowIs fallen (fall G (unequal G v) (λ x. not (unequal G v x)))
+  parted-next : RowIs left (equal G v) → RowIs out (unequal G v) → RowIs fallen (fall G (unequal G v) (equal G v))
       → Parted G (v + 1) related′ lost′ falls′
   parted-next l o f = record {
-    left = row-next (λ u x. not (unequal G u x)) v related related′ left (s .left) l ph;
+    left = row-next (equal G) v related related′ left (s .left) l ph;
     loss = row-next (unequal G) v lost lost′ out (s .loss) o pl;
-    fallen = row-next (λ u w. fall G (unequal G u) (λ x. not (unequal G u x)) w) v falls falls′ fallen (s .fallen) f pf;
+    fallen = row-next (λ u w. fall G (unequal G u) (equal G u) w) v falls falls′ fallen (s .fallen) f pf;
   }
 
   pub parted-copy : (u : ℕ) → u < v → So (equalPriority G G u v) → RowIs left (cell related u) → RowIs out (cell lost u) → RowIs fallen (cell falls u)
       → Parted G (v + 1) related′ lost′ falls′
   parted-copy u h t l o f =
       parted-next
-      (λ x k. l x k ∙ s .left u x h k ∙ ap not (unequal-same G u v x t))
+      (λ x k. l x k ∙ s .left u x h k ∙ equal-same G u v x t)
       (λ x k. o x k ∙ s .loss u x h k ∙ unequal-same G u v x t)
       (λ w k. f w k ∙ s .fallen u w h k
-      ∙ fall-same G _ _ _ _ w (λ x m. unequal-same G u v x t) (λ x m. ap not (unequal-same G u v x t)))
+      ∙ fall-same G _ _ _ _ w (λ x m. unequal-same G u v x t) (λ x m. equal-same G u v x t))
 
-  pub parted-row : (edges full : List ℕ) → EdgeRows G edges → ((x : ℕ) → x < rowBits → So (has full x)) → RowIs out (unequal G v)
-      → RowIs left (λ x. has full x & not (has out x)) → RowIs fallen (fall G (has out) (has left)) → Parted G (v + 1) related′ lost′ falls′
-  parted-row edges full e a o l f =
-      parted-next rest o
-      (λ w k. f w k ∙ fall-same G _ _ _ _ w (λ x m. o x (omega (arith, m, e .small))) (λ x m. rest x (omega (arith, m, e .small))))
-    where
-      rest : RowIs left (λ x. not (unequal G v x))
-      rest x k = l x k ∙ and-one _ (a x k) ∙ ap not (o x k)
+  pub parted-row : (all : List ℕ) → AllVertices G all → RowIs out (unequal G v) → RowIs left (λ x. has all x & not (has out x)) → (edges : List ℕ) → EdgeRows G edges
+      → RowIs fallen (fall G (has out) (has left)) → Parted G (v + 1) related′ lost′ falls′
+  parted-row all a o l edges e f = let r = row-left G v all out left a o l in
+      parted-next r o
+      (λ w k. f w k ∙ fall-same G _ _ _ _ w (λ x m. o x (omega (arith, m, e .small))) (λ x m. r x (omega (arith, m, e .small))))
 
 pub started-none : (G : Game) (changed : List ℕ) → ((x : ℕ) → x < rowBits → cell changed 0 x ≡ false) → Started G 0 changed
 started-none G changed z u h = z u h ∙ sym (and-first _ (le-ltb u 0 (omega arith)))
@@ -137,24 +162,24 @@ and-some n p x h = So-ext (λ t. and-out t .1) (λ t. and-in (any-in n p x h t) 
 
 pub begun : (G : Game) (edges related lost falls changed : List ℕ) → EdgeRows G edges → Total G → Parted G (G .n) related lost falls
     → Started G (G .n) changed → Begun G related lost falls changed
-unfolding unequal
+unfolding unequal equal
 begun G edges related lost falls changed s total p st = record {
   fell = λ a w ha hw o.
       p .fallen a w ha hw
       ∙ fall-same G _ _ _ _ w
       (λ x h. sym (p .loss a x ha (omega (arith, h, s .small))))
       (λ x h. sym (p .left a x ha (omega (arith, h, s .small))));
-  after = round-start G total (cell related) (struck changed lost) equal
+  after = round-start G total (cell related) (struck changed lost) kept
       (λ v w hv hw.
       let kv : v < rowBits = omega (arith, hv, s .small) in
       let kw : w < rowBits = omega (arith, hw, s .small) in
       ap₂ _&_ (sym (cell-row changed v) ∙ st v kv ∙ and-one _ (lt-ltb v (G .n) hv)) (p .loss v w hv kw)
-      ∙ and-some rowBits (unequal G v) w kw ∙ and-one _ (lt-ltb w (G .n) hw) ∙ ap not (sym (equal v w hv hw)));
+      ∙ and-some rowBits (unequal G v) w kw ∙ and-one _ (lt-ltb w (G .n) hw) ∙ ap not (sym (kept v w hv hw)));
 }
   where
-    equal : (v w : ℕ) → v < G .n → w < G .n → cell related v w ≡ equalPriority G G v w
-    equal v w hv hw =
-        p .left v w hv (omega (arith, hw, s .small)) ∙ ap not (and-one _ (lt-ltb w (G .n) hw)) ∙ Bool·not-not (equalPriority G G v w)
+    kept : (v w : ℕ) → v < G .n → w < G .n → cell related v w ≡ equalPriority G G v w
+    kept v w hv hw = let t = lt-ltb w (G .n) hw in
+        p .left v w hv (omega (arith, hw, s .small)) ∙ and-one _ t ∙ ap not (and-one _ t) ∙ Bool·not-not (equalPriority G G v w)
 
 -- ---- a later round
 

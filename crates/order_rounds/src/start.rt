@@ -1,11 +1,11 @@
 // Pass 0 as a round: from all pairs, the unequal priorities are taken out. Vertices of one priority lose the same, so that what they lose and its
 // fall are worked out at the first of them.
-use order_losses::edges::fall_of;
+use order_losses::edges::fall_of_all;
 use order_losses::values::differing;
 use order_rows::matrix::add;
 use order_rows::matrix::put;
 use order_rows::matrix::row;
-use order_rows::row::WORDS;
+use order_rows::row::Row;
 use order_rows::row::is_some;
 use order_rows::row::without;
 ghost use mathlib.Core.Path.{_≡_};
@@ -20,7 +20,7 @@ ghost use Rattle.table.specs.Table.{vertexCount, gameOf};
 ghost use Rattle.table.specs.WellFormed.{WellFormed};
 ghost use Rattle.order_rows.specs.Bits.{rowBits, rowWords, cell};
 ghost use Rattle.order_losses.specs.Losses.{edgeWords, EdgeRows, relationWords};
-ghost use Rattle.order_rounds.specs.Rounds.{Parted, Begun};
+ghost use Rattle.order_rounds.specs.Rounds.{AllVertices, Parted, Begun};
 
 // The first vertex before v of v's priority; v where there is none.
 fn first_equal(game: &[u16], v: usize) -> usize
@@ -60,9 +60,10 @@ fn part(
     related: &mut [u64],
     lost: &mut [u64],
     falls: &mut [u64],
+    all: Row,
     v: usize,
 )
-    requires { ⌜ WellFormed (now game) × (v < vertexCount (now game)) ⌝ }
+    requires { ⌜ WellFormed (now game) × (v < vertexCount (now game)) × AllVertices (gameOf (now game)) all ⌝ }
     requires { ⌜ EdgeRows (gameOf (now game)) (now edges) × (edgeWords ≤ length (now edges)) ⌝ }
     requires { ⌜ (relationWords ≤ length (now related)) × (relationWords ≤ length (now lost)) × (relationWords ≤ length (now falls)) ⌝ }
     requires { ⌜ Parted (gameOf (now game)) v (now related) (now lost) (now falls) ⌝ }
@@ -70,10 +71,10 @@ fn part(
 {
     let n = game[0] as usize;
     let out = differing(game, 2, n, game[2 + v]);
-    let left = without([0xffff_ffff_ffff_ffffu64; WORDS], out);
+    let left = without(all, out);
     put(related, v, left);
     put(lost, v, out);
-    put(falls, v, fall_of(edges, out, left));
+    put(falls, v, fall_of_all(edges, out, left));
 }
 
 // Row v, which is the next: as that of an earlier vertex of its priority, if there is one.
@@ -83,9 +84,10 @@ fn start_row(
     related: &mut [u64],
     lost: &mut [u64],
     falls: &mut [u64],
+    all: Row,
     v: usize,
 )
-    requires { ⌜ WellFormed (now game) × (v < vertexCount (now game)) ⌝ }
+    requires { ⌜ WellFormed (now game) × (v < vertexCount (now game)) × AllVertices (gameOf (now game)) all ⌝ }
     requires { ⌜ EdgeRows (gameOf (now game)) (now edges) × (edgeWords ≤ length (now edges)) ⌝ }
     requires { ⌜ (relationWords ≤ length (now related)) × (relationWords ≤ length (now lost)) × (relationWords ≤ length (now falls)) ⌝ }
     requires { ⌜ Parted (gameOf (now game)) v (now related) (now lost) (now falls) ⌝ }
@@ -95,7 +97,7 @@ fn start_row(
     if u < v {
         copy(related, lost, falls, u, v);
     } else {
-        part(game, edges, related, lost, falls, v);
+        part(game, edges, related, lost, falls, all, v);
     }
 }
 
@@ -116,9 +118,11 @@ pub fn begin(
     ensures { λ r. ⌜ Begun (gameOf (old game)) (new related) (new lost) (new falls) (new changed) ⌝ }
 {
     let n = game[0] as usize;
+    // No vertex has owner 2.
+    let all = differing(game, 2 + n, n, 2);
     let mut v = 0;
     while v < n {
-        start_row(game, edges, related, lost, falls, v);
+        start_row(game, edges, related, lost, falls, all, v);
         add(changed, 0, v, is_some(row(lost, v)));
         v += 1;
     }

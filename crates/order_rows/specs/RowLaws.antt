@@ -1,18 +1,18 @@
 -- Laws of rows: a row that is filled word by word, what is in it by its words, and the first number in it.
-use mathlib.Core.Path.{_≡_, refl, sym, ap, _∙_}
+use mathlib.Core.Path.{_≡_, sym, ap, _∙_}
 use mathlib.Core.Logic.{inl, inr}
-use mathlib.Core.Bool.{Bool, So}
+use mathlib.Core.Bool.{Bool}
 use mathlib.Core.List.{List}
 use Prim.Native.Nat.{ℕ, _+_, _*_, _/_, _%_, _≤_, _<_}
 use native.Mathlib.Decide.{ℕ-discrete}
 use native.Mathlib.Omega.{arith}
 use lib.Arith.{digits-mod}
-use lib.ListN.{length, getD, set, replicate, length-set, length-replicate, getD-replicate}
+use lib.ListN.{length, getD, set, length-set}
 use lib.Seq.{getD-set-same, getD-set-other}
-use Rattle.theory.specs.logic.Bools.{_&_, _or_}
+use Rattle.theory.specs.logic.Bools.{_or_}
 use Rattle.theory.specs.logic.BoolsLaws.{So-ext, or-left, or-right, or-out}
-use Rattle.theory.specs.logic.Range.{allBelow, anyBelow, count, first}
-use Rattle.theory.specs.logic.RangeLaws.{all-out, any-in, any-out, any-append, any-ext, first-is, first-ge, first-passes, first-before, first-skip}
+use Rattle.theory.specs.logic.Range.{anyBelow, count, first}
+use Rattle.theory.specs.logic.RangeLaws.{any-in, any-out, any-append, any-ext, first-is, first-ge, first-passes, first-before, first-skip}
 use Rattle.theory.specs.logic.CountLaws.{count-append, count-ext}
 use Rattle.words.specs.Word.{wordBits, digit}
 use Rattle.words.specs.Words.{has}
@@ -65,17 +65,6 @@ count-words k a =
     let e : (k + 1) * 64 ≡ k * 64 + 64 = omega arith in
     ap (λ (i : ℕ). count i (has a)) e ∙ count-append (k * 64) 64 (has a)
     ∙ ap (λ (c : ℕ). count (k * 64) (has a) + c) (count-ext 64 _ _ (has-at a k))
-
--- ---- rows by their values
-
-digits-full : (k : ℕ) → k < wordBits → So (digit 18446744073709551615 k)
-unfolding digit allBelow _&_
-digits-full = all-out {n = 64} {p = digit 18446744073709551615} refl .at
-
--- words of ones hold all
-pub row-full : (x : ℕ) → x < rowBits → So (has (replicate rowWords 18446744073709551615) x)
-unfolding has
-row-full x h = rw (getD-replicate {A = ℕ} rowWords (x / 64) 18446744073709551615 0 (rw (length-replicate {A = ℕ} rowWords 18446744073709551615) (omega arith))) (digits-full (x % 64) (omega arith))
 
 -- ---- the first number from a place on, by its word
 

@@ -2,8 +2,8 @@
 mod answers;
 
 use table::Acceptance;
+use table::Filling;
 use table::NoCounts;
-use table::Reading;
 use table::acceptor::refused;
 use table::limits::LINKS;
 use table::limits::POSITION_STARTS;
@@ -24,8 +24,8 @@ ghost use Rattle.plan.specs.Acceptance.{planRows, planAnswer};
 pub fn accept_plan(game: &[u16], player: u32, plan: &[u16]) -> Acceptance
     ensures { λ r. ⌜ acceptanceAnswer r ≡ planAnswer (old game) player (old plan) ⌝ }
 {
-    let reading = table_reader::read(game);
-    let Reading::Accepted(_) = reading else {
+    let reading = table_reader::read_sizes(game);
+    let Filling::Accepted(_) = reading else {
         return Acceptance::Refused(refusal_of(reading));
     };
     judge_plan(game, player, plan)

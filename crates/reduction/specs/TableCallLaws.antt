@@ -8,13 +8,14 @@ use Rattle.theory.specs.games.Game.{Game}
 use Rattle.table.specs.Table.{vertexCount, tableEdges, tableLength}
 use Rattle.table.specs.Answers.{Row, memoryRow, accepted, refused, judge}
 use Rattle.table.specs.AnswersLaws.{judge-hit, judge-clean, judge-past, judge-stays, after-clean, after-refused}
-use Rattle.table.specs.Reading.{readAnswer, readingAnswer, refusalOf}
+use Rattle.table.specs.Reading.{sizesAnswer}
+use Rattle.table.specs.Filling.{fillingAnswer, refusalOf}
 use Rattle.table.specs.ReadingLaws.{reading-accepted}
 use Rattle.table.specs.WellFormed.{WellFormed, WellSized}
-use Rattle.table.specs.declared.Sizes.{Sizes}
+use Rattle.table.specs.declared.FilledSizes.{FilledSizes}
 use Rattle.table.specs.declared.Refusal.{Refusal}
-use Rattle.table.specs.declared.Reading.{Reading}
-use Rattle.table.specs.declared.Reading.the-variants.{Accepted, Refused}
+use Rattle.table.specs.declared.Filling.{Filling}
+use Rattle.table.specs.declared.Filling.the-variants.{Accepted, Refused}
 use Rattle.order.specs.OrderCall.{orderBytes}
 use Rattle.classes.specs.ClassesCall.{memoryRows, memoryAnswer, classRows, classWords}
 use Rattle.classes.specs.ClassesCallLaws.{rows-handed, rows-short}
@@ -28,7 +29,7 @@ use Rattle.reduction.specs.Tables.{TableDone}
 use Rattle.reduction.specs.declared.TableCounts.{TableCounts}
 
 -- the reader accepted
-pub sized : {game : List ℕ} {reading : Reading} {sizes : Sizes} → reading ≡ Accepted sizes → readingAnswer reading ≡ readAnswer game → WellSized game sizes
+pub sized : {game : List ℕ} {reading : Filling} {sizes : FilledSizes} → reading ≡ Accepted sizes → fillingAnswer reading ≡ sizesAnswer game → WellSized game sizes
 sized {game} e a = reading-accepted game _ (rw e at a)
 
 module _ (K : Game → Game) (game marks spare classes output : List ℕ) where
@@ -56,7 +57,7 @@ module _ (K : Game → Game) (game marks spare classes output : List ℕ) where
   stays k p e = judge-stays (classRows game marks spare classes) _ [] counts k p e
 
   -- the reader's refusal, taken out of its verdict, is the call's
-  pub table-handed : (reading : Reading) (f g : Refusal) → reading ≡ Refused f → readingAnswer reading ≡ readAnswer game → g ≡ refusalOf reading
+  pub table-handed : (reading : Filling) (f g : Refusal) → reading ≡ Refused f → fillingAnswer reading ≡ sizesAnswer game → g ≡ refusalOf reading
       → TableCall K game marks spare classes output (refused (g .number) (g .place)) marks spare classes output
   table-handed reading f g e a r =
       rw (r, e) (table-old (f .number) (f .place) (stays _ _ (rows-handed game marks spare classes [] f (rw e at a))))

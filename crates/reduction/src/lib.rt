@@ -3,9 +3,9 @@ pub mod tables;
 
 use classes::Memory;
 use classes::judge_memory;
-use table::Reading;
+use table::FilledSizes;
+use table::Filling;
 use table::Refusal;
-use table::Sizes;
 use table::refusal_of;
 ghost use Rattle.theory.specs.classes.Reduction.{quotient, reduced};
 ghost use Rattle.table.specs.Lent.{old, new};
@@ -29,7 +29,7 @@ pub enum Tabulation {
 // reduced game. A part of the calls that write such a table; no host calls it.
 pub fn tabulate_classes(
     game: &[u16],
-    sizes: Sizes,
+    sizes: FilledSizes,
     marks: &mut [u8],
     spare: &mut [u8],
     classes: &mut [u16],
@@ -71,8 +71,8 @@ pub fn write_quotient(
         (new marks) (new spare) (new classes) (new output)
         ⌝ }
 {
-    let reading = table_reader::read(game);
-    let Reading::Accepted(sizes) = reading else {
+    let reading = table_reader::read_sizes(game);
+    let Filling::Accepted(sizes) = reading else {
         return Tabulation::Refused(refusal_of(reading));
     };
     tabulate_classes(game, sizes, marks, spare, classes, output, false)
@@ -91,8 +91,8 @@ pub fn write_reduced(
         (new marks) (new spare) (new classes) (new output)
         ⌝ }
 {
-    let reading = table_reader::read(game);
-    let Reading::Accepted(sizes) = reading else {
+    let reading = table_reader::read_sizes(game);
+    let Filling::Accepted(sizes) = reading else {
         return Tabulation::Refused(refusal_of(reading));
     };
     tabulate_classes(game, sizes, marks, spare, classes, output, true)

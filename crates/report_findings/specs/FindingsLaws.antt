@@ -18,7 +18,6 @@ use Rattle.table.specs.declared.Reading.{Reading}
 use Rattle.marks.specs.Marks.{marksLength}
 use Rattle.classes.specs.ClassesCall.{classTotal, classWords}
 use Rattle.reduction.specs.TableRules.{TableFits}
-use Rattle.reduction.specs.TableCallLaws.{sized}
 use Rattle.reduction.specs.Tables.{TableDone}
 use Rattle.reduction.specs.declared.TableCounts.{TableCounts}
 use Rattle.reduction_totals.specs.Totals.{memberWords, edgeWords}
@@ -55,6 +54,10 @@ pub classes-fit : (g : List ℕ) → WellFormed g → (n : ℕ) → vertexLimit 
 classes-fit g w n h = omega (arith, few-classes g, w .vertices)
 
 -- the reader refuses
+-- what the reader's `Accepted` tells
+pub counted : {g : List ℕ} {v : Reading} {c : Sizes} → v ≡ Reading.Accepted c → readingAnswer v ≡ readAnswer g → WellFormed g × (c .vertices ≡ vertexCount g)
+counted {g} h e = let a = read-accepted g _ (sym e ∙ ap readingAnswer h) in (a .0, cc (a .1))
+
 pub reported-refused : (g classes members edges : List ℕ) (v : Reading) (f : Refusal) → v ≡ Reading.Refused f → readingAnswer v ≡ readAnswer g
     → Reported g classes members edges (record { verdict = v; passes = 0; classes = 0; totals = record { members = 0; edges = 0 }; vertices = 0; edges = 0 })
     classes members edges
@@ -87,7 +90,7 @@ module _ {g marks spare classes output : List ℕ} {passes : ℕ} {counts : Tabl
       classes′ members′ edges′
   reported-accepted summed v c h e =
       let a : readAnswer g ≡ readingAnswer (Reading.Accepted c) = sym e ∙ ap readingAnswer h in
-      let clean = well-clean g (sized h e .well) in
+      let clean = well-clean g (counted h e .0) in
       let t = made .table in
       record {
         verdict = e;
@@ -109,7 +112,7 @@ reported-same e d = rw e at d
 -- words for the largest game are enough to print
 module _ {g classes members edges classes′ members′ edges′ : List ℕ} {r : Report} (d : Reported g classes members edges r classes′ members′ edges′) where
   pub reported-small : (n : ℕ) → vertexLimit ≤ n → AtMost n (r .verdict)
-  reported-small n h = record { fits = λ c e. let s = sized e (d .verdict) in omega (arith, s .vertices, s .well .vertices) }
+  reported-small n h = record { fits = λ c e. let s = counted e (d .verdict) in omega (arith, s .1, s .0 .vertices) }
 
   pub reported-classes : r .classes ≤ vertexLimit
   unfolding number

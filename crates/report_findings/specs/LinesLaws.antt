@@ -15,13 +15,12 @@ use Rattle.table.specs.ReadingLaws.{well-clean}
 use Rattle.table.specs.declared.Sizes.{Sizes}
 use Rattle.table.specs.declared.Reading.{Reading}
 use Rattle.classes.specs.ClassesCall.{classTotal}
-use Rattle.reduction.specs.TableCallLaws.{sized}
 use Rattle.reduction_totals.specs.Totals.{memberWords, edgeWords, memberTotal, edgeTotal}
 use Rattle.reduction_totals.specs.TotalsLaws.{member-total-all, edge-total-all}
 use Rattle.reduction_totals.specs.CountingLaws.{sum-written}
 use Rattle.report_findings.specs.declared.Report.{Report}
 use Rattle.report_findings.specs.Findings.{number, Reported}
-use Rattle.report_findings.specs.FindingsLaws.{number-accepted}
+use Rattle.report_findings.specs.FindingsLaws.{number-accepted, counted}
 
 module _ {g classes members edges classes′ members′ edges′ : List ℕ} {r : Report} (d : Reported g classes members edges r classes′ members′ edges′) where
   -- the edges of `total` are those of `reduced`, whatever the verdict
@@ -34,13 +33,13 @@ module _ {g classes members edges classes′ members′ edges′ : List ℕ} {r 
 
     -- the members of `total` are the vertices of `game`
     pub total-game : r .totals .members ≡ c .vertices
-    total-game = given (d .member-total) ∙ member-total-all g ∙ sym (sized e (d .verdict) .vertices)
+    total-game = given (d .member-total) ∙ member-total-all g ∙ sym (counted e (d .verdict) .1)
 
     written-sum : (f : ℕ → ℕ) (old new : List ℕ) → new ≡ after (gameRows g) (tabulate (classTotal g) f) old
         → sum (r .classes) (λ i. getD new i 0) ≡ sum (classTotal g) f
     written-sum f old new w =
         rw (given (d .class-count))
-        (sum-written (classTotal g) f old new (w ∙ after-clean (gameRows g) (tabulate (classTotal g) f) old (well-clean g (sized e (d .verdict) .well))))
+        (sum-written (classTotal g) f old new (w ∙ after-clean (gameRows g) (tabulate (classTotal g) f) old (well-clean g (counted e (d .verdict) .0))))
 
     -- both are the sums of the words of the `class` lines
     pub total-members : r .totals .members ≡ sum (r .classes) (λ i. getD members′ i 0)

@@ -10,7 +10,6 @@ use Rattle.theory.specs.games.Game.{edgeCount}
 use Rattle.table.specs.Limits.{vertexLimit, edgeLimit}
 use Rattle.table.specs.Table.{vertexCount, tableEdges, sourceAt, tableLength, gameOf}
 use Rattle.table.specs.Answers.{Row, row, Answer, accepted, refused, judge}
-use Rattle.table.specs.declared.Refusal.{Refusal}
 use Rattle.table.specs.declared.Reading.{Reading}
 use Rattle.table.specs.declared.Reading.the-variants.{Accepted, Refused}
 
@@ -50,12 +49,11 @@ gameRows g = gameRowsBy (λ size needed. not (eqb size needed)) g
 unfoldable pub readAnswer : List ℕ → Answer
 readAnswer g = judge (gameRows g) (vertexCount g ∷ tableEdges g ∷ edgeCount (gameOf g) ∷ [])
 
+-- the same without the number of different edges, as a call asks it that goes on with the table
+unfoldable pub sizesAnswer : List ℕ → Answer
+sizesAnswer g = judge (gameRows g) (vertexCount g ∷ tableEdges g ∷ [])
+
 -- what the cases of the reader's verdict say
 abbrev pub readingAnswer : Reading → Answer
 readingAnswer (Accepted c) = accepted (c .vertices ∷ c .edges ∷ c .different ∷ [])
 readingAnswer (Refused f) = refused (f .number) (f .place)
-
--- the refusal in the verdict, for a call to hand on; number 0 where there is none
-abbrev pub refusalOf : Reading → Refusal
-refusalOf (Accepted c) = record { number = 0; place = 0 }
-refusalOf (Refused f) = f

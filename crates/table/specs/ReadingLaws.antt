@@ -22,13 +22,14 @@ use Rattle.table.specs.Answers.{Row, row, accepted, refused, judge, Clea
 use Rattle.table.specs.Rules.{Some, firstSuch, FirstRule, NoRule, no-rule, fails, Renders, Rendered, none, next}
 use Rattle.table.specs.AnswersLaws.{judge-accepted, judge-clean, judge-past, judge-stays}
 use Rattle.table.specs.RulesLaws.{renders-placed, renders-first, refused-by, clean-none, none-clean}
-use Rattle.table.specs.Reading.{lacksEdge, firstOwner, firstEnd, firstLacking, gameRowsBy, gameRows, readAnswer, readingAnswer}
+use Rattle.table.specs.Reading.{lacksEdge, firstOwner, firstEnd, firstLacking, gameRowsBy, gameRows, readAnswer, sizesAnswer}
+use Rattle.table.specs.Filling.{fillingAnswer}
 use Rattle.table.specs.ReadingRules.{Lacks, gameRulesBy, gameRules}
 use Rattle.table.specs.WellFormed.{WellFormed, WellSized}
 use Rattle.table.specs.Flags.{EndsInside}
-use Rattle.table.specs.declared.Sizes.{Sizes}
+use Rattle.table.specs.declared.FilledSizes.{FilledSizes}
 use Rattle.table.specs.declared.Refusal.{Refusal}
-use Rattle.table.specs.declared.Reading.the-variants.{Accepted, Refused}
+use Rattle.table.specs.declared.Filling.the-variants.{Accepted, Refused}
 
 -- ---- what the reader's tests say
 
@@ -164,18 +165,19 @@ pub read-accepts : (g : List ℕ) → WellFormed g → readAnswer g ≡ accepted
 unfolding readAnswer
 read-accepts g w = judge-clean (gameRows g) _ (well-clean g w)
 
--- ---- for a caller of `read`, whose rows are the reader's and then its own
+-- ---- for a caller of `read_sizes`, whose rows are the reader's and then its own
 
-pub reading-accepted : (g : List ℕ) (c : Sizes) → readingAnswer (Accepted c) ≡ readAnswer g → WellSized g c
+pub reading-accepted : (g : List ℕ) (c : FilledSizes) → fillingAnswer (Accepted c) ≡ sizesAnswer g → WellSized g c
+unfolding sizesAnswer
 reading-accepted g c e =
-    let a = read-accepted g _ (sym e) in
-    record { well = a .0; vertices = cc (a .1); edges = cc (a .1); different = cc (a .1) }
+    let a = judge-accepted (gameRows g) _ _ (sym e) in
+    record { well = clean-well g (a .0); vertices = cc (a .1); edges = cc (a .1) }
 
-pub reading-past : (g : List ℕ) (c : Sizes) → readingAnswer (Accepted c) ≡ readAnswer g → (rs : List Row) (counts : List ℕ)
+pub reading-past : (g : List ℕ) (c : FilledSizes) → fillingAnswer (Accepted c) ≡ sizesAnswer g → (rs : List Row) (counts : List ℕ)
     → judge (gameRows g ++ rs) counts ≡ judge rs counts
 reading-past g c e rs counts = judge-past (gameRows g) rs counts (well-clean g (reading-accepted g c e .well))
 
-pub reading-stays : (g : List ℕ) (f : Refusal) → readingAnswer (Refused f) ≡ readAnswer g → (rs : List Row) (counts : List ℕ)
-    → judge (gameRows g ++ rs) counts ≡ readingAnswer (Refused f)
-unfolding readAnswer
+pub reading-stays : (g : List ℕ) (f : Refusal) → fillingAnswer (Refused f) ≡ sizesAnswer g → (rs : List Row) (counts : List ℕ)
+    → judge (gameRows g ++ rs) counts ≡ fillingAnswer (Refused f)
+unfolding sizesAnswer
 reading-stays g f e rs counts = judge-stays (gameRows g) rs _ counts (f .number) (f .place) (sym e)

@@ -3,10 +3,9 @@ use mathlib.Core.Path.{_≡_}
 use mathlib.Core.List.{List}
 use Prim.Native.Nat.{ℕ, _≤_, _<_}
 use lib.ListN.{length}
-use Rattle.theory.specs.games.Game.{edgeCount}
 use Rattle.table.specs.Limits.{vertexLimit, edgeLimit}
-use Rattle.table.specs.Table.{vertexCount, tableEdges, ownerAt, sourceAt, targetAt, tableLength, gameOf}
-use Rattle.table.specs.declared.Sizes.{Sizes}
+use Rattle.table.specs.Table.{vertexCount, tableEdges, ownerAt, sourceAt, targetAt, tableLength}
+use Rattle.table.specs.declared.FilledSizes.{FilledSizes}
 
 pub record WellFormed (g : List ℕ) : Type 0 where
   pub some : 0 < vertexCount g
@@ -19,9 +18,8 @@ pub record WellFormed (g : List ℕ) : Type 0 where
   -- every vertex has an edge out
   pub total : (v : ℕ) → v < vertexCount g → (j : ℕ) × (j < tableEdges g) × (sourceAt g j ≡ v)
 
--- a well-formed table of these sizes: what the reader's `Accepted` tells a caller
-pub record WellSized (g : List ℕ) (c : Sizes) : Type 0 where
+-- a well-formed table of these sizes: what `Accepted` tells a caller of `read_sizes`
+pub record WellSized (g : List ℕ) (c : FilledSizes) : Type 0 where
   pub well : WellFormed g
   pub vertices : c .vertices ≡ vertexCount g
   pub edges : c .edges ≡ tableEdges g
-  pub different : c .different ≡ edgeCount (gameOf g)

@@ -6,7 +6,7 @@ pub mod searches;
 pub mod slices;
 
 ghost use mathlib.Core.Path.{_≡_};
-ghost use Rattle.table.specs.Reading.{refusalOf};
+ghost use Rattle.table.specs.Filling.{refusalOf};
 
 // Document 01's number, and its place: a word, a byte, a vertex, a link, a position or a length.
 pub struct Refusal {
@@ -46,12 +46,12 @@ pub enum Filling {
 }
 
 // The refusal of the reader's verdict, for a call to hand on; number 0 where there is none. A part of the calls; no host calls it.
-pub fn refusal_of(reading: Reading) -> Refusal
+pub fn refusal_of(reading: Filling) -> Refusal
     ensures { λ r. ⌜ r ≡ refusalOf reading ⌝ }
 {
     match reading {
-        Reading::Refused(refusal) => refusal,
-        Reading::Accepted(_) => Refusal {
+        Filling::Refused(refusal) => refusal,
+        Filling::Accepted(_) => Refusal {
             number: 0,
             place: 0,
         },

@@ -10,11 +10,12 @@ use Rattle.theory.specs.logic.BoolsLaws.{and-in, and-out}
 use Rattle.table.specs.Table.{vertexCount, tableEdges, tableLength}
 use Rattle.table.specs.Answers.{Row, row, memoryRow, accepted, refused, written, judge}
 use Rattle.table.specs.AnswersLaws.{judge-hit, judge-next, judge-past, after-accepted, after-refused}
-use Rattle.table.specs.Reading.{gameRows, readAnswer, readingAnswer}
+use Rattle.table.specs.Reading.{gameRows, sizesAnswer}
+use Rattle.table.specs.Filling.{fillingAnswer}
 use Rattle.table.specs.ReadingLaws.{reading-stays, well-clean}
 use Rattle.table.specs.WellFormed.{WellFormed}
 use Rattle.table.specs.declared.Refusal.{Refusal}
-use Rattle.table.specs.declared.Reading.the-variants.{Refused}
+use Rattle.table.specs.declared.Filling.the-variants.{Refused}
 use Rattle.table_convert.specs.LowestTable.{highest, lowestTable}
 use Rattle.table_convert.specs.ConvertCall.{oversize, firstOversize, convertRows, convertAnswer, ConvertCall}
 
@@ -36,7 +37,7 @@ module _ (game output : List ℕ) where
   convert-old k p e = record { verdict = sym e; output-after = sym (after-refused (convertRows game output) _ (lowestTable game) output e) }
 
   -- the reader's refusal is the call's
-  pub convert-handed : (f : Refusal) → readingAnswer (Refused f) ≡ readAnswer game → ConvertCall game output (refused (f .number) (f .place)) output
+  pub convert-handed : (f : Refusal) → fillingAnswer (Refused f) ≡ sizesAnswer game → ConvertCall game output (refused (f .number) (f .place)) output
   convert-handed f e = convert-old (f .number) (f .place) (unfold convertAnswer convertRows in reading-stays game f e _ _)
 
   -- the reader accepted with n and m

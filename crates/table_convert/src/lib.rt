@@ -3,7 +3,6 @@ mod writing;
 
 use table::FilledSizes;
 use table::Filling;
-use table::Reading;
 use table::Refusal;
 use table::refusal_of;
 use table::slices;
@@ -20,8 +19,8 @@ ghost use Rattle.table_convert.specs.ConvertCall.{ConvertCall};
 pub fn write_lowest(game: &[u16], output: &mut [u16]) -> Filling
     ensures { λ r. ⌜ ConvertCall (old game) (old output) (fillingAnswer r) (new output) ⌝ }
 {
-    let reading = table_reader::read(game);
-    let Reading::Accepted(sizes) = reading else {
+    let reading = table_reader::read_sizes(game);
+    let Filling::Accepted(sizes) = reading else {
         return Filling::Refused(refusal_of(reading));
     };
     let n = sizes.vertices;

@@ -13,13 +13,14 @@ use Rattle.table.specs.Limits.{vertexLimit, edgeLimit}
 use Rattle.table.specs.Table.{vertexCount, tableEdges, tableLength}
 use Rattle.table.specs.Answers.{Row, row, memoryRow, Answer, accepted, refused, judge, Clean, after}
 use Rattle.table.specs.AnswersLaws.{judge-clean, judge-hit, judge-past, judge-stays, judge-accepted, after-past, after-refused}
-use Rattle.table.specs.Reading.{gameRows, readAnswer, readingAnswer, refusalOf}
+use Rattle.table.specs.Reading.{gameRows, readAnswer, sizesAnswer}
+use Rattle.table.specs.Filling.{fillingAnswer, refusalOf}
 use Rattle.table.specs.ReadingLaws.{read-accepted, reading-accepted}
 use Rattle.table.specs.WellFormed.{WellSized}
-use Rattle.table.specs.declared.Sizes.{Sizes}
+use Rattle.table.specs.declared.FilledSizes.{FilledSizes}
 use Rattle.table.specs.declared.Refusal.{Refusal}
-use Rattle.table.specs.declared.Reading.{Reading}
-use Rattle.table.specs.declared.Reading.the-variants.{Accepted, Refused}
+use Rattle.table.specs.declared.Filling.{Filling}
+use Rattle.table.specs.declared.Filling.the-variants.{Accepted, Refused}
 use Rattle.order.specs.OrderCall.{orderBytes}
 use Rattle.classes.specs.ClassesCall.{memoryRows, classRows, classWords}
 use Rattle.reduction.specs.TableCall.{tableRows, tableCounts, classTable, TableCall}
@@ -77,7 +78,7 @@ module _ (table : List ℕ) (player : ℕ) (plan : List ℕ) (class : ℕ) (c : 
 -- ---- what the reader and the reduced-game call leave
 
 -- the reader accepted
-pub read-sized : {game : List ℕ} {reading : Reading} {sizes : Sizes} → reading ≡ Accepted sizes → readingAnswer reading ≡ readAnswer game → WellSized game sizes
+pub read-sized : {game : List ℕ} {reading : Filling} {sizes : FilledSizes} → reading ≡ Accepted sizes → fillingAnswer reading ≡ sizesAnswer game → WellSized game sizes
 read-sized {game} e a = reading-accepted game _ (rw e at a)
 
 module _ {game marks spare classes reduction : List ℕ} {answer : Answer} {marks′ spare′ classes′ reduction′ : List ℕ}
@@ -132,9 +133,9 @@ module _ (game : List ℕ) (vertex player : ℕ) (plan marks spare classes reduc
   room = memoryRow 24 (tableLength (vertexCount game) (tableEdges game)) reduction ∷ []
 
   -- the reader's refusal, taken out of its verdict
-  pub verdict-handed : (reading : Reading) (f g : Refusal) → reading ≡ Refused f → readingAnswer reading ≡ readAnswer game → g ≡ refusalOf reading
+  pub verdict-handed : (reading : Filling) (f g : Refusal) → reading ≡ Refused f → fillingAnswer reading ≡ sizesAnswer game → g ≡ refusalOf reading
       → Call (refused (g .number) (g .place)) marks spare classes reduction
-  unfolding beforePlanRows readAnswer
+  unfolding beforePlanRows sizesAnswer
   verdict-handed reading f g e a r =
       rw (r, e)
       (front-refused (f .number) (f .place) (judge-stays (gameRows game) _ _ [] _ _ (sym (rw e at a))))

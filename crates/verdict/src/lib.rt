@@ -5,7 +5,7 @@ use reduction::TableCounts;
 use reduction::Tabulation;
 use reduction::write_reduced;
 use table::Acceptance;
-use table::Reading;
+use table::Filling;
 use table::Refusal;
 use table::refusal_of;
 ghost use mathlib.Core.Path.{_≡_};
@@ -36,8 +36,8 @@ pub fn give_verdict(
         (new marks) (new spare) (new classes) (new reduction)
         ⌝ }
 {
-    let reading = table_reader::read(game);
-    let Reading::Accepted(sizes) = reading else {
+    let reading = table_reader::read_sizes(game);
+    let Filling::Accepted(sizes) = reading else {
         return Verdict::Refused(refusal_of(reading));
     };
     let v = vertex as usize;

@@ -9,7 +9,7 @@ use borrow.Author.Needs.{needs}
 use Rattle.carry.proofs.carry_class_plan.Statement.{statement}
 use Rattle.carry.proofs.carry_class_plan.Tie as tie
 
-abbrev start : tie.After-read → tie.Start
+abbrev start : tie.After-read-sizes → tie.Start
 start c = search
 
 abbrev reader : tie.After-tabulate-classes → tie.After-reading
@@ -27,8 +27,8 @@ table : (c : tie.After-tabulate-classes)
 unfolding gameBy
 table c = c .tabulate-classes .ensures
 
-read-requires : tie.Need-read-requires
-read-requires c κs = search needs
+read-sizes-requires : tie.Need-read-sizes-requires
+read-sizes-requires c κs = search needs
 
 enum-known-reading : tie.Need-enum-known-reading
 enum-known-reading c = search needs
@@ -43,12 +43,12 @@ returns : tie.Need-returns
 returns c =
     let t = c .before .enum-told .given in
     let r = c .before .before .before in
-    class-refused _ _ _ _ _ _ _ _ _ (table-handed reduced _ _ _ _ _ _ _ _ (t .1) (r .read .ensures) (c .refusal-of .ensures)) _ _ refl
+    class-refused _ _ _ _ _ _ _ _ _ (table-handed reduced _ _ _ _ _ _ _ _ (t .1) (r .read-sizes .ensures) (c .refusal-of .ensures)) _ _ refl
 
 tabulate-classes-requires : tie.Need-tabulate-classes-requires
 tabulate-classes-requires c κs =
     let r = c .before .before .before .before .before in
-    sized (r .reading .given .1) (r .before .before .read .ensures)
+    sized (r .reading .given .1) (r .before .before .read-sizes .ensures)
 
 enum-known-written : tie.Need-enum-known-written
 enum-known-written c = search needs
@@ -103,7 +103,7 @@ pub carry-class-plan-spec : {M : Type 1} → statement M
 carry-class-plan-spec =
     tie.close
     (tie.spec
-    read-requires
+    read-sizes-requires
     enum-known-reading
     enum-told
     refusal-of-requires

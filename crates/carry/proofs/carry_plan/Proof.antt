@@ -7,9 +7,10 @@ use Rattle.table.specs.Table.{vertexCount}
 use Rattle.table.specs.Answers.{accepted, judge}
 use Rattle.table.specs.WellFormed.{WellSized}
 use Rattle.table.specs.Acceptance.{acceptanceAnswer}
-use Rattle.table.specs.Reading.{readAnswer, readingAnswer}
+use Rattle.table.specs.Reading.{sizesAnswer}
+use Rattle.table.specs.Filling.{fillingAnswer}
 use Rattle.table.specs.ReadingLaws.{reading-accepted}
-use Rattle.table.specs.declared.Reading.the-variants.{Accepted}
+use Rattle.table.specs.declared.Filling.the-variants.{Accepted}
 use Rattle.marks.specs.Marks.{marksLength}
 use Rattle.order.specs.OrderRules.{OrderFits}
 use Rattle.order.specs.OrderCallLaws.{order-handed, order-short-marks, order-short-spare}
@@ -20,12 +21,12 @@ use borrow.Author.Needs.{needs}
 use Rattle.carry.proofs.carry_plan.Statement.{statement}
 use Rattle.carry.proofs.carry_plan.Tie as tie
 
-abbrev start : tie.After-read → tie.Start
+abbrev start : tie.After-read-sizes → tie.Start
 start c = c .before .before .before .before .before .before
 
 -- the reader accepted
-answer : (c : tie.After-reading) → readingAnswer (Accepted (c .reading .given .0 .0)) ≡ readAnswer (start (c .before .before) .args .game .now)
-answer c = rw (c .reading .given .1) at (c .before .before .read .ensures)
+answer : (c : tie.After-reading) → fillingAnswer (Accepted (c .reading .given .0 .0)) ≡ sizesAnswer (start (c .before .before) .args .game .now)
+answer c = rw (c .reading .given .1) at (c .before .before .read-sizes .ensures)
 
 sized : (c : tie.After-reading) → WellSized (start (c .before .before) .args .game .now) (c .reading .given .0 .0)
 sized c = reading-accepted _ _ (answer c)
@@ -42,12 +43,12 @@ fits c =
 
 -- the plan passed
 passed : (c : tie.After-enum-told2)
-    → let r : tie.After-read = search in let a = start r .args in
+    → let r : tie.After-read-sizes = search in let a = start r .args in
     accepted [] ≡ judge (planRows (a .game .now) (a .player) (a .plan .now)) []
 passed c = ap acceptanceAnswer (sym (c .enum-told2 .given .1)) ∙ c .before .before .judge-plan .ensures
 
-read-requires : tie.Need-read-requires
-read-requires c κs = search needs
+read-sizes-requires : tie.Need-read-sizes-requires
+read-sizes-requires c κs = search needs
 
 enum-known-reading : tie.Need-enum-known-reading
 enum-known-reading c = search needs
@@ -62,7 +63,7 @@ returns : tie.Need-returns
 returns c =
     let t = c .before .enum-told .given in
     rw (c .refusal-of .ensures, t .1)
-    (carry-order _ _ _ _ _ _ _ _ _ (order-handed orderMarks orderPasses _ _ _ (t .0 .0) (rw (t .1) at (c .before .before .before .read .ensures)) .verdict))
+    (carry-order _ _ _ _ _ _ _ _ _ (order-handed orderMarks orderPasses _ _ _ (t .0 .0) (rw (t .1) at (c .before .before .before .read-sizes .ensures)) .verdict))
 
 length-for-requires : tie.Need-length-for-requires
 length-for-requires c κs = let s = sized (c .before) in omega (arith, s .vertices, s .well .vertices)
@@ -125,7 +126,7 @@ pub carry-plan-spec : {M : Type 1} → statement M
 carry-plan-spec =
     tie.close
     (tie.spec
-    read-requires
+    read-sizes-requires
     enum-known-reading
     enum-told
     refusal-of-requires

@@ -9,10 +9,10 @@ use Rattle.governed.proofs.write_governed.Tie as tie
 
 -- the reader accepted
 sized : (c : tie.After-reading) → WellSized (c .before .before .before .before .before .before .args .game .now) (c .reading .given .0 .0)
-sized c = reading-accepted _ _ (rw (c .reading .given .1) at (c .before .before .read .ensures))
+sized c = reading-accepted _ _ (rw (c .reading .given .1) at (c .before .before .read-sizes .ensures))
 
-read-requires : tie.Need-read-requires
-read-requires c κs = search needs
+read-sizes-requires : tie.Need-read-sizes-requires
+read-sizes-requires c κs = search needs
 
 enum-known-reading : tie.Need-enum-known-reading
 enum-known-reading c = search needs
@@ -26,7 +26,7 @@ refusal-of-requires c κs = search needs
 returns : tie.Need-returns
 returns c =
     let t = c .before .enum-told .given in
-    rw (c .refusal-of .ensures, t .1) (order-handed _ _ _ _ _ (t .0 .0) (rw (t .1) at (c .before .before .before .read .ensures)))
+    rw (c .refusal-of .ensures, t .1) (order-handed _ _ _ _ _ (t .0 .0) (rw (t .1) at (c .before .before .before .read-sizes .ensures)))
 
 write-relation-requires : tie.Need-write-relation-requires
 write-relation-requires c κs = let s = sized (c .before .before .before) in (s .well, s .vertices)
@@ -45,7 +45,7 @@ pub write-governed-spec : {M : Type 1} → statement M
 write-governed-spec =
     tie.close
     (tie.spec
-    read-requires
+    read-sizes-requires
     enum-known-reading
     enum-told
     refusal-of-requires

@@ -5,8 +5,8 @@ use borrow.Author.Needs.{needs}
 use Rattle.reduction.proofs.write_quotient.Statement.{statement}
 use Rattle.reduction.proofs.write_quotient.Tie as tie
 
-read-requires : tie.Need-read-requires
-read-requires c κs = search needs
+read-sizes-requires : tie.Need-read-sizes-requires
+read-sizes-requires c κs = search needs
 
 enum-known-reading : tie.Need-enum-known-reading
 enum-known-reading c = search needs
@@ -20,12 +20,12 @@ refusal-of-requires c κs = search needs
 returns : tie.Need-returns
 returns c =
     let t = c .before .enum-told .given in
-    table-handed _ _ _ _ _ _ _ _ _ (t .1) (c .before .before .before .read .ensures) (c .refusal-of .ensures)
+    table-handed _ _ _ _ _ _ _ _ _ (t .1) (c .before .before .before .read-sizes .ensures) (c .refusal-of .ensures)
 
 tabulate-classes-requires : tie.Need-tabulate-classes-requires
 tabulate-classes-requires c κs =
     let r = c .before .before .before .before .before in
-    sized (r .reading .given .1) (r .before .before .read .ensures)
+    sized (r .reading .given .1) (r .before .before .read-sizes .ensures)
 
 same-length : tie.Need-same-length
 same-length c = search needs
@@ -50,7 +50,7 @@ pub write-quotient-spec : {M : Type 1} → statement M
 write-quotient-spec =
     tie.close
     (tie.spec
-    read-requires
+    read-sizes-requires
     enum-known-reading
     enum-told
     refusal-of-requires

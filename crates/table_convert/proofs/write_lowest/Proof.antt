@@ -15,12 +15,12 @@ use borrow.Author.Needs.{needs}
 use Rattle.table_convert.proofs.write_lowest.Statement.{statement}
 use Rattle.table_convert.proofs.write_lowest.Tie as tie
 
-abbrev start : tie.After-read → tie.Start
+abbrev start : tie.After-read-sizes → tie.Start
 start c = c .before .before .before
 
 -- the reader accepted
 sized : (c : tie.After-known-told) → WellSized (start (c .before .before .before) .args .game .now) (c .before .reading .given .0 .0)
-sized c = reading-accepted _ _ (rw (c .before .reading .given .1) at (c .before .before .before .read .ensures))
+sized c = reading-accepted _ _ (rw (c .before .reading .given .1) at (c .before .before .before .read-sizes .ensures))
 
 abbrev game-at : tie.After-known-told → List ℕ
 game-at c = start (c .before .before .before) .args .game .now
@@ -36,8 +36,8 @@ few c = omega (arith, most c)
 none : (c : tie.Else2) → let k = c .before .before .before .before in 2 + k .before .reading .given .0 .0 .vertices ≤ firstOversize (game-at k)
 none c = omega (arith, c .if2 .left, c .before .first-oversize .ensures)
 
-read-requires : tie.Need-read-requires
-read-requires c κs = search needs
+read-sizes-requires : tie.Need-read-sizes-requires
+read-sizes-requires c κs = search needs
 
 enum-known-reading : tie.Need-enum-known-reading
 enum-known-reading c = search needs
@@ -51,7 +51,7 @@ refusal-of-requires c κs = search needs
 returns : tie.Need-returns
 returns c =
     let t = c .before .enum-told .given in
-    rw (c .refusal-of .ensures, t .1) (convert-handed _ _ (t .0 .0) (rw (t .1) at (c .before .before .before .read .ensures)))
+    rw (c .refusal-of .ensures, t .1) (convert-handed _ _ (t .0 .0) (rw (t .1) at (c .before .before .before .read-sizes .ensures)))
 
 mul-needed : tie.Need-mul-needed
 mul-needed c = let s = sized c in omega (arith, s .vertices, s .edges, s .well .vertices, s .well .edges)
@@ -121,7 +121,7 @@ pub write-lowest-spec : {M : Type 1} → statement M
 write-lowest-spec =
     tie.close
     (tie.spec
-    read-requires
+    read-sizes-requires
     enum-known-reading
     enum-told
     refusal-of-requires

@@ -13,10 +13,10 @@ use borrow.Author.Needs.{needs}
 use Rattle.verdict.proofs.give_verdict.Statement.{statement}
 use Rattle.verdict.proofs.give_verdict.Tie as tie
 
-abbrev start : tie.After-read → tie.Start
+abbrev start : tie.After-read-sizes → tie.Start
 start c = c .before .before .before .before .before .before .before
 
-abbrev reader : tie.After-reading → tie.After-read
+abbrev reader : tie.After-reading → tie.After-read-sizes
 reader c = c .before .before
 
 abbrev else : tie.After-write-reduced → tie.Else1
@@ -37,20 +37,20 @@ sliced c = c .before
 
 -- the reader accepted
 well : (c : tie.After-reading) → WellFormed (start (reader c) .args .game .now)
-well c = read-sized (c .reading .given .1) (reader c .read .ensures) .well
+well c = read-sized (c .reading .given .1) (reader c .read-sizes .ensures) .well
 
 -- the vertex is below n
 below : (c : tie.Else1) → let a = start (reader (c .before .before .before)) .args in a .vertex < vertexCount (a .game .now)
 below c =
     let r = c .before .before .before in
-    omega (arith, c .if1 .left, read-sized (r .reading .given .1) (reader r .read .ensures) .vertices)
+    omega (arith, c .if1 .left, read-sized (r .reading .given .1) (reader r .read-sizes .ensures) .vertices)
 
 -- the reduced game is within the limits
 small : (c : tie.After-written) → let k = c .written .given .0 .0 in (k .vertices ≤ vertexLimit) × (k .edges ≤ edgeLimit)
 small c = reduced-small (there c .write-reduced .ensures) _ (ap tabulationAnswer (c .written .given .1))
 
-read-requires : tie.Need-read-requires
-read-requires c κs = search needs
+read-sizes-requires : tie.Need-read-sizes-requires
+read-sizes-requires c κs = search needs
 
 enum-known-reading : tie.Need-enum-known-reading
 enum-known-reading c = search needs
@@ -64,13 +64,13 @@ refusal-of-requires c κs = search needs
 returns : tie.Need-returns
 returns c =
     let r = c .before .before .before in
-    verdict-handed _ _ _ _ _ _ _ _ _ _ _ (c .before .enum-told .given .1) (r .read .ensures) (c .refusal-of .ensures)
+    verdict-handed _ _ _ _ _ _ _ _ _ _ _ (c .before .enum-told .given .1) (r .read-sizes .ensures) (c .refusal-of .ensures)
 
 returns-2 : tie.Need-returns-2
 returns-2 c =
     let r = c .before .before .before in
     verdict-beyond _ _ _ _ _ _ _ _ (well-clean _ (well r))
-    (omega (arith, c .if1 .taken, read-sized (r .reading .given .1) (reader r .read .ensures) .vertices))
+    (omega (arith, c .if1 .taken, read-sized (r .reading .given .1) (reader r .read-sizes .ensures) .vertices))
 
 write-reduced-requires : tie.Need-write-reduced-requires
 write-reduced-requires c κs = search needs
@@ -157,7 +157,7 @@ pub give-verdict-spec : {M : Type 1} → statement M
 give-verdict-spec =
     tie.close
     (tie.spec
-    read-requires
+    read-sizes-requires
     enum-known-reading
     enum-told
     refusal-of-requires

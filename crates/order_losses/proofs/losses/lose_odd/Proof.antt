@@ -1,11 +1,11 @@
 -- `less` is what the union of the successors' rows lost, and `left` what it still has. Where `less` is empty nothing falls.
-use mathlib.Core.Path.{_≡_, sym, ap, ap₂, _∙_}
+use mathlib.Core.Path.{_≡_, sym, ap, _∙_}
 use mathlib.Core.Bool.{not}
 use Prim.Native.Nat.{ℕ, _<_}
 use Rattle.theory.specs.logic.Bools.{_&_}
 use Rattle.theory.specs.logic.BoolsLaws.{not-out}
 use Rattle.theory.specs.games.Game.{Game}
-use Rattle.theory.specs.order.Rows.{united}
+use Rattle.theory.specs.order.Rows.{united, fall}
 use Rattle.words.specs.Words.{has}
 use Rattle.order_rows.specs.Bits.{rowBits, rowWords, cell}
 use Rattle.words.specs.WordsLaws.{has-zero}
@@ -48,19 +48,16 @@ unite-requires c κs = search needs
 row-requires-2 : tie.Need-row-requires-2
 row-requires-2 c κs = search needs
 
-fall-of-requires : tie.Need-fall-of-requires
-fall-of-requires c κs = search needs
-
-common-requires : tie.Need-common-requires
-common-requires c κs = search needs
+fall-within-requires : tie.Need-fall-within-requires
+fall-within-requires c κs = search needs
 
 returns-2 : tie.Need-returns-2
-returns-2 c = let u = c .before .before .before .before .before .before in
-    let w = c .before .before .before in
+returns-2 c = let u = c .before .before .before .before .before in
+    let w = c .before .before in
     let a = start u .args in
     λ G s x h.
-    c .common .ensures x h
-    ∙ ap₂ _&_ (c .before .before .row2 .ensures x h) (c .before .fall-of .ensures G s x h)
+    c .fall-within .ensures G s x h
+    ∙ ap (λ b. b & fall G (has (u .strip .result)) (has (w .unite .result)) x) (c .before .row2 .ensures x h)
     ∙ odd-some G (a .edges .now) s (a .related .now) (a .v) (start u .pre .2) (a .gone) _ _ (less u G s)
     (λ y k. w .unite .ensures y k ∙ united-is G (a .edges .now) s (a .related .now) _ (a .v) y (start u .pre .2) (u .before .row .ensures)) x
 
@@ -74,6 +71,5 @@ lose-odd-spec =
     returns
     unite-requires
     row-requires-2
-    fall-of-requires
-    common-requires
+    fall-within-requires
     returns-2)

@@ -7,13 +7,13 @@ use lib.ListN.{length}
 use Rattle.table.specs.Table.{vertexCount, gameOf}
 use Rattle.table.specs.TableLaws.{game-total}
 use Rattle.order_rounds.specs.Rounds.{Parted, Started}
-use Rattle.order_rounds.specs.RoundsLaws.{parted-none, started-none, started-next, begun}
+use Rattle.order_rounds.specs.RoundsLaws.{all-row, parted-none, started-none, started-next, begun}
 use borrow.Author.Needs.{needs}
 use Rattle.order_rounds.proofs.start.begin.Statement.{statement}
 use Rattle.order_rounds.proofs.start.begin.Tie as tie
 
 abbrev Inv-loop : tie.InvT-loop
-Inv-loop game edges related₀ lost₀ falls₀ changed₀ n v₀ related lost falls changed v =
+Inv-loop game edges related₀ lost₀ falls₀ changed₀ n all v₀ related lost falls changed v =
     (v ≤ n)
     × (length related ≡ length related₀)
     × (length lost ≡ length lost₀)
@@ -23,7 +23,7 @@ Inv-loop game edges related₀ lost₀ falls₀ changed₀ n v₀ related lost f
     × Started (gameOf game) v changed
 
 abbrev μ-loop : tie.MeasureT-loop
-μ-loop game edges related₀ lost₀ falls₀ changed₀ n v₀ related lost falls changed v = n - v
+μ-loop game edges related₀ lost₀ falls₀ changed₀ n all v₀ related lost falls changed v = n - v
 
 abbrev start : tie.At-loop Inv-loop μ-loop → tie.Start Inv-loop μ-loop
 start c = search
@@ -34,15 +34,24 @@ shared-slice-read-n c = search needs
 cast-n : tie.Need-cast-n Inv-loop μ-loop
 cast-n c = search needs
 
+add-differing : tie.Need-add-differing Inv-loop μ-loop
+add-differing c = search needs
+
+differing-requires : tie.Need-differing-requires Inv-loop μ-loop
+differing-requires c κs = search needs
+
 loop-holds : tie.Need-loop-holds Inv-loop μ-loop
-loop-holds c = (search needs, refl, refl, refl, refl, parted-none _ _ _ _, started-none _ _ (c .before .before .before .before .before .before .before .pre .1 .1 .1 .1))
+loop-holds c = (search needs, refl, refl, refl, refl, parted-none _ _ _ _, started-none _ _ (c .before .before .before .before .before .before .before .before .pre .1 .1 .1 .1))
+
+abbrev at-differing : tie.At-loop Inv-loop μ-loop → tie.After-differing Inv-loop μ-loop
+at-differing c = search
 
 start-row-requires : tie.Need-start-row-requires Inv-loop μ-loop
 start-row-requires c κs = let l = c .before .before .before .before in
     let s = start l in
     let i = l .loop .inv in
     let q = s .pre .1 .1 .0 in (
-      (s .pre .0, c .before .before .before .loop-test .taken),
+      (s .pre .0, c .before .before .before .loop-test .taken, all-row _ _ (s .pre .0) (at-differing l .differing .ensures)),
       (s .pre .1 .0, ((omega (arith, i .1, q .0), omega (arith, i .2, q .1), omega (arith, i .3, q .2)), i .5)),
     )
 
@@ -130,6 +139,8 @@ begin-spec =
     μ-loop
     shared-slice-read-n
     cast-n
+    add-differing
+    differing-requires
     loop-holds
     start-row-requires
     row-requires

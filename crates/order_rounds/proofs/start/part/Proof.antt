@@ -1,8 +1,10 @@
--- The vertices of other priorities are taken out of a full row, and the fall is that of what is taken out with what is left.
+-- The vertices of other priorities are taken out of all, and the fall is that of what is taken out with what is left. Each vertex has an edge.
 use mathlib.Core.Path.{_∙_}
 use Rattle.table.specs.Table.{gameOf}
-use Rattle.order_rows.specs.RowLaws.{row-full}
-use Rattle.order_rounds.specs.RoundsLaws.{unequal-row, parted-row}
+use Rattle.table.specs.TableLaws.{game-total}
+use Rattle.order_rows.specs.Bits.{RowIs}
+use Rattle.order_rounds.specs.Rounds.{unequal}
+use Rattle.order_rounds.specs.RoundsLaws.{unequal-row, row-all, parted-row}
 use borrow.Author.Needs.{needs}
 use Rattle.order_rounds.proofs.start.part.Statement.{statement}
 use Rattle.order_rounds.proofs.start.part.Tie as tie
@@ -34,8 +36,8 @@ put-requires c κs = search needs
 put-requires-2 : tie.Need-put-requires-2
 put-requires-2 c κs = search needs
 
-fall-of-requires : tie.Need-fall-of-requires
-fall-of-requires c κs = search needs
+fall-of-all-requires : tie.Need-fall-of-all-requires
+fall-of-all-requires c κs = search needs
 
 put-requires-3 : tie.Need-put-requires-3
 put-requires-3 c κs = search needs
@@ -61,12 +63,18 @@ at-differing c = search
 abbrev at-without : tie.After-slice-known6 → tie.After-without
 at-without c = search
 
+taken-out : (c : tie.After-slice-known6) → let a = at-start c .args in RowIs (at-differing c .differing .result) (unequal (gameOf (a .game .now)) (a .v))
+taken-out c x h = let a = at-start c .args in at-differing c .differing .ensures x h ∙ unequal-row (a .game .now) (a .v) x
+
 returns : tie.Need-returns
 returns c = let s = at-start c in
     let g = s .args .game .now in
     let e = s .pre .1 .0 .0 in
-    parted-row (gameOf g) (s .args .v) _ _ _ _ _ _ _ _ _ (s .pre .1 .1 .1) (at-put c .put .ensures) (c .before .before .before .before .before .before .before .put2 .ensures) (c .before .before .put3 .ensures) _ _ e row-full
-    (λ x h. at-differing c .differing .ensures x h ∙ unequal-row g (s .args .v) x) (at-without c .without .ensures) (c .before .before .before .fall-of .ensures (gameOf g) e)
+    let all = s .pre .0 .2 in
+    let w = at-without c .without .ensures in
+    parted-row (gameOf g) (s .args .v) _ _ _ _ _ _ _ _ _ (s .pre .1 .1 .1) (at-put c .put .ensures) (c .before .before .before .before .before .before .before .put2 .ensures) (c .before .before .put3 .ensures)
+    _ all (taken-out c) w _ e
+    (c .before .before .before .fall-of-all .ensures (gameOf g) e (game-total g (s .pre .0 .0)) (row-all (gameOf g) (s .args .v) _ _ _ all (taken-out c) w))
 
 pub part-spec : {M : Type 1} → statement M
 part-spec =
@@ -81,7 +89,7 @@ part-spec =
     without-requires
     put-requires
     put-requires-2
-    fall-of-requires
+    fall-of-all-requires
     put-requires-3
     same-length
     same-length-2

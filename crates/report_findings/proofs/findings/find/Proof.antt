@@ -1,8 +1,7 @@
 -- The reader refuses, or the memory is filled, since it is enough, and the classes are counted.
 use Rattle.table.specs.WellFormed.{WellFormed}
 use Rattle.reduction_edges.specs.Rows.{gameBy}
-use Rattle.reduction.specs.TableCallLaws.{sized}
-use Rattle.report_findings.specs.FindingsLaws.{table-fits, classes-fit, reported-refused, tabulated, reported-accepted}
+use Rattle.report_findings.specs.FindingsLaws.{table-fits, counted, classes-fit, reported-refused, tabulated, reported-accepted}
 use borrow.Author.Needs.{needs}
 use Rattle.report_findings.proofs.findings.find.Statement.{statement}
 use Rattle.report_findings.proofs.findings.find.Tie as tie
@@ -12,7 +11,7 @@ abbrev start : tie.After-enum-told → tie.Start
 start c = search
 
 well : (c : tie.After-enum-told) → WellFormed (start c .args .game .now)
-well c = sized (c .enum-told .given .1) (c .before .before .read .ensures) .well
+well c = counted (c .enum-told .given .1) (c .before .before .read .ensures) .0
 
 abbrev told : tie.After-fill-memory → tie.After-enum-told
 told c = c .before .before .before .before .before
