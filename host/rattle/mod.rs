@@ -25,8 +25,8 @@ pub struct Product<'a> {
     pub rt: [&'a str; 2],
 }
 
-/// Makes each product that is missing or made from other sources; or says what is wrong, in a line.
-pub fn built(root: &Path, products: &[Product]) -> Result<(), String> {
+/// Makes each product that is missing or made from other sources, and gives the toolchain's version; or says what is wrong, in a line.
+pub fn built(root: &Path, products: &[Product]) -> Result<String, String> {
     let workers = workers(std::env::var("RT_JOBS").ok().as_deref())?;
     let memory = || ("/dev/shm".into(), room::space_for(workers));
     let build = Build {
@@ -35,7 +35,8 @@ pub fn built(root: &Path, products: &[Product]) -> Result<(), String> {
         workers,
         memory: std::env::var_os("TMPDIR").is_none().then(memory),
     };
-    build.make(products, terminal())
+    build.make(products, terminal())?;
+    build.version()
 }
 
 /// So many crates are proved at a time: as the user says, or one for each processor, at most 8.
@@ -120,7 +121,7 @@ impl Build {
     fn version(&self) -> Result<String, String> {
         let ran = Command::new(&self.rt).arg("version").current_dir(&self.root).output();
         let ran = ran.map_err(|error| {
-            format!("can't start `rt` ({error}); put the Rattle toolchain that docs/TRUST.md names on the PATH")
+            format!("can't start `rt` ({error}); put the Rattle toolchain that docs/TRUST.md names on the PATH, or build as docs/INSTALL.md says without it")
         })?;
         if !ran.status.success() {
             let said = String::from_utf8_lossy(&ran.stderr);

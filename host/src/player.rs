@@ -1,6 +1,12 @@
 //! The two players.
 
 use std::fmt;
+use std::str::FromStr;
+
+/// The player for whom an even lowest priority wins.
+pub const EVEN: u32 = 0;
+/// The player for whom an odd lowest priority wins.
+pub const ODD: u32 = 1;
 
 /// A player of a parity game.
 #[derive(Clone, Copy, Debug, PartialEq, Eq, Hash, PartialOrd, Ord)]
@@ -25,7 +31,7 @@ impl Player {
     }
 }
 
-/// The player's number in tables and calls: [`EVEN`](crate::EVEN) or [`ODD`](crate::ODD).
+/// The player's number in tables and calls: [`EVEN`] or [`ODD`].
 impl From<Player> for u32 {
     fn from(player: Player) -> u32 {
         match player {
@@ -53,6 +59,38 @@ impl TryFrom<u32> for Player {
         }
     }
 }
+
+/// The player of a name, as it is printed or in small letters, or of a number.
+///
+/// ```
+/// use raskjomi::Player;
+/// assert_eq!(["Even", "odd", "0"].map(str::parse), [Ok(Player::Even), Ok(Player::Odd), Ok(Player::Even)]);
+/// let error = "white".parse::<Player>().unwrap_err();
+/// assert_eq!(error.to_string(), "no player `white`; write even or odd");
+/// ```
+impl FromStr for Player {
+    type Err = NoPlayer;
+
+    fn from_str(name: &str) -> Result<Player, NoPlayer> {
+        match name {
+            "even" | "Even" | "0" => Ok(Player::Even),
+            "odd" | "Odd" | "1" => Ok(Player::Odd),
+            _ => Err(NoPlayer(name.into())),
+        }
+    }
+}
+
+/// A word that names no player.
+#[derive(Clone, Debug, PartialEq, Eq)]
+pub struct NoPlayer(String);
+
+impl fmt::Display for NoPlayer {
+    fn fmt(&self, f: &mut fmt::Formatter) -> fmt::Result {
+        write!(f, "no player `{}`; write even or odd", self.0)
+    }
+}
+
+impl std::error::Error for NoPlayer {}
 
 impl fmt::Display for Player {
     fn fmt(&self, f: &mut fmt::Formatter) -> fmt::Result {

@@ -5,7 +5,7 @@ use std::fmt;
 
 /// A call turned its input, or the memory lent to it, down. All lent memory has its old content, but for
 /// what [`carry`](crate::carry()), [`carry_class`](crate::carry_class()),
-/// [`give_verdict`](crate::give_verdict()) and [`replay`](crate::replay()) say of theirs.
+/// [`verdict`](crate::verdict()) and [`replay`](crate::replay()) say of theirs.
 #[derive(Clone, Copy, Debug, PartialEq, Eq)]
 pub struct Refusal {
     /// Which condition failed.

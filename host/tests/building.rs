@@ -6,7 +6,7 @@ mod rattle;
 
 mod common;
 
-use common::root;
+use common::{build_script, root, write_program};
 use rattle::room::Room;
 use rattle::sources::List;
 use rattle::{Build, Product};
@@ -77,16 +77,6 @@ fn repository(name: &str, script: &str) -> PathBuf {
 fn write(path: &Path, text: &str) {
     fs::create_dir_all(path.parent().expect("a folder")).expect("a folder");
     fs::write(path, text).expect("a file");
-}
-
-/// Writes a program by another process: one that this process has written can't be started while another thread's child, not
-/// yet at its own program, has it open.
-fn write_program(path: &Path, text: &str) {
-    let text_file = path.with_extension("text");
-    write(&text_file, text);
-    let mut copy = Command::new("/bin/sh");
-    copy.args(["-c", "cat \"$0\" >\"$1\" && chmod 755 \"$1\""]).arg(text_file).arg(path);
-    assert!(copy.status().expect("a shell").success());
 }
 
 fn archive(name: &str) -> Product<'_> {
@@ -374,24 +364,13 @@ fn a_build_waits_for_another() {
         .starts_with(&(line.to_string() + "raskjomi: proving 5 crates, 2 at a time")));
 }
 
-/// The build script, compiled in the folder, as cargo does.
-fn build_script(folder: &Path) -> PathBuf {
-    let program = folder.join("build");
-    let mut rustc = Command::new(std::env::var_os("RUSTC").unwrap_or("rustc".into()));
-    let source = Path::new(env!("CARGO_MANIFEST_DIR")).join("build.rs");
-    let ran =
-        rustc.args(["--edition=2021", "-o"]).arg(&program).arg(source).output().expect("rustc");
-    assert!(ran.status.success(), "{ran:?}");
-    program
-}
-
 /// Starts the build script in a group of processes of its own, with no terminal, and waits until `order` is being proved.
 fn started(folder: &Path, program: &Path) -> Child {
     let path =
         format!("{}:{}", folder.join("bin").display(), std::env::var("PATH").unwrap_or_default());
     let mut command = Command::new(program);
     command.env("CARGO_MANIFEST_DIR", folder.join("host")).env("PATH", path).env("RT_JOBS", "1");
-    command.env("TMPDIR", folder).process_group(0);
+    command.env("TMPDIR", folder).env_remove("RASKJOMI_ARCHIVES").process_group(0);
     command.stdin(Stdio::null()).stdout(Stdio::null()).stderr(Stdio::null());
     let child = command.spawn().expect("the build script starts");
     wait_for("order", || folder.join("proving").exists());
@@ -494,7 +473,10 @@ fn the_build_script_says_what_is_missing() {
     let program = build_script(&folder);
     let run = |host: Option<&Path>| {
         let mut program = Command::new(&program);
-        program.env_remove("CARGO_MANIFEST_DIR").env_remove("RT_JOBS").env("PATH", "/none");
+        for name in ["CARGO_MANIFEST_DIR", "RASKJOMI_ARCHIVES", "RT_JOBS"] {
+            program.env_remove(name);
+        }
+        program.env("PATH", "/none");
         host.map(|host| program.env("CARGO_MANIFEST_DIR", host));
         let ran = program.output().expect("the build script starts");
         assert_eq!(ran.status.code(), Some(1), "{ran:?}");
@@ -504,7 +486,8 @@ fn the_build_script_says_what_is_missing() {
     let host = folder.join("host");
     assert_eq!(
         run(Some(&host)),
-        "raskjomi: no crates beside the folder host; take the whole repository\n"
+        "raskjomi: no crates beside the folder host; take the whole repository, or name a folder of archives by \
+         RASKJOMI_ARCHIVES\n"
     );
     fs::create_dir(folder.join("crates")).expect("crates");
     let told = run(Some(&host));

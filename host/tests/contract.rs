@@ -1,4 +1,5 @@
 //! docs/CONTRACT.md has a row for each refusal and a section for each export, and its worked reduction of a large game is answered as it says.
+//! docs/METHOD.md has each export in its table of lent memory.
 
 mod common;
 
@@ -12,8 +13,19 @@ fn section(text: &str, heading: &str) -> String {
     after.split("\n## ").next().expect("a section").to_string()
 }
 
+fn page(name: &str) -> String {
+    fs::read_to_string(root().join(name)).unwrap_or_else(|error| panic!("{name}: {error}"))
+}
+
 fn contract(heading: &str) -> String {
-    section(&fs::read_to_string(root().join("docs/CONTRACT.md")).expect("the contract"), heading)
+    section(&page("docs/CONTRACT.md"), heading)
+}
+
+/// The names of the exports, without what all begin with.
+fn exports() -> Vec<String> {
+    let declarations = page("host/src/exports.rs");
+    let names = declarations.split("fn raskjomi_").skip(1);
+    names.filter_map(|rest| rest.split('(').next()).map(String::from).collect()
 }
 
 #[test]
@@ -28,9 +40,7 @@ fn each_refusal_has_one_row() {
 #[test]
 fn each_export_has_one_section() {
     let calls = contract("The calls");
-    let declarations = fs::read_to_string(root().join("host/src/exports.rs")).expect("the exports");
-    let names = declarations.split("fn raskjomi_").skip(1);
-    let names: Vec<&str> = names.filter_map(|rest| rest.split('(').next()).collect();
+    let names = exports();
     for name in &names {
         let cited = calls.split("\n### ").filter(|call| {
             let export = format!("xport `raskjomi_{name}");
@@ -39,6 +49,19 @@ fn each_export_has_one_section() {
         assert_eq!(cited.count(), 1, "{name}");
     }
     assert_eq!(calls.matches("\n### ").count(), names.len());
+}
+
+#[test]
+fn each_export_is_in_the_methods_table_of_lent_memory() {
+    let text = section(&page("docs/METHOD.md"), "3. Lent memory");
+    let table = text.split("\n| call |").nth(1).expect("the table").split("\n\n").next();
+    let rows = table.expect("rows").lines().skip(2).map(|row| row.split(" | ").next());
+    let mut named: Vec<&str> =
+        rows.flat_map(|cell| cell.expect("a cell").split('`').skip(1).step_by(2)).collect();
+    let mut names = exports();
+    named.sort_unstable();
+    names.sort_unstable();
+    assert_eq!(named, names);
 }
 
 /// The words of the example that the contract has under a name: those between backquotes, in their sequence.

@@ -4,9 +4,10 @@
 mod common;
 
 use common::root;
-use std::collections::BTreeMap;
+use std::collections::{BTreeMap, BTreeSet};
 use std::fs;
 use std::path::{Path, PathBuf};
+use std::process::Command;
 
 /// A function's parameters, as "name: type", and its result.
 type Signature = (Vec<String>, String);
@@ -132,14 +133,18 @@ fn from_c(declared: &str) -> String {
 #[test]
 fn the_header_declares_the_exports() {
     let header = header();
-    let prototypes =
-        header.split(';').filter_map(|part| part.split_once('(')).map(|(head, rest)| {
-            let (result, name) = head.trim().rsplit_once(' ').expect("a result and a name");
-            let parameters = parts(rest.trim_end_matches(')')).into_iter().map(from_c).collect();
-            let result = result.rsplit(' ').next().expect("a type");
-            (name.to_string(), (parameters, of_c(result).to_string()))
-        });
-    let declared: BTreeMap<String, Signature> = prototypes.collect();
+    let prototypes = header.split(';').filter_map(|part| part.split_once('('));
+    // Those that answer a text stand beside the proved archives.
+    let (texts, prototypes): (Vec<_>, Vec<_>) =
+        prototypes.partition(|(head, _)| head.contains('*'));
+    assert_eq!(texts.len(), 4);
+    let prototype = |(head, rest): (&str, &str)| {
+        let (result, name) = head.trim().rsplit_once(' ').expect("a result and a name");
+        let parameters = parts(rest.trim_end_matches(')')).into_iter().map(from_c).collect();
+        let result = result.rsplit(' ').next().expect("a type");
+        (name.to_string(), (parameters, of_c(result).to_string()))
+    };
+    let declared: BTreeMap<String, Signature> = prototypes.into_iter().map(prototype).collect();
     assert_eq!(declared, exports_in_rattle());
     let fields = between(&header, "typedef struct RaskjomiAnswer {", "}").split(';');
     let fields = fields.map(str::trim).filter(|field| !field.is_empty());
@@ -157,4 +162,31 @@ fn answer_has_the_fields_of_the_exports() {
     let fields = parts(between(&declarations, head, "}"));
     assert_eq!(fields, parts(between(&source, head, "}")));
     assert_eq!(fields.len(), 11);
+}
+
+/// The symbols of every archive, each with its kind as `nm` tells it.
+fn symbols() -> BTreeSet<(String, String)> {
+    let entries = fs::read_dir(root().join("target/staticlib")).expect("the archives' folder");
+    let paths = entries.map(|entry| entry.expect("an entry").path());
+    let archives = paths.filter(|path| path.extension().is_some_and(|ending| ending == "a"));
+    let listed = Command::new("nm").args(archives).output().expect("nm, of binutils");
+    let listed = String::from_utf8(listed.stdout).expect("text");
+    let symbol = |line: &str| {
+        let mut words = line.split_whitespace().rev().map(String::from);
+        Some((words.next()?, words.next()?))
+    };
+    listed.lines().filter_map(symbol).collect()
+}
+
+#[test]
+fn the_archives_call_nothing_of_others_and_keep_nothing() {
+    let symbols = symbols();
+    let of = |kinds: &str| -> BTreeSet<&str> {
+        let these = symbols.iter().filter(|(_, kind)| kinds.contains(kind.as_str()));
+        these.map(|(name, _)| name.as_str()).collect()
+    };
+    assert_eq!(of("T"), exports_in_rattle().keys().map(String::as_str).collect());
+    assert_eq!(of("U"), BTreeSet::from(["memcpy", "memset"]), "no heap");
+    let others: Vec<_> = symbols.iter().filter(|(_, kind)| !"TtURr".contains(kind)).collect();
+    assert!(others.is_empty(), "no data that could be written: {others:?}");
 }

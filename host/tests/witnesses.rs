@@ -28,7 +28,7 @@ use std::fs;
 use std::path::PathBuf;
 
 /// Fewer witnesses that begin with a call are a failure.
-const LEAST: usize = 304;
+const LEAST: usize = 310;
 
 /// What a call is given, and after it what it has left.
 struct Case {

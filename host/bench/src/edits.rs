@@ -1,21 +1,29 @@
 //! The calls that edit a table, by an edge or by a trace, and those that preview an edit. An edit works on a
 //! fresh copy of the table, whose making counts for both sides; a preview makes its own.
 
-use crate::{baseline, Figures};
+use crate::baseline::edit::{self, Ways};
+use crate::{baseline, best, Figures, LIBRARY};
 use raskjomi::exports::{self, RaskjomiAnswer};
 use raskjomi::mark_bytes;
 
 /// A call that edits a table.
 type Edit = fn(&mut [u16], u32, u32, &mut [u8], &mut [u8], &mut [u16]) -> RaskjomiAnswer;
-
-pub const ADD: [Edit; 2] = [exports::add_edge, baseline::add_edge];
-pub const REMOVE: [Edit; 2] = [exports::remove_edge, baseline::remove_edge];
-
 /// A call that previews an edit.
 type Preview = fn(&[u16], u32, u32, &mut [u16], &mut [u8], &mut [u8], &mut [u16]) -> RaskjomiAnswer;
 
-pub const PREVIEW_ADD: [Preview; 2] = [exports::preview_add, baseline::preview_add];
-pub const PREVIEW_REMOVE: [Preview; 2] = [exports::preview_remove, baseline::preview_remove];
+/// The library's calls that remove an edge and that add one.
+const EDIT: [Edit; 2] = [exports::remove_edge, exports::add_edge];
+const PREVIEW: [Preview; 2] = [exports::preview_remove, exports::preview_add];
+/// How the sides after the library do both: the baseline and the two best.
+const WAYS: [Ways; 3] = [edit::WAYS, best::ways::<false>(), best::ways::<true>()];
+
+/// An edge that is added or removed.
+#[derive(Clone, Copy)]
+pub struct Change {
+    pub source: u32,
+    pub target: u32,
+    pub add: bool,
+}
 
 /// A call that replays a trace.
 type Replay = fn(&mut [u16], &[u16], &mut [u8], &mut [u8], &mut [u16]) -> RaskjomiAnswer;
@@ -24,43 +32,52 @@ const REPLAY: [Replay; 2] = [exports::replay, baseline::replay];
 
 /// The memory that a side works in.
 #[derive(Clone, PartialEq, Eq)]
-struct Memory {
-    table: Vec<u16>,
-    marks: Vec<u8>,
-    spare: Vec<u8>,
-    classes: Vec<u16>,
+pub struct Memory {
+    pub table: Vec<u16>,
+    pub marks: Vec<u8>,
+    pub spare: Vec<u8>,
+    pub classes: Vec<u16>,
 }
 
 impl Memory {
-    fn for_game(game: &[u16]) -> Memory {
+    pub fn for_game(game: &[u16]) -> Memory {
         let n = game[0] as usize;
         let (table, marks) = ([game, &[7; 2]].concat(), vec![7; mark_bytes(n)]);
         Memory { table, spare: marks.clone(), marks, classes: vec![7; n] }
     }
 
-    fn edit(&mut self, call: Edit, game: &[u16], source: u32, target: u32) -> RaskjomiAnswer {
+    pub fn edit(&mut self, side: usize, game: &[u16], change: Change) -> RaskjomiAnswer {
         let Memory { table, marks, spare, classes } = self;
+        let Change { source, target, add } = change;
         table[..game.len()].copy_from_slice(game);
-        call(table, source, target, marks, spare, classes)
+        match side {
+            LIBRARY => EDIT[add as usize](table, source, target, marks, spare, classes),
+            _ => edit::edit(&WAYS[side - 1], table, source, target, marks, spare, classes, add),
+        }
     }
 
-    fn preview(&mut self, call: Preview, game: &[u16], source: u32, target: u32) -> RaskjomiAnswer {
+    pub fn preview(&mut self, side: usize, game: &[u16], change: Change) -> RaskjomiAnswer {
         let Memory { table, marks, spare, classes } = self;
-        call(game, source, target, table, marks, spare, classes)
+        let Change { source, target, add } = change;
+        if side == LIBRARY {
+            return PREVIEW[add as usize](game, source, target, table, marks, spare, classes);
+        }
+        let ways = &WAYS[side - 1];
+        edit::preview(ways, game, source, target, table, marks, spare, classes, add)
     }
 }
 
 /// What the row of an edit shows.
-pub fn figures(calls: &[Edit; 2], game: &[u16], source: u32, target: u32) -> Figures {
-    let call = |side: usize, memory: &mut Memory| memory.edit(calls[side], game, source, target);
+pub fn figures(game: &[u16], change: Change) -> Figures {
+    let call = |side: usize, memory: &mut Memory| memory.edit(side, game, change);
     let (figures, answer) = crate::figures(Memory::for_game(game), call);
     assert_eq!(answer.number, 0, "the edit is accepted");
     figures
 }
 
 /// What the row of a preview shows.
-pub fn preview_figures(calls: &[Preview; 2], game: &[u16], source: u32, target: u32) -> Figures {
-    let call = |side: usize, memory: &mut Memory| memory.preview(calls[side], game, source, target);
+pub fn preview_figures(game: &[u16], change: Change) -> Figures {
+    let call = |side: usize, memory: &mut Memory| memory.preview(side, game, change);
     let (figures, answer) = crate::figures(Memory::for_game(game), call);
     assert_eq!(answer.number, 0, "the preview is accepted");
     figures

@@ -1,16 +1,21 @@
 //! The library beside a baseline: safe Rust of the same algorithms, in one run, on buffers of the same
 //! lengths, which neither clears first. Up to 256 vertices the order stands beside plain passes, too. The checks of
-//! solutions and of reductions have rows of their own, which the argument `large` asks for.
+//! solutions and of reductions have rows of their own, which the argument `large` asks for, and so have all winners of
+//! a game, by the argument `winners`. The argument `best` asks for the order's calls beside the best program known.
 #![forbid(unsafe_code)]
 
 mod baseline;
+mod best;
 mod edits;
+mod families;
 mod governed;
 mod large;
 mod large_reduction;
 mod measure;
+mod order_calls;
 mod packing;
 mod rows;
+mod winners;
 
 use measure::First;
 use raskjomi::exports::{self, RaskjomiAnswer};
@@ -114,18 +119,27 @@ struct Sides<const N: usize> {
     stack: Option<usize>,
 }
 
+/// The first calls of the sides, each with its copy of the memory. All answer and leave the same.
+fn first_calls<const N: usize, M: Clone + PartialEq + Send>(
+    memory: M,
+    call: &(impl Fn(usize, &mut M) -> RaskjomiAnswer + Sync),
+) -> ([M; N], [First; N]) {
+    let mut memory: [M; N] = from_fn(|_| memory.clone());
+    let first: [First; N] = from_fn(|side| measure::first(|| call(side, &mut memory[side])));
+    for side in 1..N {
+        assert_eq!(first[side].answer, first[LIBRARY].answer, "the answer of side {side} differs");
+        assert!(memory[side] == memory[LIBRARY], "the buffers of side {side} differ");
+    }
+    (memory, first)
+}
+
 impl<const N: usize> Sides<N> {
-    /// Measures a call, for which each side has a copy of the memory. All answer and leave the same.
+    /// Measures a call, after the first ones.
     fn of<M: Clone + PartialEq + Send>(
         memory: M,
         call: impl Fn(usize, &mut M) -> RaskjomiAnswer + Sync,
     ) -> Sides<N> {
-        let mut memory: [M; N] = from_fn(|_| memory.clone());
-        let first: [First; N] = from_fn(|side| measure::first(|| call(side, &mut memory[side])));
-        for side in 1..N {
-            assert_eq!(first[side].answer, first[LIBRARY].answer, "answers differ");
-            assert!(memory[side] == memory[LIBRARY], "buffers differ");
-        }
+        let (mut memory, first) = first_calls(memory, &call);
         let times = first.each_ref().map(|first| first.time);
         let times = measure::best_times(times, |side| call(side, &mut memory[side]));
         Sides { answer: first[LIBRARY].answer, times, stack: first[LIBRARY].stack }
@@ -220,14 +234,8 @@ fn show(Row { name, game, work, .. }: &Row) -> Shown {
         Work::Verdict(plan) => verdict_figures(game, plan),
         Work::Seed(numbers) => seed_figures(*numbers, game.len()),
         Work::Convert => convert_figures(game),
-        Work::AddEdge(source, target) => edits::figures(&edits::ADD, game, *source, *target),
-        Work::RemoveEdge(source, target) => edits::figures(&edits::REMOVE, game, *source, *target),
-        Work::PreviewAdd(source, target) => {
-            edits::preview_figures(&edits::PREVIEW_ADD, game, *source, *target)
-        }
-        Work::PreviewRemove(source, target) => {
-            edits::preview_figures(&edits::PREVIEW_REMOVE, game, *source, *target)
-        }
+        Work::Edit(change) => edits::figures(game, *change),
+        Work::Preview(change) => edits::preview_figures(game, *change),
         Work::Replay(trace) => edits::replay_figures(game, trace),
     };
     let micros = |time: Duration| format!("{:.1}", time.as_secs_f64() * 1e6);
@@ -296,7 +304,8 @@ fn show_calls() {
 }
 
 /// Shows the rows of the calls that have limits; with the argument `large`, those of the checks of solutions and of
-/// reductions, with `reductions` the latter alone; with `read` or `reduce` and a file, the memory that this takes.
+/// reductions, with `reductions` the latter alone; with `winners` those of all winners of a game; with `best` those of the
+/// order's calls beside the best program known; with `read` or `reduce` and a file, the memory that this takes.
 fn main() -> ExitCode {
     let arguments: Vec<String> = std::env::args().skip(1).collect();
     let words: Vec<&str> = arguments.iter().map(String::as_str).collect();
@@ -308,9 +317,20 @@ fn main() -> ExitCode {
         }
         ["large"] => large::show().and_then(|()| large_reduction::show()).map_err(of_file),
         ["reductions"] => large_reduction::show().map_err(of_file),
+        ["winners"] => {
+            winners::show();
+            Ok(())
+        }
+        ["best"] => {
+            order_calls::show();
+            Ok(())
+        }
         ["read", file] => large::tell_memory(file).map_err(of_file),
         ["reduce", file] => large_reduction::tell_memory(file).map_err(of_file),
-        _ => Err("give no argument, `large`, `reductions`, `read FILE` or `reduce FILE`".into()),
+        _ => {
+            Err("give no argument, `best`, `large`, `reductions`, `winners`, `read FILE` or `reduce FILE`"
+                .into())
+        }
     };
     match shown {
         Ok(()) => ExitCode::SUCCESS,

@@ -1,6 +1,7 @@
 //! Times and stack.
 
 use raskjomi::exports::RaskjomiAnswer;
+use std::array::from_fn;
 use std::fs;
 use std::hint::black_box;
 use std::thread;
@@ -8,6 +9,11 @@ use std::time::{Duration, Instant};
 
 /// How long the calls of a side take in all, at the least. A side that takes longer is called once.
 const A_SIDE: Duration = Duration::from_millis(500);
+
+/// How long a batch of calls takes, about. A longer call is a batch.
+const A_BATCH: Duration = Duration::from_micros(50);
+/// The least number of batches.
+const BATCHES: u32 = 12;
 
 /// A side's first call.
 pub struct First {
@@ -42,6 +48,28 @@ pub fn best_times<const N: usize>(
                 spent[side] += time;
             }
         }
+    }
+    best
+}
+
+/// The best time of a call by each side. The sides are called in turn, a batch of calls each time, until each has taken
+/// as long as `span`, in as many batches as there are to be.
+pub fn best_of_batches<const N: usize>(
+    span: Duration,
+    mut call: impl FnMut(usize) -> RaskjomiAnswer,
+) -> [Duration; N] {
+    let once: [Duration; N] = from_fn(|side| timed(|| call(side)).1);
+    let calls = once.map(|time| (A_BATCH.as_nanos() / time.as_nanos().max(1)).clamp(1, 64) as u32);
+    let (mut best, mut spent, mut turns) = (once, [Duration::ZERO; N], 0);
+    while turns < BATCHES || spent.iter().any(|&spent| spent < span) {
+        for side in 0..N {
+            let start = Instant::now();
+            (0..calls[side]).for_each(|_| _ = black_box(call(side)));
+            let time = start.elapsed();
+            best[side] = best[side].min(time / calls[side]);
+            spent[side] += time;
+        }
+        turns += 1;
     }
     best
 }

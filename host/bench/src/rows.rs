@@ -1,5 +1,6 @@
 //! The benchmark's games.
 
+use crate::edits::Change;
 use generator::{
     chain, largest_plan, random, rings, round_complete, round_of_loops, round_ring, tailed_rings,
     trace_words, watched_rings, Lcg, Plan, Table,
@@ -24,13 +25,10 @@ pub enum Work {
     Convert,
     /// The game by a seed, of so many vertices, edges out of each, and priorities.
     Seed([u32; 4]),
-    /// An edge added to the game.
-    AddEdge(u32, u32),
-    /// An edge removed from it.
-    RemoveEdge(u32, u32),
-    /// The same two on a copy.
-    PreviewAdd(u32, u32),
-    PreviewRemove(u32, u32),
+    /// An edge added to the game or removed from it.
+    Edit(Change),
+    /// The same on a copy.
+    Preview(Change),
     /// A trace replayed in it.
     Replay(Vec<u16>),
 }
@@ -126,12 +124,14 @@ fn edited(lcg: &mut Lcg, n: usize, m: usize) -> [Row; 4] {
     let absent = (0..n as u16).find(|&target| !game.edges.contains(&(0, target)));
     let absent = absent.expect("a vertex without an edge from 0") as u32;
     let (source, target) = (game.edges[m / 2].0 as u32, game.edges[m / 2].1 as u32);
+    let arrives = Change { source: 0, target: absent, add: true };
+    let leaves = Change { source, target, add: false };
     let row = |name: &str, work| Row::new(name, &game, work);
     [
-        row("add_edge", Work::AddEdge(0, absent)),
-        row("remove_edge", Work::RemoveEdge(source, target)),
-        row("preview_add", Work::PreviewAdd(0, absent)),
-        row("preview_remove", Work::PreviewRemove(source, target)),
+        row("add_edge", Work::Edit(arrives)),
+        row("remove_edge", Work::Edit(leaves)),
+        row("preview_add", Work::Preview(arrives)),
+        row("preview_remove", Work::Preview(leaves)),
     ]
 }
 

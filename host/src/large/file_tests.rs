@@ -131,7 +131,7 @@ fn errors_of_tokens_and_numbers() {
     begins("parity 1;\n0 0 0 99999999999999999999;", "line 2, id 0: a number from 9999999999 on");
     begins("parity 1;\n0 12ab 0 0;", "line 2, id 0: `12ab` instead of a priority");
     begins("parity 1;\n0 -1 0 0;", "line 2, id 0: `-1` instead of a priority");
-    begins("parity 1;\n0 0 0 0 \"open;", "line 2, id 0: a name without its closing quote");
+    begins("parity 1;\n0 0 0 0 \"open;", "line 2: a name without its closing quote");
     begins(
         "parity 1;\n0 4294967295 0 0;\n1 0 0 0;",
         "line 3, id 1: priority 0 beside 4294967295, the highest one, needs more than 32 bits",
@@ -177,12 +177,17 @@ fn long_names_and_comments_cross_pieces() {
         Some("parity 4;\n".to_string()).into_iter().chain((0..n).map(line)).collect();
     let read = game(&text);
     assert_eq!(&read.words[2 + 2 * n..], [0, 0, 1, 1, 2, 2, 3, 3, 4, 1, 0, 2, 0, 3, 0, 4, 0, 0]);
-    assert!(
-        read.vertices.left_out() && read.vertices.name(0).is_none(),
-        "1.5 MB of names on 10 edges"
-    );
+    assert_eq!(read.vertices.named(&format!("{long}4")), Some(4), "a small game keeps all names");
     let without: String = text.replace(&long, "n");
     assert_eq!(game(&without).vertices.named("n4"), Some(4));
+}
+
+#[test]
+fn names_are_left_out_where_they_take_much_more_memory_than_the_game() {
+    let line = |v: usize| format!("{v} 0 0 {v} \"{}\";\n", "x".repeat(2_000));
+    let read = |n: usize| game(&(0..n).map(line).collect::<String>()).vertices;
+    assert!(!read(512).left_out() && read(512).name(511).is_some(), "1 MB on 512 edges");
+    assert!(read(600).left_out() && read(600).name(0).is_none(), "1.2 MB on 600 edges");
 }
 
 #[test]

@@ -4,10 +4,11 @@
 //! binary may have words of 16 bits, as the calls for small games have them.
 
 use super::components::NONE;
+use super::file_error::FileError;
 use super::identifiers::Identifiers;
 use super::paritysol::{self, SOLUTION};
 use super::pgsolver::{self, GameFile, GAME, START};
-use super::scan::{FileError, Scanner, Token};
+use super::scan::{Scanner, Token};
 use std::io::Read;
 
 /// What the bytes of a file are.
@@ -95,13 +96,49 @@ pub fn read_solution(
     game: &[u32],
     vertices: &Identifiers,
 ) -> Result<Vec<u32>, FileError> {
+    read_some_solution(input, form, game, vertices, true)
+}
+
+/// Reads a solution as [`read_solution`] does, which may have no line for some vertices: there the word of the winner is [`NO_WINNER`](super::NO_WINNER).
+///
+/// ```
+/// use raskjomi::large::{read_game, read_partial_solution, NO_WINNER};
+/// let file = read_game(&b"parity 1; 0 0 0 0,1; 1 1 1 0;"[..], None, false)?;
+/// let words = read_partial_solution(&b"paritysol 1; 1 0;"[..], None, &file.words, &file.vertices)?;
+/// assert_eq!(words, [NO_WINNER, 0, 0, 2]);
+/// # Ok::<(), Box<dyn std::error::Error>>(())
+/// ```
+///
+/// # Errors
+///
+/// What is wrong with the file, with its line.
+///
+/// # Panics
+///
+/// May panic on words of a game that aren't accepted.
+pub fn read_partial_solution(
+    input: impl Read,
+    form: Option<FileForm>,
+    game: &[u32],
+    vertices: &Identifiers,
+) -> Result<Vec<u32>, FileError> {
+    read_some_solution(input, form, game, vertices, false)
+}
+
+fn read_some_solution(
+    input: impl Read,
+    form: Option<FileForm>,
+    game: &[u32],
+    vertices: &Identifiers,
+    whole: bool,
+) -> Result<Vec<u32>, FileError> {
     let mut scanner = Scanner::new(input);
     if is_binary(&scanner, form) {
         return whole_words(&bytes(&mut scanner)?);
     }
     let first = scanner.next()?;
     if scanner.is_word(first, SOLUTION) || scanner.in_statement(first) {
-        return paritysol::read(&mut scanner, first, game, vertices);
+        return paritysol::read(&mut scanner, first, game, vertices, whole);
     }
     if scanner.is_word(first, GAME) {
         let what = "a game in PGSolver's format, where a solution is wanted";
@@ -175,12 +212,8 @@ fn whole_words((words, rest): &Words) -> Result<Vec<u32>, FileError> {
         return Ok(words.clone());
     }
     let (count, more) = (words.len(), rest.len());
-    Err(FileError {
-        line: None,
-        id: None,
-        what: format!("cut off: {count} words of 32 bits and {more} bytes"),
-        remedy: "write or copy it again".into(),
-    })
+    let what = format!("cut off: {count} words of 32 bits and {more} bytes");
+    Err(FileError::of_file(what, "write or copy it again"))
 }
 
 /// The words of a binary game: of 32 bits, unless its length is that of 16.

@@ -2,7 +2,7 @@
 
 use super::{certificate, large_read, large_solution};
 use super::{Certificate, LargeSize, LargeSolution, Uncertified};
-use crate::{Player, Refusal};
+use crate::{Game, Player, Refusal};
 
 /// A large game that the reader accepts, with the words of its table.
 ///
@@ -127,8 +127,22 @@ impl LargeGame {
         }
     }
 
-    fn sources(&self) -> &[u32] {
+    pub(super) fn sources(&self) -> &[u32] {
         self.part(2 + 2 * self.size.vertices, self.size.edges)
+    }
+
+    /// The same as a game for the calls that have limits, where it is within them, its priorities fit 16 bits, and each vertex has an edge out.
+    ///
+    /// ```
+    /// use raskjomi::{Game, LargeGame};
+    /// let game: Game = "1 1 / 4 / 1 / 0 / 0".parse()?;
+    /// assert_eq!(LargeGame::from(&game).within_limits(), Some(game));
+    /// assert_eq!(LargeGame::new(vec![1, 1, 70_000, 0, 0, 0])?.within_limits(), None);
+    /// # Ok::<(), Box<dyn std::error::Error>>(())
+    /// ```
+    pub fn within_limits(&self) -> Option<Game> {
+        let words = self.words.iter().map(|&word| u16::try_from(word).ok());
+        Game::new(words.collect::<Option<_>>()?).ok()
     }
 
     fn targets(&self) -> &[u32] {
@@ -138,5 +152,13 @@ impl LargeGame {
     /// So many words from one on.
     fn part(&self, from: usize, count: usize) -> &[u32] {
         &self.words[from..from + count]
+    }
+}
+
+/// A game within the limits as one of any size.
+impl From<&Game> for LargeGame {
+    fn from(game: &Game) -> LargeGame {
+        let words = game.words().iter().map(|&word| word.into()).collect();
+        LargeGame::new(words).expect("the reader of large games refuses nothing more")
     }
 }

@@ -1,11 +1,16 @@
 //! What the vertices of a large game are called.
 
 use super::components::NONE;
+use super::file_error::FileError;
 use super::lines::Lines;
-use super::scan::FileError;
+use crate::formats::number;
+use crate::MOST_VERTICES;
 
 /// The most characters of a name that a message shows.
 const SHOWN: usize = 40;
+
+/// The most vertices of one name that a message shows.
+const SHOWN_IDS: usize = 8;
 
 /// The ids and names of a game's vertices, as far as they take little memory beside the game.
 #[derive(Clone, Debug, Default)]
@@ -16,6 +21,8 @@ pub struct Identifiers {
     /// The ids, where they don't.
     list: Vec<u32>,
     names: Names,
+    /// Whether these are some vertices of a file alone.
+    of_part: bool,
 }
 
 impl Identifiers {
@@ -24,10 +31,26 @@ impl Identifiers {
         Identifiers { count, ..Identifiers::default() }
     }
 
-    /// Numbers from 0 on in place of these vertices, each with the name of its vertex.
+    /// Numbers from 0 on in place of these vertices, each with the name of its vertex. Of a part of a game, a vertex without a name is
+    /// called by its id.
     pub fn renumbered(&self, vertices: &[u32]) -> Identifiers {
-        let names = self.names.in_sequence(vertices);
+        let mut names = self.names.in_sequence(vertices);
+        if self.of_part {
+            names = Names { left_out: names.left_out, ..Names::default() };
+            for (number, &vertex) in (0..).zip(vertices) {
+                let id = || self.id(vertex).to_string().into_bytes();
+                names.add(number, &self.names.of(vertex).map_or_else(id, <[u8]>::to_vec));
+            }
+        }
         Identifiers { count: vertices.len(), names, ..Identifiers::default() }
+    }
+
+    /// The ids and names of some vertices, ascending, as those of a [`Part`](super::Part).
+    pub fn among(&self, vertices: &[u32]) -> Identifiers {
+        let mut kept = Identifiers { of_part: true, ..Identifiers::default() };
+        vertices.iter().for_each(|&vertex| kept.push(self.id(vertex)));
+        kept.names = self.names.in_sequence(vertices);
+        kept
     }
 
     /// The vertex's id, which is its number where no file gives another.
@@ -53,18 +76,51 @@ impl Identifiers {
     }
 
     /// The bytes of the vertex's name in its file.
-    pub(super) fn name_bytes(&self, vertex: u32) -> Option<&[u8]> {
+    pub fn name_bytes(&self, vertex: u32) -> Option<&[u8]> {
         self.names.of(vertex)
     }
 
     /// The vertex with this name, if there is exactly one.
     pub fn named(&self, name: &str) -> Option<u32> {
-        let mut found =
-            self.names.whose.iter().filter(|&&vertex| self.name(vertex).as_deref() == Some(name));
-        match (found.next(), found.next()) {
-            (Some(&vertex), None) => Some(vertex),
+        match self.called(name)[..] {
+            [vertex] => Some(vertex),
             _ => None,
         }
+    }
+
+    /// The vertices with this name.
+    fn called(&self, name: &str) -> Vec<u32> {
+        let is_it = |&vertex: &u32| self.name(vertex).as_deref() == Some(name);
+        self.names.whose.iter().copied().filter(is_it).collect()
+    }
+
+    /// The vertex that a word means: an id, or a name that one vertex alone has, which may stand in quotes.
+    ///
+    /// ```
+    /// let file = raskjomi::large::read_game(&b"3 2 0 7 \"door\"; 7 1 1 3,7;"[..], None, false)?;
+    /// assert_eq!(["7", "door", "\"door\"", "0"].map(|word| file.vertices.find(word)), [Some(1), Some(0), Some(0), None]);
+    /// # Ok::<(), raskjomi::large::FileError>(())
+    /// ```
+    pub fn find(&self, word: &str) -> Option<u32> {
+        match number(word, u32::MAX) {
+            Some(id) => self.vertex(id),
+            None => self.named(unquoted(word)),
+        }
+    }
+
+    /// That several vertices have the name that a word is, if so: in words, with their ids.
+    pub fn ambiguous(&self, word: &str) -> Option<String> {
+        let called = self.called(unquoted(word));
+        if called.len() < 2 {
+            return None;
+        }
+        let mut ids: Vec<String> =
+            called.iter().take(SHOWN_IDS).map(|&vertex| self.id(vertex).to_string()).collect();
+        if ids.len() < called.len() {
+            ids.push("..".into());
+        }
+        let (count, ids) = (called.len(), ids.join(", "));
+        Some(format!("{count} vertices are called {word}: those with the ids {ids}"))
     }
 
     /// Whether names were left out, as they would take more memory than the game.
@@ -179,6 +235,11 @@ impl Identifiers {
     }
 }
 
+/// A word without the quotes that it may stand in.
+fn unquoted(word: &str) -> &str {
+    word.strip_prefix('"').and_then(|word| word.strip_suffix('"')).unwrap_or(word)
+}
+
 /// A name as it is shown: in UTF-8, or else in Latin-1, with a question mark for each control character.
 pub fn name_text(bytes: &[u8]) -> String {
     let latin = || bytes.iter().map(|&byte| char::from(byte)).collect();
@@ -196,15 +257,20 @@ struct Names {
 }
 
 impl Names {
-    /// The memory that names may take, besides 8 bytes for each edge.
+    /// The memory that names may take, besides 8 bytes for each edge, where there are more vertices than a small game has.
     const FREE: usize = 1 << 20;
 
     fn push(&mut self, vertex: u32, name: &[u8], edges: usize) {
         let size = self.bytes.len() + name.len() + 8 * (self.whose.len() + 1);
-        if self.left_out || size > Names::FREE + 8 * edges || size > u32::MAX as usize {
+        let is_much = vertex as usize >= MOST_VERTICES && size > Names::FREE + 8 * edges;
+        if self.left_out || is_much || size > u32::MAX as usize {
             *self = Names { left_out: true, ..Names::default() };
             return;
         }
+        self.add(vertex, name);
+    }
+
+    fn add(&mut self, vertex: u32, name: &[u8]) {
         self.bytes.extend_from_slice(name);
         self.whose.push(vertex);
         self.ends.push(self.bytes.len() as u32);
@@ -225,9 +291,7 @@ impl Names {
         let mut sorted = Names { left_out: self.left_out, ..Names::default() };
         for (vertex, &entry) in (0..).zip(entries) {
             if let Some(name) = self.of(entry) {
-                sorted.bytes.extend_from_slice(name);
-                sorted.whose.push(vertex);
-                sorted.ends.push(sorted.bytes.len() as u32);
+                sorted.add(vertex, name);
             }
         }
         sorted

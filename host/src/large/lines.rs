@@ -24,6 +24,11 @@ impl Lines {
         self.count == 0
     }
 
+    /// How many entries there are.
+    pub fn count(&self) -> usize {
+        self.count
+    }
+
     /// The line of an entry.
     pub fn of(&self, entry: usize) -> u64 {
         let place = match self.steps.last() {

@@ -30,7 +30,9 @@
 
 mod certificate;
 mod components;
+mod decided;
 mod degrees;
+mod file_error;
 #[cfg(test)]
 mod file_tests;
 mod files;
@@ -41,8 +43,9 @@ mod images;
 mod lifted;
 mod lines;
 mod misfit;
-mod paritysol;
-mod pgsolver;
+pub(crate) mod paritysol;
+mod part;
+pub(crate) mod pgsolver;
 mod reduce;
 mod reducer;
 mod reduction;
@@ -50,7 +53,7 @@ mod reduction;
 mod reduction_tests;
 mod repeats;
 mod saved;
-mod scan;
+pub(crate) mod scan;
 mod solution;
 mod solved;
 mod table;
@@ -58,18 +61,21 @@ mod table;
 mod tests;
 mod write;
 
-use crate::{exports, verdict, Refusal};
-pub use files::{read_game, read_solution, read_words, FileForm};
+use crate::answers::{filled, judged};
+use crate::{exports, Refusal};
+pub use decided::{Decided, NO_WINNER};
+pub use file_error::{FileError, FileErrorKind};
+pub use files::{read_game, read_partial_solution, read_solution, read_words, FileForm};
 pub use flaw::Flaw;
 pub use game::LargeGame;
 pub use identifiers::{name_text, Identifiers};
 pub use misfit::Misfit;
+pub use part::Part;
 pub use pgsolver::GameFile;
 pub use reduce::Unreduced;
 pub use reduction::{LargeReduction, Members};
 pub use repeats::Repeats;
 pub use saved::{SavedError, SavedKind};
-pub use scan::FileError;
 pub use solution::{Certificate, LargeSolution, Uncertified};
 pub use write::{write_game, write_game_as, write_solution, Style};
 
@@ -120,7 +126,7 @@ impl LargeSize {
 /// Refusals 1, 2, 4, 5 and 6: see [`explain`](crate::explain).
 pub fn large_read(game: &[u32]) -> Result<LargeSize, Refusal> {
     let size = |(vertices, edges)| LargeSize { vertices, edges };
-    verdict(exports::large_read(game)).map(crate::filled).map(size)
+    judged(exports::large_read(game)).map(filled).map(size)
 }
 
 /// Judges a solution of a large game by a certificate. Where it accepts, every vertex has an edge out, and at each vertex the player whom the
@@ -142,7 +148,7 @@ pub fn large_read(game: &[u32]) -> Result<LargeSize, Refusal> {
 ///
 /// Refusals 1, 2, 4, 5 and 6 of the game, 81 to 84 of the solution, and 85 to 89 of the certificate: see [`explain`](crate::explain).
 pub fn large_solution(game: &[u32], solution: &[u32], certificate: &[u32]) -> Result<(), Refusal> {
-    verdict(exports::large_solution(game, solution, certificate)).map(|_| ())
+    judged(exports::large_solution(game, solution, certificate)).map(|_| ())
 }
 
 /// Judges a reduction of a large game by a certificate. The reduced game's edges stand by ascending source, and `classes` has for each vertex
@@ -174,5 +180,5 @@ pub fn large_reduction(
     classes: &[u32],
     certificate: &[u32],
 ) -> Result<(), Refusal> {
-    verdict(exports::large_reduction(game, reduced, classes, certificate)).map(|_| ())
+    judged(exports::large_reduction(game, reduced, classes, certificate)).map(|_| ())
 }

@@ -1,23 +1,97 @@
 //! Solutions of large games in PGSolver's format, `paritysol N; id winner strategy; ..`.
 
 use super::components::NONE;
+use super::file_error::FileError;
 use super::identifiers::Identifiers;
 use super::lines::Lines;
 use super::pgsolver::header;
-use super::scan::{FileError, Scanner, Token};
+use super::scan::{Scanner, Token};
+use super::NO_WINNER;
 use std::io::Read;
 
 /// The first word of a solution, where its file has one.
-pub(super) const SOLUTION: &str = "paritysol";
+pub(crate) const SOLUTION: &str = "paritysol";
 
 /// What some solutions have in place of a strategy.
 const NO_MOVE: &str = "-1";
 
-const REMEDY: &str =
+pub(crate) const REMEDY: &str =
     "write `id winner strategy;`, with a strategy where the vertex is its winner's";
+
+/// What is wrong with a vertex of its winner's that has no move.
+pub(crate) const NO_STRATEGY: &str = "no strategy, though the vertex is its winner's";
 
 /// How many successors a message names at most.
 const SHOWN: usize = 8;
+
+/// What a file says of a vertex.
+#[derive(Clone, Copy, Debug)]
+pub(crate) struct Entry {
+    pub line: u64,
+    pub id: u32,
+    /// 0 for Even, 1 for Odd.
+    pub winner: u32,
+    /// The id of the successor where the winner goes.
+    pub choice: Option<u32>,
+}
+
+/// Hands on each entry of a file, from its first token on.
+pub(crate) fn each_entry<R: Read>(
+    scanner: &mut Scanner<R>,
+    first: Token,
+    mut take: impl FnMut(Entry) -> Result<(), FileError>,
+) -> Result<(), FileError> {
+    let mut token = first;
+    if scanner.is_word(token, SOLUTION) {
+        header(scanner, SOLUTION)?;
+        token = scanner.next()?;
+    }
+    loop {
+        match token {
+            Token::Number(id) => take(entry(scanner, id)?)?,
+            Token::End => return Ok(()),
+            found => return Err(scanner.unexpected(found, None, "an id", REMEDY)),
+        }
+        token = scanner.next()?;
+    }
+}
+
+/// Reads an entry, from its winner on.
+#[inline]
+fn entry<R: Read>(scanner: &mut Scanner<R>, id: u32) -> Result<Entry, FileError> {
+    let line = scanner.line;
+    let winner = scanner.wanted(Some(id), "a winner", REMEDY)?;
+    if winner > 1 {
+        let remedy = "write 0 where Even wins and 1 where Odd does";
+        return Err(FileError::at(line, Some(id), format!("winner {winner}"), remedy));
+    }
+    let error = |error| FileError { id: Some(id), ..error };
+    let (mut choice, mut next) = (None, scanner.next().map_err(error)?);
+    if let Token::Number(found) = next {
+        choice = Some(found);
+        next = scanner.next().map_err(error)?;
+    } else if scanner.is_word(next, NO_MOVE) {
+        next = scanner.next().map_err(error)?;
+    }
+    if next == Token::Name {
+        next = scanner.next().map_err(error)?;
+    }
+    match next {
+        Token::Semicolon => Ok(Entry { line, id, winner, choice }),
+        found => Err(scanner.unexpected(found, Some(id), "a semicolon", REMEDY)),
+    }
+}
+
+/// That a vertex has two entries, of which one stands before.
+pub(crate) fn twice(entry: Entry, before: u64) -> FileError {
+    let what = format!("line {before} has this id already");
+    FileError::at(entry.line, Some(entry.id), what, "write one line for each vertex")
+}
+
+/// That a vertex has none.
+pub(crate) fn no_line(label: &str) -> FileError {
+    FileError::of_file(format!("no line for vertex {label}"), "solve the whole game")
+}
 
 /// A solution as its lines come in.
 struct Draft<'a> {
@@ -34,18 +108,14 @@ struct Draft<'a> {
     choices: Vec<u32>,
 }
 
-/// Reads a solution from its first token on.
+/// Reads a solution from its first token on; a whole one has a line for each vertex.
 pub(super) fn read<R: Read>(
     scanner: &mut Scanner<R>,
     first: Token,
     game: &[u32],
     vertices: &Identifiers,
+    whole: bool,
 ) -> Result<Vec<u32>, FileError> {
-    let mut token = first;
-    if scanner.is_word(token, SOLUTION) {
-        header(scanner, SOLUTION)?;
-        token = scanner.next()?;
-    }
     let (n, m) = (game[0] as usize, game[1] as usize);
     let (owners, ends) = game[2 + n..].split_at(n);
     let (sources, targets) = ends.split_at(m);
@@ -54,79 +124,44 @@ pub(super) fn read<R: Read>(
     let lines = Lines::default();
     let mut draft =
         Draft { owners, sources, targets, vertices, lines, count: 0, entries, winners, choices };
-    draft.winners.resize(n, 0);
-    loop {
-        match token {
-            Token::Number(id) => draft.entry(scanner, id)?,
-            Token::End => return draft.finished(),
-            found => return Err(scanner.unexpected(found, None, "an id", REMEDY)),
-        }
-        token = scanner.next()?;
-    }
+    draft.winners.resize(n, NO_WINNER);
+    each_entry(scanner, first, |entry| draft.take(entry))?;
+    draft.finished(whole)
 }
 
 impl Draft<'_> {
-    /// Reads an entry, from its winner on.
+    /// Takes the next entry.
     #[inline]
-    fn entry<R: Read>(&mut self, scanner: &mut Scanner<R>, id: u32) -> Result<(), FileError> {
-        let line = scanner.line;
-        let winner = scanner.wanted(Some(id), "a winner", REMEDY)?;
-        let vertex = self.accept(line, id, winner)?;
-        let error = |error| FileError { id: Some(id), ..error };
-        let (mut choice, mut next) = (None, scanner.next().map_err(error)?);
-        if let Token::Number(found) = next {
-            choice = Some(found);
-            next = scanner.next().map_err(error)?;
-        } else if scanner.is_word(next, NO_MOVE) {
-            next = scanner.next().map_err(error)?;
-        }
-        if next == Token::Name {
-            next = scanner.next().map_err(error)?;
-        }
-        if next != Token::Semicolon {
-            return Err(scanner.unexpected(next, Some(id), "a semicolon", REMEDY));
-        }
-        self.winners[vertex as usize] = winner;
-        if self.owners[vertex as usize] == winner {
-            self.choices[vertex as usize] = self.choice(line, id, choice)?;
+    fn take(&mut self, entry: Entry) -> Result<(), FileError> {
+        let vertex = self.accept(entry)?;
+        self.winners[vertex as usize] = entry.winner;
+        if self.owners[vertex as usize] == entry.winner {
+            self.choices[vertex as usize] = self.choice(entry)?;
         }
         Ok(())
     }
 
     /// The vertex of an entry that may come.
-    fn accept(&mut self, line: u64, id: u32, winner: u32) -> Result<u32, FileError> {
-        let problem = |what: String, remedy: &str| Err(FileError::at(line, Some(id), what, remedy));
-        if winner > 1 {
-            return problem(
-                format!("winner {winner}"),
-                "write 0 where Even wins and 1 where Odd does",
-            );
-        }
-        let Some(vertex) = self.vertices.vertex(id) else {
-            return problem(
-                "no vertex of the game has this id".into(),
-                "take the solution of this game",
-            );
+    fn accept(&mut self, entry: Entry) -> Result<u32, FileError> {
+        let Some(vertex) = self.vertices.vertex(entry.id) else {
+            let what = "no vertex of the game has this id";
+            let remedy = "take the solution of this game";
+            return Err(FileError::at(entry.line, Some(entry.id), what, remedy));
         };
-        let entry = &mut self.entries[vertex as usize];
-        if *entry != NONE {
-            let before = self.lines.of(*entry as usize);
-            return problem(
-                format!("line {before} has this id already"),
-                "write one line for each vertex",
-            );
+        let number = &mut self.entries[vertex as usize];
+        if *number != NONE {
+            return Err(twice(entry, self.lines.of(*number as usize)));
         }
-        *entry = self.count;
+        *number = self.count;
         self.count += 1;
-        self.lines.push(line);
+        self.lines.push(entry.line);
         Ok(vertex)
     }
 
     /// The successor that a winner's strategy names.
-    fn choice(&self, line: u64, id: u32, choice: Option<u32>) -> Result<u32, FileError> {
+    fn choice(&self, Entry { line, id, choice, .. }: Entry) -> Result<u32, FileError> {
         let Some(choice) = choice else {
-            let what = "no strategy, though the vertex is its winner's";
-            return Err(FileError::at(line, Some(id), what, REMEDY));
+            return Err(FileError::at(line, Some(id), NO_STRATEGY, REMEDY));
         };
         self.vertices.vertex(choice).ok_or_else(|| {
             let what = format!("strategy {choice} is no vertex of the game");
@@ -135,15 +170,15 @@ impl Draft<'_> {
     }
 
     /// The words of the solution.
-    fn finished(self) -> Result<Vec<u32>, FileError> {
-        if let Some(vertex) = self.entries.iter().position(|&entry| entry == NONE) {
+    fn finished(self, whole: bool) -> Result<Vec<u32>, FileError> {
+        let left_out = self.entries.iter().position(|&entry| entry == NONE);
+        if let Some(vertex) = left_out.filter(|_| whole) {
             let label = self.vertices.label(vertex as u32);
-            let (what, remedy) =
-                (format!("no line for vertex {label}"), "solve the whole game".into());
-            return Err(FileError { line: None, id: None, what, remedy });
+            return Err(no_line(&label));
         }
         let edges = self.edges();
-        match edges.iter().position(|&edge| edge == NONE) {
+        let is_stuck = |v: &usize| edges[*v] == NONE && self.entries[*v] != NONE;
+        match (0..edges.len()).find(is_stuck) {
             Some(vertex) => Err(self.without_edge(vertex as u32)),
             None => {
                 let mut words = self.winners;

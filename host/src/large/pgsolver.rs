@@ -4,17 +4,18 @@
 //! source, then as the file lists them, each once.
 
 use super::degrees::Degrees;
+use super::file_error::FileError;
 use super::identifiers::Identifiers;
 use super::lines::Lines;
 use super::repeats::{drop_repeats, Repeats};
-use super::scan::{FileError, Scanner, Token};
+use super::scan::{Scanner, Token};
 use std::io::Read;
 
 /// The first word of a game, where its file has one.
-pub(super) const GAME: &str = "parity";
+pub(crate) const GAME: &str = "parity";
 
 /// The word before the id of the vertex that a game starts at.
-pub(super) const START: &str = "start";
+pub(crate) const START: &str = "start";
 
 const REMEDY: &str = "write `id priority owner successor,successor \"name\";`";
 
@@ -50,6 +51,28 @@ struct Draft {
     repeats: Option<Repeats>,
 }
 
+/// A game of a file with the lines of its vertices, as they are numbered.
+pub(crate) struct Lined {
+    pub file: GameFile,
+    pub lines: Vec<u64>,
+    /// The line of the header, or the first one.
+    pub first: u64,
+}
+
+/// Reads a game with its lines from its first token on. Its priorities are as the file has them, and it may have no vertex.
+pub(crate) fn read_lined<R: Read>(
+    scanner: &mut Scanner<R>,
+    first: Token,
+) -> Result<Lined, FileError> {
+    let line = scanner.line;
+    let (file, lines) =
+        drafted(scanner, first)?.finished(true, |lines, entries| match entries {
+            Some(entries) => entries.iter().map(|&entry| lines.of(entry as usize)).collect(),
+            None => (0..lines.count()).map(|entry| lines.of(entry)).collect(),
+        })?;
+    Ok(Lined { file, lines, first: line })
+}
+
 /// Reads a game from its first token on. Where the highest priority decides in the file, each priority q becomes M - q, with M the smallest
 /// even number not below the highest, as [`convert`](crate::convert()) does for small games.
 pub(super) fn read<R: Read>(
@@ -57,12 +80,21 @@ pub(super) fn read<R: Read>(
     first: Token,
     lowest: bool,
 ) -> Result<GameFile, FileError> {
-    let (line, mut most, mut token) = (scanner.line, None, first);
-    let mut draft = Draft::default();
+    let line = scanner.line;
+    let draft = drafted(scanner, first)?;
+    if draft.priorities.is_empty() {
+        return Err(FileError::at(line, None, "no vertex after the first line", REMEDY));
+    }
+    draft.finished(lowest, |_, _| ()).map(|(file, ())| file)
+}
+
+/// All lines of a game.
+fn drafted<R: Read>(scanner: &mut Scanner<R>, first: Token) -> Result<Draft, FileError> {
+    let (mut most, mut token, mut draft) = (None, first, Draft::default());
     loop {
         match token {
             Token::Number(id) => draft.vertex(scanner, id, most.flatten())?,
-            Token::End => break,
+            Token::End => return Ok(draft),
             found if scanner.is_word(found, GAME) && most.is_none() && draft.lines.is_empty() => {
                 most = Some(header(scanner, GAME)?);
             }
@@ -76,10 +108,6 @@ pub(super) fn read<R: Read>(
         }
         token = scanner.next()?;
     }
-    if draft.priorities.is_empty() {
-        return Err(FileError::at(line, None, "no vertex after the first line", REMEDY));
-    }
-    draft.finished(lowest)
 }
 
 /// `parity N;` from N on, where N, the highest id, may be missing.
@@ -177,14 +205,18 @@ impl Draft {
         }
     }
 
-    /// The game of all lines.
-    fn finished(mut self, lowest: bool) -> Result<GameFile, FileError> {
+    /// The game of all lines, with what is kept of the lines and of the sequence of the entries, if they are sorted.
+    fn finished<T>(
+        mut self,
+        lowest: bool,
+        keep: impl FnOnce(&Lines, Option<&[u32]>) -> T,
+    ) -> Result<(GameFile, T), FileError> {
         let even = if lowest { None } else { Some(self.convert()?) };
-        if let Some(entries) = self.vertices.sort(&self.lines)? {
-            self.check_successors(Some(&entries))?;
+        let entries = self.vertices.sort(&self.lines)?;
+        self.check_successors(entries.as_deref())?;
+        let kept = keep(&self.lines, entries.as_deref());
+        if let Some(entries) = entries {
             self.permute(&entries);
-        } else {
-            self.check_successors(None)?;
         }
         let start = self.start.map(|(id, line)| {
             let missing = || {
@@ -200,7 +232,8 @@ impl Draft {
         let start = start.transpose()?;
         let vertices = std::mem::take(&mut self.vertices);
         let repeats = self.repeats.take();
-        Ok(GameFile { words: self.words(), vertices, start, even, in_pgsolver: true, repeats })
+        let words = self.words();
+        Ok((GameFile { words, vertices, start, even, in_pgsolver: true, repeats }, kept))
     }
 
     /// Turns the ids of all successors into vertices. The entries of the file stand in another sequence than the vertices, if one is given.

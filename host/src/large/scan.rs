@@ -1,6 +1,6 @@
 //! The tokens of large files, read a piece at a time.
 
-use std::fmt;
+use super::file_error::FileError;
 use std::io::{self, Read};
 
 /// The bytes of a piece.
@@ -11,58 +11,20 @@ const SHOWN: usize = 24;
 
 /// A token. The bytes of a name or a word are kept by the scanner.
 #[derive(Clone, Copy, Debug, PartialEq, Eq)]
-pub(super) enum Token {
+pub(crate) enum Token {
     Number(u32),
     Word,
     Name,
+    /// A name without its closing quote.
+    Unclosed,
     Comma,
     Semicolon,
     Slash,
     End,
 }
 
-/// What is wrong with a file, where, and what to do.
-#[derive(Clone, Debug, PartialEq, Eq)]
-#[non_exhaustive]
-pub struct FileError {
-    /// The line, counted from 1; none if it isn't about one.
-    pub line: Option<u64>,
-    /// The vertex's id, if it is about a vertex.
-    pub id: Option<u32>,
-    /// What is wrong.
-    pub what: String,
-    /// What to do.
-    pub remedy: String,
-}
-
-/// "line 3, id 1: what is wrong; what to do"
-impl fmt::Display for FileError {
-    fn fmt(&self, f: &mut fmt::Formatter) -> fmt::Result {
-        match (self.line, self.id) {
-            (Some(line), Some(id)) => write!(f, "line {line}, id {id}: ")?,
-            (Some(line), None) => write!(f, "line {line}: ")?,
-            (None, Some(id)) => write!(f, "id {id}: ")?,
-            (None, None) => (),
-        }
-        write!(f, "{}; {}", self.what, self.remedy)
-    }
-}
-
-impl std::error::Error for FileError {}
-
-impl FileError {
-    pub(super) fn at(
-        line: u64,
-        id: Option<u32>,
-        what: impl Into<String>,
-        remedy: impl Into<String>,
-    ) -> FileError {
-        FileError { line: Some(line), id, what: what.into(), remedy: remedy.into() }
-    }
-}
-
 /// The tokens of a file one after the other.
-pub(super) struct Scanner<R> {
+pub(crate) struct Scanner<R> {
     input: R,
     piece: Vec<u8>,
     at: usize,
@@ -242,12 +204,7 @@ impl<R: Read> Scanner<R> {
             }
         }
         self.end()?;
-        Err(FileError::at(
-            self.line,
-            None,
-            "a name without its closing quote",
-            "put `\"` at the name's end",
-        ))
+        Ok(Token::Unclosed)
     }
 
     /// What is neither number nor name, up to a blank or a mark.
@@ -301,6 +258,10 @@ impl<R: Read> Scanner<R> {
             Token::Number(number) => format!("`{number}`"),
             Token::Word => format!("`{}`", shown()),
             Token::Name => "a name".into(),
+            Token::Unclosed => {
+                let what = "a name without its closing quote";
+                return FileError::at(self.line, None, what, "put `\"` at the name's end");
+            }
             Token::Comma => "a comma".into(),
             Token::Semicolon => "a semicolon".into(),
             Token::Slash => "a slash".into(),

@@ -546,7 +546,7 @@ fn help_of_each_command_has_an_example_that_runs() {
     assert_eq!(run(&["help"]).text(), overview);
     let listed: Vec<&str> =
         overview.lines().filter_map(|line| line.strip_prefix("  ")?.split(' ').next()).collect();
-    assert_eq!(listed.len(), 26, "{listed:?}");
+    assert_eq!(listed.len(), 28, "{listed:?}");
     for command in listed {
         let help = run(&[command, "--help"]).text();
         assert_eq!(run(&["help", command]).text(), help);

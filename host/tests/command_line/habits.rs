@@ -1,12 +1,12 @@
 //! What people expect of a command line.
 
 use crate::common::root;
-use crate::run::{bytes, file, run, run_on, shipped};
+use crate::run::{bytes, file, in_terminal, run, run_on, shipped};
 use std::ffi::OsStr;
 use std::fs;
 use std::os::unix::ffi::OsStrExt;
 use std::path::PathBuf;
-use std::process::{Command, Stdio};
+use std::process::Command;
 
 fn folder() -> PathBuf {
     PathBuf::from(env!("CARGO_TARGET_TMPDIR"))
@@ -14,7 +14,12 @@ fn folder() -> PathBuf {
 
 #[test]
 fn version() {
-    let version = format!("raskjomi {}\n", env!("CARGO_PKG_VERSION"));
+    let origin = match env!("RASKJOMI_ORIGIN") {
+        "proved" => "proved from their sources by the build",
+        _ => "given to the build, which proved nothing",
+    };
+    let (version, fingerprint) = (env!("CARGO_PKG_VERSION"), env!("RASKJOMI_FINGERPRINT"));
+    let version = format!("raskjomi {version}\narchives {fingerprint}, {origin}\n");
     assert_eq!(run(&["--version"]).text(), version);
     assert_eq!(run(&["-V"]).text(), version);
 }
@@ -156,16 +161,9 @@ fn two_vertices_of_one_name() {
     assert!(run(&["report", &game, "--vertex=b"]).text().starts_with("Vertex id 5 "));
 }
 
-/// `script` of util-linux runs a command in a terminal.
 #[test]
 fn a_command_that_waits_for_a_terminal_says_so() {
-    let line = |words: &str| format!("'{}' {words}", env!("CARGO_BIN_EXE_raskjomi"));
-    let shown = |words: &str| {
-        let mut script = Command::new("script");
-        script.args(["-qec", &line(words), "/dev/null"]).current_dir(root());
-        let ran = script.stdin(Stdio::null()).output().expect("script of util-linux");
-        String::from_utf8_lossy(&ran.stdout).into_owned()
-    };
+    let shown = |words: &str| in_terminal(&format!("'{}' {words}", env!("CARGO_BIN_EXE_raskjomi")));
     let told = "raskjomi: waiting for input from this terminal; end it by Ctrl-D";
     for words in ["report", "check -", "reduce -", "check-plan games/c.txt - --player even"] {
         assert!(shown(words).contains(told), "{words}: {}", shown(words));
@@ -258,21 +256,4 @@ fn the_man_page_and_the_completions_have_every_command() {
     if let Ok(ran) = Command::new("groff").args(["-man", "-ww", "-Tascii", "-z", &path]).output() {
         assert!(ran.status.success() && ran.stderr.is_empty(), "{ran:?}");
     }
-    let path = file("completions.bash", script.as_bytes());
-    let complete = |words: &str, last: usize| {
-        let line = format!(
-            "source '{path}'; COMP_WORDS=({words}); COMP_CWORD={last}; _raskjomi; echo \"${{COMPREPLY[*]}}\""
-        );
-        let ran =
-            Command::new("bash").args(["-c", &line]).current_dir(root()).output().expect("bash");
-        assert!(ran.stderr.is_empty(), "{ran:?}");
-        String::from_utf8(ran.stdout).expect("text").trim_end().to_string()
-    };
-    assert_eq!(complete("raskjomi red", 1), "reduce");
-    assert_eq!(complete("raskjomi help me", 2), "merged");
-    assert_eq!(complete("raskjomi reduce --wi", 2), "--with-classes");
-    assert_eq!(complete("raskjomi reduce --as p", 3), "pgsolver");
-    assert_eq!(complete("raskjomi verdict --j", 2), "--json");
-    assert_eq!(complete("raskjomi check-plan --player o", 3), "odd");
-    assert_eq!(complete("raskjomi reduce games/lift-doors.t", 2), "games/lift-doors.txt");
 }

@@ -17,7 +17,7 @@ pub fn bytes(words: &[u32]) -> Vec<u8> {
 }
 
 /// The numbers of decimal text.
-fn numbers(text: &str) -> Vec<u32> {
+pub fn numbers(text: &str) -> Vec<u32> {
     let code = text.lines().map(|line| line.split('#').next().unwrap_or_default());
     let words = code.flat_map(|line| line.split([' ', '/']).filter(|word| !word.is_empty()));
     words.map(|word| word.parse().expect("a number")).collect()
@@ -29,7 +29,7 @@ pub fn told(run: Run, parts: &[&str]) -> String {
 }
 
 /// Two copies of a game side by side, some edges of each leading to the other.
-fn doubled(lcg: &mut Lcg, table: &LargeTable) -> LargeTable {
+pub fn doubled(lcg: &mut Lcg, table: &LargeTable) -> LargeTable {
     let n = table.n() as u32;
     let mut edges = Vec::new();
     for &(v, w) in table.edges.iter().chain(&table.edges) {
@@ -41,7 +41,7 @@ fn doubled(lcg: &mut Lcg, table: &LargeTable) -> LargeTable {
 }
 
 /// The text of a solution, as a solver writes it.
-fn solution(table: &LargeTable) -> String {
+pub fn solution(table: &LargeTable) -> String {
     let solved = solve_large(table);
     let mut text = format!("paritysol {};\n", table.n() - 1);
     for v in 0..table.n() {
@@ -56,7 +56,7 @@ fn solution(table: &LargeTable) -> String {
     text
 }
 
-fn table(words: &[u32]) -> LargeTable {
+pub fn table(words: &[u32]) -> LargeTable {
     let (n, m) = (words[0] as usize, words[1] as usize);
     let part = |from: usize, count: usize| words[from..from + count].to_vec();
     let edges = part(2 + 2 * n, m).into_iter().zip(part(2 + 2 * n + m, m)).collect();
@@ -164,7 +164,7 @@ fn winners_by_names_and_ids() {
     let value = run(&["winners", &game, &solved, "--large", "--json"]).text();
     assert!(
         value.starts_with(
-            "{\"accepted\":true,\"vertices\":4,\"edges\":6,\"even_wins\":4,\"odd_wins\":0,\"at\":[\
+            "{\"accepted\":true,\"vertices\":4,\"edges\":6,\"even_wins\":4,\"odd_wins\":0,\"not_shown\":0,\"at\":[\
              {\"vertex\":0,\"id\":3,\"name\":\"door\",\"class\":0,\"winner\":\"Even\"},{\"vertex\":1,\"id\":5,"
         ),
         "{value}"
@@ -321,11 +321,6 @@ fn winners_by_wrong_solutions() {
         &["Even is said to win at vertex 0 and Odd at 1", ": refused 84 at 0: "],
     );
     wrong("paritysol 3; 0 0 2; 1 1 1; 2 0; 3 0;", 2, &["id 3"]);
-    wrong(
-        "paritysol 2; 0 0 2; 1 1 1;",
-        2,
-        &["standard input: no line for vertex 2; solve the whole game"],
-    );
     let json =
         run_on(&["winners", &game, "-", "--large", "--json"], b"paritysol 2; 0 0 1; 1 0; 2 0;");
     let value = json.fails(1, &["wrong"]);

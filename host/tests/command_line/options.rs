@@ -12,11 +12,14 @@ const LINES: [Line; 19] = [
     (&["order", "games/d.txt"], &["--as=words"]),
     (&["classes", "games/d.txt"], &["--as=dot", "--json"]),
     (&["quotient", "games/d.txt"], &["--as=words"]),
-    (&["reduce", "games/lift-doors.txt"], &["--as=words", "--with-classes", "--classes=FILE"]),
+    (
+        &["reduce", "games/lift-doors.txt"],
+        &["--as=words", "--with-classes", "--classes=FILE", "--stats", "--json"],
+    ),
     (&["reduce", "games/d.txt"], &["--as=dot", "--classes=FILE"]),
     (
         &["reduce", "games/lift-doors.txt", "--large"],
-        &["--as=words", "--then-order", "--classes=FILE"],
+        &["--as=words", "--then-order", "--classes=FILE", "--json"],
     ),
     (&["check-plan", "games/c.txt", "games/c.plan.txt", "--player=even"], &["--json"]),
     (&["check-relation", "games/b.txt", "games/c.txt"], &["--json"]),
@@ -45,11 +48,12 @@ const LINES: [Line; 19] = [
 ];
 
 /// Those of the commands about questions and about solvers' files.
-const MORE: [Line; 7] = [
+const MORE: [Line; 10] = [
     (&["check", "games/d.txt"], &["--json"]),
-    (&["merged", "games/lift-doors.txt"], &["--large"]),
-    (&["why", "games/lift-doors.txt", "0", "7"], &["--large"]),
-    (&["plan", "games/c.txt", "games/c.sol", "--vertex=0"], &["--as=words"]),
+    (&["merged", "games/lift-doors.txt"], &["--large", "--json"]),
+    (&["why", "games/lift-doors.txt", "0", "7"], &["--large", "--both", "--json"]),
+    (&["dropped", "games/lift-doors.txt"], &["--json"]),
+    (&["plan", "games/c.txt", "games/c.sol", "--vertex=0"], &["--as=words", "--json"]),
     (
         &["check-solution", "games/c.txt", "games/c.sol"],
         &["--vertex=0", "--start", "--save-certificate=FILE", "--json"],
@@ -63,11 +67,20 @@ const MORE: [Line; 7] = [
         ],
         &["--save-certificate=FILE", "--json"],
     ),
-    (&["winners", "games/d.txt", "games/c.sol"], &["--large", "--json"]),
+    (&["winners", "games/d.txt", "games/c.sol"], &["--large", "--as=solution", "--json"]),
+    (
+        &["page", "games/lift-doors.txt"],
+        &["--solution=games/lift-doors.sol", "--pair=0,7", "--plan=games/c.txt", "--force"],
+    ),
+    (
+        &["page", "games/d.txt", "--plan=games/c.plan.txt", "--player=even"],
+        &["--pair=0,5", "--lowest", "--force"],
+    ),
 ];
 
 /// The options that say how inputs are read or where the output goes; two outputs of a right input are equal.
-const OF_INPUTS: [&str; 6] = ["--lowest", "--text", "--binary", "--certificate", "-o", "--help"];
+const OF_INPUTS: [&str; 8] =
+    ["--lowest", "--text", "--binary", "--names", "--reachable", "--certificate", "-o", "--help"];
 
 /// What is left of a run: status, both outputs, and the file.
 type Effect = (i32, Vec<u8>, String, Option<Vec<u8>>);
@@ -150,7 +163,7 @@ fn bars_of_a_usage() {
             }
         }
     }
-    assert_eq!(count, 8, "pairs of neighbours");
+    assert_eq!(count, 14, "pairs of neighbours");
     let no = |words: &[&str], pair: &str| {
         run(words).fails(2, &[&format!("{pair} exclude each other; usage: ")]);
     };
@@ -164,6 +177,9 @@ fn bars_of_a_usage() {
         &["replay", "games/d.txt", "games/d.trace.txt", "--classes", "--as=text"],
         "--classes and --as",
     );
+    no(&["reduce", "games/d.txt", "--as=text", "--json"], "--as and --json");
+    no(&["reduce", "games/d.txt", "--with-classes", "--json"], "--with-classes and --json");
+    no(&["why", "games/d.txt", "0", "5", "--both", "--large"], "--both and --large");
     let seed = ["seed", "1", "4", "2", "4", "--lowest"];
     run(&seed).fails(2, &["seed: --lowest is for PGSolver's format alone; write --as pgsolver"]);
 }

@@ -2,7 +2,7 @@
 
 use crate::common::root;
 use std::fs;
-use std::io::Write;
+use std::io::{self, Write};
 use std::path::PathBuf;
 use std::process::{Command, Stdio};
 
@@ -68,6 +68,19 @@ pub fn run_on(words: &[&str], input: &[u8]) -> Run {
 /// Runs the program with words and no input.
 pub fn run(words: &[&str]) -> Run {
     run_on(words, &[])
+}
+
+/// What a line of the shell shows in a terminal, by `script` of util-linux.
+pub fn in_terminal(line: &str) -> String {
+    let mut script = Command::new("script");
+    script.args(["-qec", line, "/dev/null"]).current_dir(root());
+    let ran = script.stdin(Stdio::null()).output().expect("script of util-linux");
+    String::from_utf8_lossy(&ran.stdout).into_owned()
+}
+
+/// Says that a test isn't done, past its own output, which is shown of failures alone.
+pub fn not_tried(what: &str) {
+    let _ = writeln!(io::stderr(), "NOT TRIED: {what}");
 }
 
 /// A file with the content, for one test.

@@ -304,7 +304,7 @@ impl Case {
             )
             .map(of_both),
             Call::Verdict => {
-                match raskjomi::give_verdict(
+                match raskjomi::verdict(
                     game, vertex, player, plan, marks, spare, classes, reduction,
                 ) {
                     Verdict::Wins(size) => Ok(Answer { shown: 1, ..of_table(size) }),

@@ -4,16 +4,23 @@ use super::VERTICES;
 use std::array::from_fn;
 use std::ops::{BitAnd, BitOr, Sub};
 
-/// A set of vertices: v is in it if bit v % 64 of word v / 64 is set.
+/// A set of vertices: v is in it if bit v % 64 of word v / 64 is set. So many words hold all vertices of a game.
 #[derive(Clone, Copy)]
-pub struct Row([u64; VERTICES / 64]);
+pub struct Row<const WORDS: usize = { VERTICES / 64 }>([u64; WORDS]);
 
 /// A row for each vertex.
 pub type Rows = [Row; VERTICES];
 
-impl Row {
-    pub const EMPTY: Row = Row([0; VERTICES / 64]);
-    pub const FULL: Row = Row([u64::MAX; VERTICES / 64]);
+impl<const WORDS: usize> Row<WORDS> {
+    pub const EMPTY: Row<WORDS> = Row([0; WORDS]);
+
+    /// The first n vertices.
+    pub fn first(n: usize) -> Row<WORDS> {
+        Row(from_fn(|k| match n.saturating_sub(64 * k) {
+            0 => 0,
+            left => u64::MAX >> (64 - left.min(64)),
+        }))
+    }
 
     /// The words that the first n vertices take.
     pub fn words(&self, n: usize) -> &[u64] {
@@ -21,7 +28,7 @@ impl Row {
     }
 
     /// The places of the items for which the test holds.
-    pub fn of<T>(items: &[T], test: impl Fn(&T) -> bool) -> Row {
+    pub fn of<T>(items: &[T], test: impl Fn(&T) -> bool) -> Row<WORDS> {
         let bit = |word: u64, item: &T| word << 1 | test(item) as u64;
         let word = |items: &[T]| items.iter().rev().fold(0, bit);
         let mut words = items.chunks(64).map(word);
@@ -30,6 +37,16 @@ impl Row {
 
     pub fn insert(&mut self, v: usize) {
         self.0[v / 64] |= 1 << (v % 64);
+    }
+
+    pub fn remove(&mut self, v: usize) {
+        self.0[v / 64] &= !(1 << (v % 64));
+    }
+
+    /// The row without v.
+    pub fn without(mut self, v: usize) -> Row<WORDS> {
+        self.remove(v);
+        self
     }
 
     pub fn has(self, v: usize) -> bool {
@@ -42,6 +59,11 @@ impl Row {
 
     pub fn len(self) -> u32 {
         self.0.iter().map(|word| word.count_ones()).sum()
+    }
+
+    /// Whether the rows have a member in common.
+    pub fn meets(self, other: Row<WORDS>) -> bool {
+        !(self & other).is_empty()
     }
 
     /// Whether the test holds for every member; it is tried, ascending, until it doesn't.
@@ -67,9 +89,26 @@ impl Row {
         });
     }
 
+    /// The lowest member for which the test holds.
+    #[inline]
+    pub fn find(self, mut test: impl FnMut(usize) -> bool) -> Option<usize> {
+        let mut found = None;
+        self.all(|v| {
+            found = test(v).then_some(v);
+            found.is_none()
+        });
+        found
+    }
+
+    /// The member, where there is one alone.
+    pub fn only(self) -> Option<usize> {
+        let lowest = self.find(|_| true)?;
+        self.without(lowest).is_empty().then_some(lowest)
+    }
+
     /// The members for which the test holds.
     #[inline]
-    pub fn filter(self, mut test: impl FnMut(usize) -> bool) -> Row {
+    pub fn filter(self, mut test: impl FnMut(usize) -> bool) -> Row<WORDS> {
         let mut kept = Row::EMPTY;
         self.each(|v| kept.0[v / 64] |= (test(v) as u64) << (v % 64));
         kept
@@ -77,7 +116,7 @@ impl Row {
 
     /// The union of the members' rows.
     #[inline]
-    pub fn union(self, rows: &Rows) -> Row {
+    pub fn union<const ROWS: usize>(self, rows: &[Row<WORDS>; ROWS]) -> Row<WORDS> {
         let mut union = Row::EMPTY;
         self.each(|v| union = union | rows[v]);
         union
@@ -102,26 +141,26 @@ impl Pairs {
     }
 }
 
-impl BitAnd for Row {
-    type Output = Row;
+impl<const WORDS: usize> BitAnd for Row<WORDS> {
+    type Output = Row<WORDS>;
 
-    fn bitand(self, other: Row) -> Row {
+    fn bitand(self, other: Row<WORDS>) -> Row<WORDS> {
         Row(from_fn(|k| self.0[k] & other.0[k]))
     }
 }
 
-impl BitOr for Row {
-    type Output = Row;
+impl<const WORDS: usize> BitOr for Row<WORDS> {
+    type Output = Row<WORDS>;
 
-    fn bitor(self, other: Row) -> Row {
+    fn bitor(self, other: Row<WORDS>) -> Row<WORDS> {
         Row(from_fn(|k| self.0[k] | other.0[k]))
     }
 }
 
-impl Sub for Row {
-    type Output = Row;
+impl<const WORDS: usize> Sub for Row<WORDS> {
+    type Output = Row<WORDS>;
 
-    fn sub(self, other: Row) -> Row {
+    fn sub(self, other: Row<WORDS>) -> Row<WORDS> {
         Row(from_fn(|k| self.0[k] & !other.0[k]))
     }
 }

@@ -7,57 +7,24 @@ use super::{reader, refused, EDGES, STARTS, VERTICES};
 use raskjomi::exports::RaskjomiAnswer;
 use raskjomi::mark_bytes;
 
-/// An edge added, as the library's call of this name.
-pub fn add_edge(
-    table: &mut [u16],
-    source: u32,
-    target: u32,
-    marks: &mut [u8],
-    spare: &mut [u8],
-    classes: &mut [u16],
-) -> RaskjomiAnswer {
-    edit(table, source, target, marks, spare, classes, true)
+/// Reads a table: its sizes, or its refusal.
+type Read = fn(&[u16]) -> Result<(usize, usize), RaskjomiAnswer>;
+/// Writes the order and the classes of a table; the number of classes.
+type Fill = fn(&[u16], &mut [u8], &mut [u8], &mut [u16]) -> usize;
+
+/// How an edit reads a table, and writes what is made of one.
+pub struct Ways {
+    pub read: Read,
+    pub fill: Fill,
 }
 
-/// An edge removed, as the library's call of this name.
-pub fn remove_edge(
-    table: &mut [u16],
-    source: u32,
-    target: u32,
-    marks: &mut [u8],
-    spare: &mut [u8],
-    classes: &mut [u16],
-) -> RaskjomiAnswer {
-    edit(table, source, target, marks, spare, classes, false)
-}
+/// The baseline's.
+pub const WAYS: Ways = Ways { read: reader::read, fill };
 
-/// An edge added to a copy, as the library's call of this name.
-pub fn preview_add(
-    game: &[u16],
-    source: u32,
-    target: u32,
-    table: &mut [u16],
-    marks: &mut [u8],
-    spare: &mut [u8],
-    classes: &mut [u16],
-) -> RaskjomiAnswer {
-    preview(game, source, target, table, marks, spare, classes, true)
-}
-
-/// An edge removed from a copy, as the library's call of this name.
-pub fn preview_remove(
-    game: &[u16],
-    source: u32,
-    target: u32,
-    table: &mut [u16],
-    marks: &mut [u8],
-    spare: &mut [u8],
-    classes: &mut [u16],
-) -> RaskjomiAnswer {
-    preview(game, source, target, table, marks, spare, classes, false)
-}
-
-fn edit(
+/// An edge added or removed, as the library's calls `add_edge` and `remove_edge`.
+#[allow(clippy::too_many_arguments)]
+pub fn edit(
+    ways: &Ways,
     table: &mut [u16],
     source: u32,
     target: u32,
@@ -66,7 +33,7 @@ fn edit(
     classes: &mut [u16],
     add: bool,
 ) -> RaskjomiAnswer {
-    let (n, m) = match read_in(table) {
+    let (n, m) = match (ways.read)(begun(table)) {
         Ok(sizes) => sizes,
         Err(refusal) => return refusal,
     };
@@ -78,11 +45,13 @@ fn edit(
     if let Err(refusal) = judge(table, table.len(), n, m, edge, add) {
         return refusal;
     }
-    make((table, n, m), (source as u16, target as u16), marks, spare, classes, add)
+    make(ways, (table, n, m), (source as u16, target as u16), marks, spare, classes, add)
 }
 
+/// The same on a copy, as the library's calls `preview_add` and `preview_remove`.
 #[allow(clippy::too_many_arguments)]
-fn preview(
+pub fn preview(
+    ways: &Ways,
     game: &[u16],
     source: u32,
     target: u32,
@@ -92,7 +61,7 @@ fn preview(
     classes: &mut [u16],
     add: bool,
 ) -> RaskjomiAnswer {
-    let (n, m) = match read_in(game) {
+    let (n, m) = match (ways.read)(begun(game)) {
         Ok(sizes) => sizes,
         Err(refusal) => return refusal,
     };
@@ -106,20 +75,21 @@ fn preview(
         return refusal;
     }
     table[..size].copy_from_slice(&game[..size]);
-    make((table, n, m), (source as u16, target as u16), marks, spare, classes, add)
+    make(ways, (table, n, m), (source as u16, target as u16), marks, spare, classes, add)
 }
 
-/// Reads the table that begins a buffer.
-fn read_in(buffer: &[u16]) -> Result<(usize, usize), RaskjomiAnswer> {
+/// The table that begins a buffer, as far as it is there.
+fn begun(buffer: &[u16]) -> &[u16] {
     let needed = match buffer {
         &[n, m, ..] => 2 + 2 * n as usize + 2 * m as usize,
         _ => 0,
     };
-    reader::read(&buffer[..needed.min(buffer.len())])
+    &buffer[..needed.min(buffer.len())]
 }
 
 /// Makes an edit that was judged, and writes the order and the classes.
 fn make(
+    ways: &Ways,
     (table, n, m): (&mut [u16], usize, usize),
     edge: (u16, u16),
     marks: &mut [u8],
@@ -128,7 +98,7 @@ fn make(
     add: bool,
 ) -> RaskjomiAnswer {
     let edges = if add { arrive(table, n, m, edge) } else { leave(table, n, m, edge) };
-    let k = fill(table, n, edges, marks, spare, classes);
+    let k = (ways.fill)(begun(table), marks, spare, classes);
     let (classes, vertices, edges) = (k as u32, n as u32, edges as u32);
     RaskjomiAnswer { classes, vertices, edges, ..RaskjomiAnswer::default() }
 }
@@ -142,11 +112,7 @@ pub fn replay(
     spare: &mut [u8],
     classes: &mut [u16],
 ) -> RaskjomiAnswer {
-    let needed = match table {
-        &mut [n, m, ..] => 2 + 2 * n as usize + 2 * m as usize,
-        _ => 0,
-    };
-    let (n, mut m) = match reader::read(&table[..needed.min(table.len())]) {
+    let (n, mut m) = match reader::read(begun(table)) {
         Ok(sizes) => sizes,
         Err(refusal) => return refusal,
     };
@@ -158,7 +124,7 @@ pub fn replay(
     if trace.len() != 1 + 2 * count || count > 4096 {
         return refused(40, 0);
     }
-    fill(table, n, m, marks, spare, classes);
+    fill(begun(table), marks, spare, classes);
     let mut verdict = RaskjomiAnswer::default();
     let mut done = 0;
     while done < count {
@@ -171,7 +137,7 @@ pub fn replay(
         }
         done += 1;
     }
-    let k = fill(table, n, m, marks, spare, classes);
+    let k = fill(begun(table), marks, spare, classes);
     let entries = done as u32;
     if verdict.number != 0 {
         return RaskjomiAnswer { entries, ..verdict };
@@ -180,17 +146,11 @@ pub fn replay(
     RaskjomiAnswer { classes, vertices, edges, entries, ..RaskjomiAnswer::default() }
 }
 
-/// Writes the order and the classes of the table that begins the buffer; the number of classes.
-fn fill(
-    table: &[u16],
-    n: usize,
-    m: usize,
-    marks: &mut [u8],
-    spare: &mut [u8],
-    classes: &mut [u16],
-) -> usize {
+/// Writes the order and the classes of a table; the number of classes.
+fn fill(table: &[u16], marks: &mut [u8], spare: &mut [u8], classes: &mut [u16]) -> usize {
+    let (n, m) = (table[0] as usize, table[1] as usize);
     let (mut starts, mut places) = ([0; STARTS], [0; EDGES]);
-    let game = Game::new(&table[..2 + 2 * n + 2 * m], n, m, &mut starts, &mut places);
+    let game = Game::new(table, n, m, &mut starts, &mut places);
     let bytes = mark_bytes(n);
     write_order(&game, &mut marks[..bytes], &mut spare[..bytes]);
     write_classes(marks, &mut classes[..n], &mut [0; VERTICES])

@@ -1,12 +1,17 @@
 //! The reader.
 
-use super::bits::Pairs;
 use super::{refused, EDGES, VERTICES};
 use raskjomi::exports::RaskjomiAnswer;
-use std::hint::black_box;
 
 /// The game's sizes, or its refusal.
 pub fn read(game: &[u16]) -> Result<(usize, usize), RaskjomiAnswer> {
+    let (n, m) = sizes(game)?;
+    parts(game, n, m)?;
+    Ok((n, m))
+}
+
+/// The game's sizes, or refusals 1 to 4.
+pub fn sizes(game: &[u16]) -> Result<(usize, usize), RaskjomiAnswer> {
     if game.len() < 2 {
         return Err(refused(1, game.len()));
     }
@@ -20,7 +25,6 @@ pub fn read(game: &[u16]) -> Result<(usize, usize), RaskjomiAnswer> {
     if game.len() != 2 + 2 * n + 2 * m {
         return Err(refused(4, game.len()));
     }
-    parts(game, n, m)?;
     Ok((n, m))
 }
 
@@ -36,20 +40,16 @@ fn parts(game: &[u16], n: usize, m: usize) -> Result<(), RaskjomiAnswer> {
     if let Some(place) = at_least(first, game.len(), n) {
         return Err(refused(6, place));
     }
-    let (sources, targets) = game[first..].split_at(m);
-    // The library's reader counts for every call, so the compiler may not leave it out here.
-    black_box(count_different(sources, targets, n));
-    let mut has_edge = [false; VERTICES];
-    sources.iter().for_each(|&source| has_edge[source as usize] = true);
-    match has_edge[..n].iter().position(|&has| !has) {
+    let sources = &game[first..first + m];
+    match without_edge(sources, n) {
         Some(vertex) => Err(refused(8, vertex)),
         None => Ok(()),
     }
 }
 
-/// How many different edges there are.
-fn count_different(sources: &[u16], targets: &[u16], n: usize) -> usize {
-    let mut seen = Pairs::NONE;
-    let edges = sources.iter().zip(targets);
-    edges.filter(|(&source, &target)| seen.insert(source as usize * n + target as usize)).count()
+/// The first of n vertices that is the source of no edge.
+pub fn without_edge(sources: &[u16], n: usize) -> Option<usize> {
+    let mut has_edge = [false; VERTICES];
+    sources.iter().for_each(|&source| has_edge[source as usize] = true);
+    has_edge[..n].iter().position(|&has| !has)
 }

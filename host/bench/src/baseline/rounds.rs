@@ -2,6 +2,7 @@
 //! lose some now.
 
 use super::bits::{Row, Rows};
+use super::edges::Edges;
 use super::game::Game;
 use super::{packing, reader, EDGES, STARTS, VERTICES};
 use std::hint::black_box;
@@ -40,10 +41,7 @@ pub fn timed(table: &[u16], marks: &mut [u8], spare: &mut [u8]) -> [Duration; 3]
 
 /// The rows of a game and of its marks.
 struct Rounds {
-    /// Odd's vertices.
-    odd: Row,
-    successors: Rows,
-    predecessors: Rows,
+    edges: Edges,
     /// The w for which (v, w) is marked, for each v.
     marked: Rows,
     /// The rows that lost marks in the last pass.
@@ -62,39 +60,36 @@ impl Rounds {
     fn start(game: &Game, mirror: bool) -> Rounds {
         let none = [Row::EMPTY; VERTICES];
         let mut rounds = Rounds {
-            odd: Row::EMPTY,
-            successors: none,
-            predecessors: none,
-            marked: [Row::FULL; VERTICES],
+            edges: Edges::EMPTY,
+            marked: none,
             changed: Row::EMPTY,
             lost: none,
             falls: none,
             losses: none,
             mirror,
         };
-        rounds.odd = Row::of(game.owners, |&owner| owner == 1);
-        for v in 0..game.priorities.len() {
-            for &x in game.next.of(v) {
-                rounds.successors[v].insert(x as usize);
-                rounds.predecessors[x as usize].insert(v);
-            }
+        let n = game.priorities.len();
+        rounds.edges.set_owners(game.owners);
+        for v in 0..n {
+            game.next.of(v).iter().for_each(|&x| rounds.edges.insert(v, x as usize));
         }
-        for v in 0..game.priorities.len() {
-            rounds.part(game.priorities, v);
+        let all = Row::first(n);
+        for v in 0..n {
+            rounds.part(game.priorities, all, v);
         }
         rounds.changed = Row::of(&rounds.lost, |row| !row.is_empty());
         rounds
     }
 
     /// Pass 0 of v: of all pairs, those of unequal priorities are lost. Vertices of one priority lose the same.
-    fn part(&mut self, priorities: &[u16], v: usize) {
+    fn part(&mut self, priorities: &[u16], all: Row, v: usize) {
         let equal = priorities[..v].iter().position(|&other| other == priorities[v]);
         (self.marked[v], self.lost[v], self.falls[v]) = match equal {
             Some(u) => (self.marked[u], self.lost[u], self.falls[u]),
             None => {
                 let lost = Row::of(priorities, |&other| other != priorities[v]);
-                let left = Row::FULL - lost;
-                (left, lost, self.fall(lost, left))
+                let left = all - lost;
+                (left, lost, self.edges.fall_of_all(lost, left))
             }
         };
     }
@@ -116,7 +111,7 @@ impl Rounds {
 
     /// A pass, and how many marks it clears.
     fn pass(&mut self) -> u32 {
-        let near = self.changed.union(&self.predecessors);
+        let near = self.changed.union(&self.edges.predecessors);
         let losing = near.filter(|v| {
             self.losses[v] = self.loss(v);
             !self.losses[v].is_empty()
@@ -142,9 +137,9 @@ impl Rounds {
 
     /// What v loses, which has a successor whose row changed.
     fn loss(&self, v: usize) -> Row {
-        let next = self.successors[v];
+        let next = self.edges.successors[v];
         let changed = next & self.changed;
-        if !self.odd.has(v) {
+        if !self.edges.odd.has(v) {
             return self.marked[v] & changed.union(&self.falls);
         }
         let mut lost = changed.union(&self.lost);
@@ -155,14 +150,7 @@ impl Rounds {
         if lost.is_empty() {
             return Row::EMPTY;
         }
-        self.marked[v] & self.fall(lost, next.union(&self.marked))
-    }
-
-    /// The vertices with a successor in `lost` that are Odd's or have none in `left`.
-    fn fall(&self, lost: Row, left: Row) -> Row {
-        let near = lost.union(&self.predecessors);
-        let without = |w: usize| (self.successors[w] & left).is_empty();
-        near & self.odd | (near - self.odd).filter(without)
+        self.edges.fall_within(self.marked[v], lost, next.union(&self.marked))
     }
 
     /// Takes the losses of these rows out; how many marks they are.
@@ -172,7 +160,7 @@ impl Rounds {
             let lost = self.losses[v];
             let left = self.marked[v] - lost;
             (self.marked[v], self.lost[v]) = (left, lost);
-            self.falls[v] = self.fall(lost, left);
+            self.falls[v] = self.edges.fall(lost, left);
             cleared += lost.len();
         });
         self.changed = rows;

@@ -2,11 +2,14 @@
 
 use crate::failure::Failure;
 use crate::help::{Command, REPEATED};
-use crate::source::{Encoding, Source};
+use crate::source::Source;
 use crate::{options, suggest};
+use raskjomi::large::FileForm;
+use raskjomi::Player;
 use std::collections::BTreeMap;
 use std::ffi::{OsStr, OsString};
 use std::os::unix::ffi::OsStrExt;
+use std::path::Path;
 use std::slice::Iter;
 
 /// The files and options of one command line.
@@ -16,6 +19,8 @@ pub struct Arguments {
     options: BTreeMap<String, String>,
     repeated: Vec<(String, String)>,
     output: Option<OsString>,
+    /// Whether the output is a folder.
+    into_folder: bool,
 }
 
 /// The form of an output.
@@ -45,7 +50,13 @@ impl Arguments {
             }
         }
         arguments.fit(command)?;
+        arguments.into_folder = command.writes_each() && arguments.are_for_a_folder();
         Ok(arguments)
+    }
+
+    /// Whether several files are named, or a folder for the output.
+    fn are_for_a_folder(&self) -> bool {
+        self.files.len() > 1 || self.output.as_ref().is_some_and(|path| Path::new(path).is_dir())
     }
 
     /// Whether the command uses all of them: no option excludes another one, and the arguments are as many as it takes.
@@ -80,8 +91,9 @@ impl Arguments {
             "why" => 1,
             _ => self.files.len(),
         };
-        let certificate = self.value("--certificate").map(OsStr::new);
-        self.files.iter().take(most).map(OsString::as_os_str).chain(certificate)
+        let options = ["--certificate", "--plan", "--solution"];
+        let others = options.into_iter().filter_map(|option| self.value(option).map(OsStr::new));
+        self.files.iter().take(most).map(OsString::as_os_str).chain(others)
     }
 
     /// Adds `--name value` or `--name=value`; the value may be the next of the words.
@@ -121,11 +133,12 @@ impl Arguments {
     pub fn file(&self, index: usize) -> Source<'_> {
         let path = self.files.get(index).map_or(OsStr::new("-"), |file| file);
         let form = match (self.has("--text"), self.has("--binary")) {
-            (true, _) => Some(Encoding::Text),
-            (_, true) => Some(Encoding::Binary),
+            (true, _) => Some(FileForm::Text),
+            (_, true) => Some(FileForm::Binary),
             _ => None,
         };
-        Source { path, lowest: self.has("--lowest"), form }
+        let reachable = self.value("--reachable");
+        Source { path, lowest: self.has("--lowest"), form, reachable }
     }
 
     /// The argument at an index that is no file.
@@ -140,7 +153,12 @@ impl Arguments {
 
     /// The file that the output is to go to, if one is named; - is standard output.
     pub fn output(&self) -> Option<&OsStr> {
-        self.output.as_deref().filter(|path| *path != "-")
+        self.output.as_deref().filter(|path| *path != "-" && !self.into_folder)
+    }
+
+    /// The folder that an output for each file is to go to, if one is named.
+    pub fn folder(&self) -> Option<&OsStr> {
+        self.output.as_deref().filter(|path| *path != "-" && self.into_folder)
     }
 
     /// Whether there is an argument at the index.
@@ -183,15 +201,12 @@ impl Arguments {
     }
 
     /// The player that `--player` names.
-    pub fn player(&self) -> Result<u32, Failure> {
-        match self.value("--player") {
-            Some("even" | "Even" | "0") => Ok(raskjomi::EVEN),
-            Some("odd" | "Odd" | "1") => Ok(raskjomi::ODD),
-            Some(other) => Err(Failure::usage(format!(
-                "no player `{other}`; write --player even or --player odd"
-            ))),
-            None => Err(Failure::usage("no player; write --player even or --player odd")),
-        }
+    pub fn player(&self) -> Result<Player, Failure> {
+        let Some(name) = self.value("--player") else {
+            return Err(Failure::usage("no player; write --player even or --player odd"));
+        };
+        let no_player = format!("no player `{name}`; write --player even or --player odd");
+        name.parse().map_err(|_| Failure::usage(no_player))
     }
 }
 
@@ -220,15 +235,6 @@ fn output(
 fn is_negative(word: &str) -> bool {
     let digits = word.strip_prefix('-').unwrap_or_default();
     !digits.is_empty() && digits.bytes().all(|byte| byte.is_ascii_digit())
-}
-
-/// The player's name.
-pub fn name_of(player: u32) -> &'static str {
-    if player == raskjomi::EVEN {
-        "Even"
-    } else {
-        "Odd"
-    }
 }
 
 fn bad(command: &Command, what: String) -> Failure {

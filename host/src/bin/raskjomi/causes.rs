@@ -1,17 +1,17 @@
 //! Why a relation or a plan is refused, in words: the failing successor, the missing one, the walk.
 
 use crate::graph::{Cause, Graph};
-use crate::table::Table;
-use crate::vertices::Vertices;
-use raskjomi::is_marked;
+use raskjomi::formats::Vertices;
+use raskjomi::{is_marked, Game, Plan};
 use std::collections::VecDeque;
 
 /// The most positions of a walk that a message shows.
 const SHOWN: usize = 12;
 
 /// Why a pair of the relation fails: refusal 10.
-pub fn of_pair(table: &Table, vertices: &Vertices, marks: &[u8], v: usize, w: usize) -> String {
-    let (graph, related) = (Graph::new(table), |x, y| is_marked(marks, table.n(), x, y));
+pub fn of_pair(game: &Game, vertices: &Vertices, marks: &[u8], v: usize, w: usize) -> String {
+    let (graph, n) = (Graph::new(game), game.size().vertices);
+    let related = |x, y| is_marked(marks, n, x, y);
     let [v_is, w_is] = [v, w].map(|vertex| vertices.label(vertex));
     match graph.cause(v, w, related) {
         Some(Cause::Priorities) => {
@@ -38,37 +38,22 @@ pub fn of_pair(table: &Table, vertices: &Vertices, marks: &[u8], v: usize, w: us
     }
 }
 
-/// The words of a plan that passes refusals 12 to 14, by its parts.
-struct Plan<'a> {
-    vertices: &'a [u16],
-    sources: &'a [u16],
-    targets: &'a [u16],
+/// The vertex of a position.
+fn vertex(plan: &Plan, position: usize) -> usize {
+    plan.positions()[position].into()
 }
 
-impl Plan<'_> {
-    fn new(words: &[u16]) -> Plan<'_> {
-        let (vertices, links) = words[2..].split_at(words[0].into());
-        let (sources, targets) = links.split_at(words[1].into());
-        Plan { vertices, sources, targets }
-    }
-
-    fn vertex(&self, position: usize) -> usize {
-        self.vertices[position].into()
-    }
-
-    /// The positions that a position's links lead to.
-    fn next(&self, position: usize) -> impl Iterator<Item = usize> + '_ {
-        let links = self.sources.iter().zip(self.targets);
-        links.filter(move |(&source, _)| usize::from(source) == position).map(|(_, &to)| to.into())
-    }
+/// The positions that a position's links lead to.
+fn next(plan: &Plan, position: usize) -> impl Iterator<Item = usize> + '_ {
+    let links = plan.links().filter(move |&(source, _)| usize::from(source) == position);
+    links.map(|(_, target)| target.into())
 }
 
 /// The link that a position lacks: refusal 15.
-pub fn of_missing(table: &Table, vertices: &Vertices, words: &[u16], position: usize) -> String {
-    let plan = Plan::new(words);
-    let graph = Graph::new(table);
-    let successors = &graph.successors[plan.vertex(position)];
-    let reached: Vec<usize> = plan.next(position).map(|to| plan.vertex(to)).collect();
+pub fn of_missing(game: &Game, vertices: &Vertices, plan: &Plan, position: usize) -> String {
+    let graph = Graph::new(game);
+    let successors = &graph.successors[vertex(plan, position)];
+    let reached: Vec<usize> = next(plan, position).map(|to| vertex(plan, to)).collect();
     match successors.iter().find(|vertex| !reached.contains(vertex)) {
         Some(&missing) if !reached.is_empty() => {
             format!("it has no link to a position at vertex {}", vertices.label(missing))
@@ -78,13 +63,12 @@ pub fn of_missing(table: &Table, vertices: &Vertices, words: &[u16], position: u
 }
 
 /// A closed walk through the position that never goes below its priority: refusal 16.
-pub fn of_walk(table: &Table, vertices: &Vertices, words: &[u16], start: usize) -> String {
-    let plan = Plan::new(words);
-    let priority = |position: usize| table.priorities()[plan.vertex(position)];
-    let mut from = vec![None; plan.vertices.len()];
+pub fn of_walk(game: &Game, vertices: &Vertices, plan: &Plan, start: usize) -> String {
+    let priority = |position: usize| game.priority(vertex(plan, position));
+    let mut from = vec![None; plan.positions().len()];
     let mut found = VecDeque::from([start]);
     while let Some(position) = found.pop_front() {
-        for next in plan.next(position) {
+        for next in next(plan, position) {
             if from[next].is_none() && priority(next) >= priority(start) {
                 from[next] = Some(position);
                 found.push_back(next);
@@ -100,7 +84,7 @@ pub fn of_walk(table: &Table, vertices: &Vertices, words: &[u16], start: usize) 
     }
     walk.reverse();
     let mut steps: Vec<String> =
-        walk.iter().map(|&position| vertices.label(plan.vertex(position))).collect();
+        walk.iter().map(|&position| vertices.label(vertex(plan, position))).collect();
     let (links, lowest) = (steps.len() - 1, vertices.priority(priority(start)));
     if steps.len() > SHOWN {
         steps.drain(SHOWN / 2..steps.len() - SHOWN / 2);

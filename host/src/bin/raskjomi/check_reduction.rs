@@ -5,10 +5,10 @@ use crate::check_solution::{certificate_files, grouped, unsaved};
 use crate::commands::Written;
 use crate::failure::Failure;
 use crate::help::{Command, Opt};
-use crate::json::{self, Value};
 use crate::large::{self, Loaded};
 use crate::progress::watch;
 use crate::source::Source;
+use raskjomi::formats::json::{self, Value};
 use raskjomi::large::{read_words, GameFile};
 use raskjomi::{large_reduction, LargeReduction, Misfit, Refusal, Unreduced};
 use std::fs::File;
@@ -95,7 +95,7 @@ impl Files {
             _ => (),
         }
         let (classes_name, _watch) = (of_classes.name(), watch("the file of the classes"));
-        let classes = read_words(large::opened(of_classes)?, large::form(of_classes))
+        let classes = read_words(large::opened(of_classes)?, of_classes.form)
             .map_err(|error| Failure::usage(format!("{classes_name}: {error}")))?;
         let first = classes.first().copied().unwrap_or_default();
         align(&mut read, first, game.game.priority(0));
@@ -116,7 +116,7 @@ impl Files {
 
     /// The reduction with a certificate that was saved.
     fn read(&self, path: &str) -> Result<LargeReduction, Failure> {
-        let source = Source { path: path.as_ref(), lowest: false, form: None };
+        let source = Source { path: path.as_ref(), lowest: false, form: None, reachable: None };
         let input = large::opened(source)?;
         let _watch = watch("the certificate's file");
         let (reduced, classes) = (self.reduced.game.clone(), self.classes.clone());

@@ -4,10 +4,10 @@ use crate::arguments::Arguments;
 use crate::commands::Written;
 use crate::failure::Failure;
 use crate::help::{Command, Opt};
-use crate::json::{self, Value};
 use crate::large::{self, Loaded, Solved};
 use crate::progress::watch;
 use crate::source::{plain_error, Source};
+use raskjomi::formats::json::{self, Value};
 use raskjomi::{Certificate, Player, Uncertified};
 use std::fs::File;
 use std::io::{self, BufWriter};
@@ -115,7 +115,7 @@ pub fn made(solved: &Solved, json: bool) -> Result<Certificate, Failure> {
 
 /// A certificate that was saved.
 fn read(path: &str, solved: &Solved) -> Result<Certificate, Failure> {
-    let source = Source { path: path.as_ref(), lowest: false, form: None };
+    let source = Source { path: path.as_ref(), lowest: false, form: None, reachable: None };
     let input = source.open().map_err(|error| source.unreadable(&error))?;
     let _watch = watch("the certificate's file");
     Certificate::load(input, &solved.of.game, &solved.solution)

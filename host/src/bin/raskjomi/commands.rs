@@ -1,23 +1,23 @@
 //! The commands.
 
-use crate::analysis::{members, Edit, Game, Merged, Order};
-use crate::any_size::AnySize;
-use crate::arguments::{name_of, Arguments, Form};
-use crate::dot::{self as picture, Kept};
+use crate::arguments::{Arguments, Form};
 use crate::failure::Failure;
+use crate::game_input::GameInput;
 use crate::help::{self, Command};
 use crate::input::{self, number, Input, Unit};
-use crate::json::{self, Value};
 use crate::locate::{
-    carry_refused, edit_refused, plan_refused, relation_refused, replay_refused, seed_refused,
+    carry_refused, game_refused, plan_of, plan_refused, relation_refused, seed_refused,
 };
 use crate::output::{form_given, Output};
-use crate::progress::watch;
+use crate::progress::watched;
 use crate::source::plain_error;
-use crate::table::Table;
-use crate::vertices::Vertices;
-use crate::{reduced, suggest, tell, text};
-use raskjomi::{Kind, Refusal, Verdict};
+use crate::svg::{self, Layout};
+use crate::values::{sizes, Called};
+use crate::{reduced, reduced_value, suggest, tell, text, whole};
+use raskjomi::formats::dot::{self as picture, Kept};
+use raskjomi::formats::json::{self, Value};
+use raskjomi::formats::{to_bytes, Vertices};
+use raskjomi::{members, Game, Kind, Order, Reduced, Refusal, Verdict};
 use std::ffi::{OsStr, OsString};
 use std::fs;
 
@@ -42,13 +42,18 @@ pub fn run(words: &[OsString]) -> Written {
         return Ok(help::of(command).into());
     }
     let arguments = Arguments::parse(command, rest)?;
-    let written = (command.run)(&arguments).map_err(|failure| match arguments.has("--json") {
-        true => failure.with_json(),
-        false => failure,
-    });
+    let run = || {
+        (command.run)(&arguments).map_err(|failure| match arguments.has("--json") {
+            true => failure.with_json(),
+            false => failure,
+        })
+    };
     match arguments.output() {
-        Some(path) => to_file(path, written),
-        None => written,
+        Some(path) if command.keeps_files() => {
+            whole::to_file(path, arguments.has(help::FORCE), run)
+        }
+        Some(path) => to_file(path, run()),
+        None => run(),
     }
 }
 
@@ -79,76 +84,74 @@ fn named(name: &str) -> Result<&'static Command, Failure> {
 
 /// `report`: the lines of the report program, or a sentence on one vertex.
 pub fn report(arguments: &Arguments) -> Written {
-    let game = Game::load(arguments.file(0)).map_err(Failure::with_verdict)?;
-    let reduced = game.reduced()?;
+    let game = GameInput::load(arguments.file(0)).map_err(Failure::with_verdict)?;
+    let reduced = reduced_of(&game.game);
     if let Some(vertex) = arguments.value("--vertex") {
         return vertex_sentence(&game, &reduced, vertex).map(Vec::from);
     }
     if arguments.has("--json") {
-        return report_value(&game, &reduced).map(|value| format!("{value}\n").into());
+        return Ok(format!("{}\n", report_value(&game, &reduced)).into());
     }
-    let (size, classes) = (game.size, &reduced.classes);
+    let (size, classes) = (game.game.size(), &reduced.classes);
     let mut report = format!("game {} {}\n", size.vertices, size.different);
-    report += &format!("passes {}\nclasses {}\n", game.order()?.passes, reduced.table().n());
+    report += &format!(
+        "passes {}\nclasses {}\n",
+        order_of(&game.game).passes,
+        reduced.game.size().vertices
+    );
     for (vertex, class) in classes.iter().enumerate() {
-        report += &format!("vertex {} class {class}\n", game.input.vertices.label(vertex));
+        report += &format!("vertex {} class {class}\n", game.vertices().label(vertex));
     }
     let (mut all_members, mut all_edges) = (0, 0);
-    for (class, members) in members(classes).iter().map(Vec::len).enumerate() {
-        let edges = reduced.edges_from(class);
+    for (class, members) in reduced.members().iter().map(Vec::len).enumerate() {
+        let edges = reduced.game.successors(class).count();
         report += &format!("class {class} members {members} edges {edges}\n");
         (all_members, all_edges) = (all_members + members, all_edges + edges);
     }
     report += &format!("total {all_members} {all_edges}\n");
-    report += &format!("reduced {} {}\n", reduced.table().n(), reduced.table().m());
+    let size = reduced.game.size();
+    report += &format!("reduced {} {}\n", size.vertices, size.edges);
     Ok(report.into())
 }
 
 /// The report as a value.
-fn report_value(game: &Game, reduced: &Merged) -> Result<Value, Failure> {
-    let sizes = |vertices: usize, edges: usize| {
-        json::object([("vertices", Value::from(vertices)), ("edges", Value::from(edges))])
-    };
+fn report_value(game: &GameInput, reduced: &Reduced) -> Value {
+    let sizes = |game: &Game| sizes(game.size().vertices, game.size().different);
     let class = |(class, members): (usize, &Vec<usize>)| {
         json::object([
             ("class", Value::from(class)),
             ("members", json::list(members.iter().copied())),
-            ("edges", Value::from(reduced.edges_from(class))),
+            ("edges", Value::from(reduced.game.successors(class).count())),
         ])
     };
-    Ok(json::object([
-        ("game", sizes(game.size.vertices, game.size.different)),
-        ("passes", Value::Number(game.order()?.passes.into())),
+    json::object([
+        ("game", sizes(&game.game)),
+        ("passes", Value::Number(order_of(&game.game).passes.into())),
         ("vertices", vertex_values(game, &reduced.classes)),
-        ("classes", Value::List(members(&reduced.classes).iter().enumerate().map(class).collect())),
-        ("reduced", sizes(reduced.table().n(), reduced.table().m())),
-    ]))
+        ("classes", Value::List(reduced.members().iter().enumerate().map(class).collect())),
+        ("reduced", sizes(&reduced.game)),
+    ])
 }
 
 /// The vertices with their ids, names and classes, as a value.
-fn vertex_values(game: &Game, classes: &[u16]) -> Value {
+fn vertex_values(game: &GameInput, classes: &[u16]) -> Value {
     let value = |(vertex, &class): (usize, &u16)| vertex_value(game, vertex, class);
     Value::List(classes.iter().enumerate().map(value).collect())
 }
 
 /// A vertex with its id, name and class, as a value.
-fn vertex_value(game: &Game, vertex: usize, class: u16) -> Value {
-    let vertices = &game.input.vertices;
-    json::object([
-        ("vertex", Value::from(vertex)),
-        ("id", Value::Number(vertices.id(vertex))),
-        ("name", vertices.name(vertex).map_or(Value::Null, Value::from)),
-        ("class", Value::Number(class.into())),
-    ])
+fn vertex_value(game: &GameInput, vertex: usize, class: u16) -> Value {
+    let class = ("class", Value::Number(class.into()));
+    json::object(game.vertices().fields_of(vertex).into_iter().chain([class]))
 }
 
 /// The vertex's class, its other members, and what that means for a win.
-fn vertex_sentence(game: &Game, reduced: &Merged, vertex: &str) -> Result<String, Failure> {
+fn vertex_sentence(game: &GameInput, reduced: &Reduced, vertex: &str) -> Result<String, Failure> {
     let v = game.vertex(vertex, "--vertex")?;
     let class = reduced.classes[v];
-    let mut others = members(&reduced.classes).swap_remove(class as usize);
+    let mut others = reduced.members().swap_remove(class as usize);
     others.retain(|&other| other != v);
-    let (v, listed) = (game.input.vertices.label(v), game.input.vertices.listed(&others));
+    let (v, listed) = (game.vertices().label(v), game.vertices().listed(&others));
     let (company, equals) = match others.len() {
         0 => ("is alone in".to_string(), String::new()),
         1 => (format!("and vertex {listed} share"), format!("from vertex {listed}, and ")),
@@ -160,25 +163,35 @@ fn vertex_sentence(game: &Game, reduced: &Merged, vertex: &str) -> Result<String
     ))
 }
 
+/// The order of a game.
+pub fn order_of(game: &Game) -> Order {
+    watched("the order", || game.order())
+}
+
+/// The reduced game of a game.
+pub fn reduced_of(game: &Game) -> Reduced {
+    watched("the game of classes", || game.reduce())
+}
+
+/// The class of each vertex of a game.
+pub fn class_of_each(game: &Game) -> Vec<u16> {
+    watched("the classes", || game.classes())
+}
+
 /// `order`.
 pub fn order(arguments: &Arguments) -> Written {
     marks(arguments, 0, Game::order, text::ORDER)
 }
 
 /// The marks that a call writes, under a title, for the game that is argument number `file`.
-fn marks(
-    arguments: &Arguments,
-    file: usize,
-    write: fn(&Game) -> Result<Order, Failure>,
-    title: &str,
-) -> Written {
+fn marks(arguments: &Arguments, file: usize, write: fn(&Game) -> Order, title: &str) -> Written {
     let form = no_table(arguments)?;
-    let game = Game::load(arguments.file(file))?;
-    let (order, table) = (write(&game)?, game.table());
+    let game = GameInput::load(arguments.file(file))?;
+    let order = watched("the order", || write(&game.game));
     Ok(match form {
         Form::Words => order.marks,
-        Form::Dot => picture::order(&table, &game.input.vertices, &order.marks).into(),
-        _ => text::marks(title, &order, table.n()).into(),
+        Form::Dot => picture::order(&game.game, game.vertices(), &order).into(),
+        _ => text::marks(title, &order).into(),
     })
 }
 
@@ -187,14 +200,10 @@ pub fn classes(arguments: &Arguments) -> Written {
     class_list(arguments, 0, Game::classes)
 }
 
-fn class_list(
-    arguments: &Arguments,
-    file: usize,
-    write: fn(&Game) -> Result<Vec<u16>, Failure>,
-) -> Written {
+fn class_list(arguments: &Arguments, file: usize, write: fn(&Game) -> Vec<u16>) -> Written {
     let form = no_table(arguments)?;
-    let game = Game::load(arguments.file(file))?;
-    let classes = write(&game)?;
+    let game = GameInput::load(arguments.file(file))?;
+    let classes = watched("the classes", || write(&game.game));
     if arguments.has("--json") {
         let members = members(&classes);
         let members = members.iter().map(|members| json::list(members.iter().copied())).collect();
@@ -205,13 +214,13 @@ fn class_list(
         return Ok(format!("{value}\n").into());
     }
     Ok(match form {
-        Form::Words => text::bytes(&classes),
+        Form::Words => to_bytes(&classes),
         Form::Dot => {
-            let reduced = game.reduced()?;
+            let reduced = reduced_of(&game.game);
             let kept = (classes == reduced.classes).then(|| Kept::new(&reduced));
-            picture::game(&game.table(), &game.input.vertices, &classes, kept.as_ref()).into()
+            picture::game(&game.game, game.vertices(), &classes, kept.as_ref()).into()
         }
-        _ => text::classes(&classes, &game.input.vertices).into(),
+        _ => text::classes(&classes, game.vertices()).into(),
     })
 }
 
@@ -228,44 +237,39 @@ fn no_table(arguments: &Arguments) -> Result<Form, Failure> {
 /// `quotient`.
 pub fn quotient(arguments: &Arguments) -> Written {
     let form = arguments.form()?;
-    table(arguments, form, "quotient", Game::load(arguments.file(0))?, Game::quotient)
+    let game = GameInput::load(arguments.file(0))?;
+    let merged = watched("the game of classes", || game.game.quotient());
+    table(arguments, form, "quotient", &game, &merged)
 }
 
-/// `reduce`.
-pub fn reduce(arguments: &Arguments) -> Written {
-    let form = arguments.form()?;
-    match AnySize::load(arguments.file(0), arguments.has("--large"))? {
-        AnySize::Small(game) => table(arguments, form, "reduced", game, Game::reduced),
-        AnySize::Large(game) => reduced::reduce(arguments, game),
-    }
-}
-
-fn table(
+/// A game of classes in a form.
+pub fn table(
     arguments: &Arguments,
     form: Form,
     name: &str,
-    game: Game,
-    write: fn(&Game) -> Result<Merged, Failure>,
+    game: &GameInput,
+    merged: &Reduced,
 ) -> Written {
-    let merged = write(&game)?;
-    let (table, title) = (merged.table(), format!("{name} game"));
-    let (vertices, with_classes) = (&game.input.vertices, arguments.has("--with-classes"));
+    let (vertices, with_classes) = (game.vertices(), arguments.has("--with-classes"));
     let is_text = arguments.value("--as").map_or(!vertices.of_pgsolver(), |form| form == "text");
     if with_classes && !is_text {
         return Err(Failure::usage(
             "the classes are comments, for text alone; write --with-classes --as text, or see raskjomi merged",
         ));
     }
+    let classes: Vec<u32> = merged.classes.iter().map(|&class| class.into()).collect();
     if let Some(path) = arguments.value("--classes") {
-        let classes: Vec<u32> = merged.classes.iter().map(|&class| class.into()).collect();
         reduced::save_classes(path, &classes)?;
     }
+    if arguments.has("--json") {
+        return Ok(reduced_value::by_order(game, merged, &classes));
+    }
     if form == Form::Dot {
-        return Ok(picture::merged(name, &merged, vertices, &game.reduced()?).into());
+        return Ok(picture::merged(name, merged, vertices, &reduced_of(&game.game)).into());
     }
     let comments = text::class_comments(&merged.classes, vertices);
-    let vertices = &game.class_vertices(&merged.classes);
-    let output = Output { title, table, vertices };
+    let vertices = &vertices.of_classes(&merged.classes);
+    let output = Output { title: format!("{name} game"), game: &merged.game, vertices };
     let mut written = output.written(arguments.has("--as").then_some(form), arguments)?;
     if with_classes {
         written.extend(comments.bytes());
@@ -280,22 +284,20 @@ fn two_inputs(arguments: &Arguments) -> Result<(Input, Input), Failure> {
 
 /// `check-relation`.
 pub fn check_relation(arguments: &Arguments) -> Written {
-    judged(arguments, 0, raskjomi::accept_relation)
+    judged(arguments, 0, Game::accept_relation)
 }
 
 /// A relation on the game that is argument number `file`, judged. Like the library, it judges the marks of the game's pairs alone.
 fn judged(
     arguments: &Arguments,
     file: usize,
-    accept: fn(&[u16], &[u8]) -> Result<(), Refusal>,
+    accept: fn(&Game, &[u8]) -> Result<(), Refusal>,
 ) -> Written {
-    let game = Game::load(arguments.file(file)).map_err(Failure::with_verdict)?;
-    let relation = Input::read(arguments.file(file + 1), Unit::Mark(game.size.marks()))?;
+    let game = GameInput::load(arguments.file(file)).map_err(Failure::with_verdict)?;
+    let relation = Input::read(arguments.file(file + 1), Unit::Mark(game.game.size().marks()))?;
     tell_surplus(&relation, &game);
-    let watching = watch("the relation");
-    let verdict = accept(&game.input.numbers, &relation.packed(game.pairs()));
-    drop(watching);
-    match verdict {
+    let marks = relation.packed(game.pairs());
+    match watched("the relation", || accept(&game.game, &marks)) {
         Ok(()) if arguments.has("--json") => Ok("{\"accepted\":true}\n".into()),
         Ok(()) => Ok("accepted\n".into()),
         Err(refusal) => Err(relation_refused(refusal, &game, &relation).with_verdict()),
@@ -316,7 +318,7 @@ pub fn governed(arguments: &Arguments) -> Written {
         }
         "order" => marks(arguments, 1, Game::governed_order, text::GOVERNED),
         "classes" => class_list(arguments, 1, Game::governed_classes),
-        "check" => judged(arguments, 1, raskjomi::accept_governed),
+        "check" => judged(arguments, 1, Game::accept_governed),
         other => Err(Failure::usage(format!(
             "governed: no `{other}`; write governed order, governed classes or governed check"
         ))),
@@ -324,10 +326,10 @@ pub fn governed(arguments: &Arguments) -> Written {
 }
 
 /// A relation with more marks than the game has pairs may belong to another one.
-fn tell_surplus(relation: &Input, game: &Game) {
+fn tell_surplus(relation: &Input, game: &GameInput) {
     let (needed, what) = match relation.is_text() {
         true => (game.pairs(), "marks"),
-        false => (game.size.marks(), "bytes"),
+        false => (game.game.size().marks(), "bytes"),
     };
     let count = relation.numbers.len();
     if count > needed {
@@ -340,8 +342,7 @@ fn tell_surplus(relation: &Input, game: &Game) {
 pub fn check_plan(arguments: &Arguments) -> Written {
     let player = arguments.player()?;
     let (game, plan) = two_inputs(arguments)?;
-    let _watch = watch("the plan");
-    match raskjomi::accept_plan(&game.numbers, player, &plan.numbers) {
+    match watched("the plan", || raskjomi::accept_plan(&game.numbers, player, &plan.numbers)) {
         Ok(()) if arguments.has("--json") => Ok("{\"accepted\":true}\n".into()),
         Ok(()) => Ok("accepted\n".into()),
         Err(refusal) => Err(plan_refused(refusal, &game, &plan).with_verdict()),
@@ -354,22 +355,23 @@ pub fn carry(arguments: &Arguments) -> Written {
     let as_words = as_words(arguments, "carry")?;
     let (game, plan) = two_inputs(arguments)?;
     let vertex = vertex_given(arguments, &game.vertices, "the plan is to start at")?;
-    let game = Game::of(game)?;
+    let game = GameInput::of(game)?;
     let vertex = game.vertex(&vertex, "--vertex")? as u32;
     let class = arguments.has("--class");
     let write = if class { Game::carry_class } else { Game::carry };
-    let words = write(&game, player, &plan.numbers, vertex)
+    let carry = || write(&game.game, player, &plan_of(&plan), vertex);
+    let carried = watched("the carried plan", carry)
         .map_err(|refusal| carry_refused(refusal, &game, &plan, vertex, class))?;
     if as_words {
-        return Ok(text::bytes(&words));
+        return Ok(to_bytes(carried.words()));
     }
-    let (winner, vertices) = (name_of(player), &game.input.vertices);
+    let vertices = game.vertices();
     let (vertex, start) = (vertices.label(vertex as usize), plan.numbers[2]);
     let origin =
         if class { format!("{start} of the reduced game") } else { vertices.label(start.into()) };
     let sentence =
-        format!("This plan wins for {winner} from vertex {vertex}, carried from vertex {origin}.");
-    Ok(text::plan(&sentence, &words, vertices).into())
+        format!("This plan wins for {player} from vertex {vertex}, carried from vertex {origin}.");
+    Ok(text::plan(&sentence, &carried, vertices).into())
 }
 
 /// `verdict`: in a sentence, what is confirmed of a player and a vertex, or what is left open.
@@ -377,37 +379,28 @@ pub fn verdict(arguments: &Arguments) -> Written {
     let player = arguments.player()?;
     let (game, plan) = two_inputs(arguments)?;
     let vertex = vertex_given(arguments, &game.vertices, "the verdict is about")?;
-    let game = Game::of(game).map_err(Failure::with_verdict)?;
+    let game = GameInput::of(game).map_err(Failure::with_verdict)?;
     let vertex = game.vertex(&vertex, "--vertex")? as u32;
-    let (verdict, classes) = game.verdict(vertex, player, &plan.numbers);
+    let judge = || game.game.verdict(vertex, player, &plan_of(&plan));
+    let verdict = watched("the verdict", judge);
     if let Verdict::Refused(refusal) = verdict {
         return Err(carry_refused(refusal, &game, &plan, vertex, true).with_verdict());
     }
     let (shown, v) = (matches!(verdict, Verdict::Wins(_)), vertex as usize);
-    let (name, start, class) = (name_of(player), plan.numbers[2], classes[v]);
+    let (name, start) = (player.to_string(), plan.numbers[2]);
+    let class = class_of_each(&game.game)[v];
     if arguments.has("--json") {
         let value = json::object([
             ("accepted", Value::Bool(true)),
             ("shown", Value::Bool(shown)),
-            ("player", Value::from(name)),
+            ("player", Value::Text(name)),
             ("at", vertex_value(&game, v, class)),
             ("plan_starts_at_class", Value::Number(start.into())),
         ]);
         return answer(shown, format!("{value}\n"));
     }
-    let v = game.input.vertices.label(v);
-    let passes = format!("the plan wins for {name} from class {start} of the reduced game");
-    let sentence = match shown {
-        true => format!(
-            "wins: {name} wins at vertex {v}, as {passes}, which is the class of vertex {v}.\n"
-        ),
-        false => format!(
-            "not shown: {passes}, but vertex {v} is in class {class}. This doesn't mean that {name} loses at \
-             vertex {v}, or that the other player wins there: a plan that starts at class {class} may \
-             still show either.\n"
-        ),
-    };
-    answer(shown, sentence)
+    let sentence = text::verdict(player, start, &game.vertices().label(v), class);
+    answer(shown, sentence + "\n")
 }
 
 /// What is said of what is shown, or isn't.
@@ -444,86 +437,6 @@ pub fn as_words(arguments: &Arguments, command: &str) -> Result<bool, Failure> {
     }
 }
 
-/// `edit`.
-pub fn edit(arguments: &Arguments) -> Written {
-    let form = form_given(arguments, "edit")?;
-    ends_given(arguments)?;
-    let game = Game::load_buffer(arguments.file(0))?;
-    let (edits, vertices) = (edits(arguments, &game)?, &game.input.vertices);
-    let preview = arguments.has("--preview");
-    let after = if preview { game.previewed(&edits) } else { game.edited(&edits) };
-    let after = after.map_err(|(i, refusal)| {
-        let (option, edge) = &arguments.repeated()[i];
-        edit_refused(refusal, &game, &format!("{option} {edge}"))
-    })?;
-    if preview {
-        return Ok(text::preview(&game.classes()?, &after.classes, vertices).into());
-    }
-    if arguments.has("--classes") {
-        return Ok(text::changes(&game.classes()?, &after.classes, vertices).into());
-    }
-    let (table, title) = (after.table(), format!("after {}", told(&edits)));
-    Output { title, table, vertices }.written(form, arguments)
-}
-
-/// The ends that `--add` and `--remove` name, as they are written.
-fn ends_given(arguments: &Arguments) -> Result<Vec<(&str, &str)>, Failure> {
-    let given = arguments.repeated();
-    if given.is_empty() {
-        return Err(Failure::usage("edit: no edit; write --add V:W or --remove V:W"));
-    }
-    let ends = given
-        .iter()
-        .map(|(option, edge)| edge.split_once(':').ok_or_else(|| no_edge(option, edge, "")));
-    ends.collect()
-}
-
-/// The edits, between vertices of the game; whether it can have them, the library judges.
-fn edits(arguments: &Arguments, game: &Game) -> Result<Vec<Edit>, Failure> {
-    let (vertices, count) = (&game.input.vertices, game.size.vertices);
-    let find = |word| vertices.find(word).filter(|&vertex| vertex < count).map(|v| v as u32);
-    let range = format!("; {}", vertices.range(count));
-    let edits = ends_given(arguments)?.into_iter().zip(arguments.repeated());
-    let edits = edits.map(|((source, target), (option, edge))| {
-        let ends = find(source).zip(find(target));
-        let (source, target) = ends.ok_or_else(|| {
-            let several = [source, target].into_iter().find_map(|end| vertices.ambiguous(end));
-            no_edge(option, edge, &several.map_or(range.clone(), |told| format!("; {told}")))
-        })?;
-        Ok(Edit { add: option == "--add", source, target })
-    });
-    edits.collect()
-}
-
-fn no_edge(option: &str, edge: &str, range: &str) -> Failure {
-    Failure::usage(format!(
-        "edit: {option}: no edge `{edge}`; write two vertices, as {option} 0:2{range}"
-    ))
-}
-
-/// `replay`.
-pub fn replay(arguments: &Arguments) -> Written {
-    let form = form_given(arguments, "replay")?;
-    let game = Game::load_buffer(arguments.file(0))?;
-    let trace = Input::read(arguments.file(1), Unit::Word)?;
-    let after = game
-        .replayed(&trace.numbers)
-        .map_err(|(done, refusal)| replay_refused(refusal, &game, &trace, done))?;
-    let vertices = &game.input.vertices;
-    if arguments.has("--classes") {
-        return Ok(text::changes(&game.classes()?, &after.classes, vertices).into());
-    }
-    let entries = trace.numbers[0];
-    let title = format!("after {entries} entries of a trace");
-    Output { title, table: after.table(), vertices }.written(form, arguments)
-}
-
-/// How many edges come and go.
-fn told(edits: &[Edit]) -> String {
-    let added = edits.iter().filter(|edit| edit.add).count();
-    format!("edits: {added} added, {} removed", edits.len() - added)
-}
-
 /// `seed`.
 pub fn seed(arguments: &Arguments) -> Written {
     let form = form_given(arguments, "seed")?;
@@ -534,13 +447,11 @@ pub fn seed(arguments: &Arguments) -> Written {
     }
     let numbers = seed_numbers(arguments)?;
     let [seed, n, degree, priorities] = numbers;
-    let mut words = vec![0; raskjomi::MOST_TABLE_WORDS];
-    raskjomi::seed(seed, n, degree, priorities, &mut words)
+    let game = Game::seed(seed, n, degree, priorities)
         .map_err(|refusal| seed_refused(refusal, numbers))?;
     let title =
         format!("game of seed {seed}: vertices {n}, degree {degree}, priorities {priorities}");
-    Output { title, table: Table::new(&words), vertices: &Vertices::default() }
-        .written(form, arguments)
+    Output { title, game: &game, vertices: &Vertices::default() }.written(form, arguments)
 }
 
 /// The seed, and the numbers of vertices, of edges out of each, and of priorities.
@@ -561,23 +472,22 @@ fn seed_numbers(arguments: &Arguments) -> Result<[u32; 4], Failure> {
 /// `convert`.
 pub fn convert(arguments: &Arguments) -> Written {
     let form = Some(form_given(arguments, "convert")?.unwrap_or(Form::Text));
-    let game = Game::load(arguments.file(0))?;
-    let (title, vertices) = ("converted".to_string(), &game.input.vertices);
+    let game = GameInput::load(arguments.file(0))?;
+    let (title, vertices) = ("converted".to_string(), game.vertices());
     if vertices.even().is_some() {
-        return Output { title, table: game.table(), vertices }.written(form, arguments);
+        return Output { title, game: &game.game, vertices }.written(form, arguments);
     }
-    let words = game.converted()?;
-    let table = Table::new(&words);
-    let even = u32::from(game.table().priorities()[0]) + u32::from(table.priorities()[0]);
+    let converted = game.game.convert().map_err(|refusal| game_refused(refusal, &game.input))?;
+    let even = u32::from(game.game.priority(0)) + u32::from(converted.priority(0));
     let title = format!("{title}: the lowest priority decides; a priority p was {even} - p before");
-    Output { title, table, vertices }.written(form, arguments)
+    Output { title, game: &converted, vertices }.written(form, arguments)
 }
 
 /// `pgsolver`.
 pub fn pgsolver(arguments: &Arguments) -> Written {
-    let game = Game::load(arguments.file(0))?;
-    let (title, vertices) = (game.input.name.clone(), &game.input.vertices);
-    Output { title, table: game.table(), vertices }.written(Some(Form::Pgsolver), arguments)
+    let game = GameInput::load(arguments.file(0))?;
+    let (title, vertices) = (game.input.name.clone(), game.vertices());
+    Output { title, game: &game.game, vertices }.written(Some(Form::Pgsolver), arguments)
 }
 
 /// `explain`.
@@ -601,15 +511,19 @@ pub fn explain(arguments: &Arguments) -> Written {
 
 /// `dot`.
 pub fn dot(arguments: &Arguments) -> Written {
-    let game = Game::load(arguments.file(0))?;
-    let (reduced, vertices) = (game.reduced()?, &game.input.vertices);
-    let text = if arguments.has("--reduced") {
-        picture::merged("reduced", &reduced, vertices, &reduced)
-    } else {
-        picture::game(&game.table(), vertices, &reduced.classes, Some(&Kept::new(&reduced)))
+    let game = GameInput::load(arguments.file(0))?;
+    let (reduced, vertices) = (reduced_of(&game.game), game.vertices());
+    let (classes, kept) = (&reduced.classes, Kept::new(&reduced));
+    let of_classes = arguments.has("--reduced");
+    let drawn = if of_classes { &reduced.game } else { &game.game };
+    let layout = arguments.has("--svg").then(|| Layout::of(drawn));
+    let text = match layout {
+        _ if of_classes => picture::merged("reduced", &reduced, vertices, &reduced),
+        Some(Layout::Forces) => picture::unframed(&game.game, vertices, classes, &kept),
+        _ => picture::game(&game.game, vertices, classes, Some(&kept)),
     };
-    if arguments.has("--svg") {
-        return picture::svg(text);
+    match layout {
+        Some(layout) => svg::drawn(text, layout),
+        None => Ok(text.into()),
     }
-    Ok(text.into())
 }

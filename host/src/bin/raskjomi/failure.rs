@@ -1,6 +1,6 @@
 //! How a command ends without success.
 
-use crate::json::{self, Value};
+use raskjomi::formats::json::{self, Value};
 use raskjomi::Refusal;
 
 /// What goes to standard output and standard error, and the exit status.
@@ -18,7 +18,7 @@ pub const STATUSES: [(u8, &str); 5] = [
     (1, "refused or wrong: the inputs are read, and one isn't what is asked of it"),
     (2, "bad usage, a file that can't be read or written, a bad word, a vertex that isn't there"),
     (3, "of the script ./raskjomi alone: the program can't be built"),
-    (4, "not shown: `verdict` leaves open who wins"),
+    (4, "not shown: `verdict` leaves open who wins, or `winners` at some vertex"),
 ];
 
 impl Failure {
@@ -42,6 +42,12 @@ impl Failure {
         Failure::told(output, String::new(), 4)
     }
 
+    /// The failure with a word on how its input is read.
+    pub fn because(mut self, why: &str) -> Failure {
+        self.message += why;
+        self
+    }
+
     /// Whether the output is an answer, with nothing wrong.
     pub fn is_answer(&self) -> bool {
         self.message.is_empty()
@@ -58,6 +64,12 @@ impl Failure {
         if let Some(verdict) = self.verdict() {
             self.output = verdict + "\n";
         }
+        self
+    }
+
+    /// The failure with nothing on standard output, for commands whose output is a whole file.
+    pub fn without_output(mut self) -> Failure {
+        self.output.clear();
         self
     }
 

@@ -1,14 +1,17 @@
 //! The commands about other tools' files.
 
-use crate::analysis::Game;
-use crate::arguments::{name_of, Arguments};
+use crate::arguments::Arguments;
 use crate::commands::{self, as_words, vertex_given, Written};
+use crate::game_input::GameInput;
 use crate::help::{Command, Opt};
-use crate::input::Input;
+use crate::input::{unreadable, Input};
 use crate::locate::made_plan_refused;
-use crate::progress::watch;
-use crate::solution::Solution;
+use crate::progress::watched;
 use crate::text;
+use crate::values::{self, pairs, Called, Fields};
+use raskjomi::formats::json::{self, Value};
+use raskjomi::formats::{to_bytes, Solution};
+use raskjomi::{Plan, Player};
 
 /// They come after the others in the help.
 pub const COMMANDS: [Command; 2] = [
@@ -27,7 +30,7 @@ Command {
 },
 Command {
     name: "plan",
-    usage: "plan GAME SOLUTION [--vertex V] [--as text|words]",
+    usage: "plan GAME SOLUTION [--vertex V] [--as text|words | --json]",
     summary: "a plan for the winner of a vertex, from a solver's solution, judged",
     details: "SOLUTION is a file as PGSolver and Oink write it: `paritysol N;`, which may be missing, then `id winner strategy;` \
               for each vertex, 0 for Even and 1 for Odd, with a strategy where the vertex is its \
@@ -39,6 +42,7 @@ Command {
     options: &[
         Opt { name: "--vertex", value: Some("a vertex") },
         Opt { name: "--as", value: Some("text or words") },
+        Opt { name: "--json", value: None },
     ],
     run: plan,
 }];
@@ -46,21 +50,37 @@ Command {
 /// `plan`.
 fn plan(arguments: &Arguments) -> Written {
     let as_words = as_words(arguments, "plan")?;
-    let game = Game::load(arguments.file(0))?;
-    let word = vertex_given(arguments, &game.input.vertices, "the plan is to start at")?;
+    let game = GameInput::load(arguments.file(0))?;
+    let word = vertex_given(arguments, game.vertices(), "the plan is to start at")?;
     let (name, text) = Input::solution(arguments.file(1))?;
     let vertex = game.vertex(&word, "--vertex")?;
-    let (table, vertices) = (game.table(), &game.input.vertices);
-    let (player, words) = Solution::parse(&name, &text)?.plan(&table, vertices, vertex)?;
-    let (winner, label) = (name_of(player), vertices.label(vertex));
-    let _watch = watch("the plan");
-    raskjomi::accept_plan(&game.input.numbers, player, &words).map_err(|refusal| {
+    let (vertices, label) = (game.vertices(), game.vertices().label(vertex));
+    let (winner, plan) = Solution::parse(&text)
+        .and_then(|solution| solution.plan(&game.game, vertices, vertex))
+        .map_err(|error| unreadable(&name, error))?;
+    watched("the plan", || game.game.accept_plan(winner, &plan)).map_err(|refusal| {
         let claim = format!("{name}: {winner} is said to win from vertex {label}");
-        made_plan_refused(refusal, &game, claim, &words)
+        made_plan_refused(refusal, &game, claim, &plan)
     })?;
     if as_words {
-        return Ok(text::bytes(&words));
+        return Ok(to_bytes(plan.words()));
     }
     let sentence = format!("This plan wins for {winner} from vertex {label}.");
-    Ok(text::plan(&sentence, &words, vertices).into())
+    if arguments.has("--json") {
+        return Ok(values::line(value(winner, vertices.fields_of(vertex), &plan, sentence)));
+    }
+    Ok(text::plan(&sentence, &plan, vertices).into())
+}
+
+/// A plan as a value: the vertex of each position, and the links between positions.
+fn value(winner: Player, at: Fields, plan: &Plan, sentence: String) -> Value {
+    let positions = plan.positions().iter().map(|&vertex| usize::from(vertex));
+    let links = plan.links().map(|(source, target)| (source.into(), target.into()));
+    json::object([
+        ("winner", Value::Text(winner.to_string())),
+        ("at", json::object(at)),
+        ("positions", json::list(positions)),
+        ("links", pairs(links)),
+        ("sentence", Value::Text(sentence)),
+    ])
 }

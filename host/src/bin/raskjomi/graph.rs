@@ -1,6 +1,6 @@
-//! A table's vertices with their successors, and the test of a pair.
+//! A game's vertices with their successors, and the test of a pair.
 
-use crate::table::Table;
+use raskjomi::{Game, Player};
 
 /// A game by its vertices.
 pub struct Graph {
@@ -27,15 +27,13 @@ pub enum Cause {
 }
 
 impl Graph {
-    pub fn new(table: &Table) -> Graph {
-        let mut successors = vec![Vec::new(); table.n()];
-        table
-            .edges()
-            .for_each(|(source, target)| successors[source as usize].push(target as usize));
+    pub fn new(game: &Game) -> Graph {
+        let mut successors = vec![Vec::new(); game.size().vertices];
+        game.edges().for_each(|(source, target)| successors[source].push(target));
         successors.iter_mut().for_each(|list| list.sort());
         Graph {
-            priorities: table.priorities().to_vec(),
-            evens: table.owners().iter().map(|&owner| owner == 0).collect(),
+            priorities: game.priorities().to_vec(),
+            evens: game.vertices().map(|vertex| game.owner(vertex) == Player::Even).collect(),
             successors,
         }
     }
@@ -85,6 +83,30 @@ impl Graph {
             Cause::Target(y) => of_v.iter().map(|&x| (x, y)).collect(),
             Cause::Both(x, y) => vec![(x, y)],
             Cause::Each => of_v.iter().flat_map(|&x| of_w.iter().map(move |&y| (x, y))).collect(),
+        }
+    }
+
+    /// The pairs of successors by which a pair passes the test under a relation.
+    pub fn matches(
+        &self,
+        v: usize,
+        w: usize,
+        related: impl Fn(usize, usize) -> bool,
+    ) -> Vec<(usize, usize)> {
+        let (of_v, of_w) = (&self.successors[v], &self.successors[w]);
+        let all = of_v.iter().flat_map(|&x| of_w.iter().map(move |&y| (x, y)));
+        let mut fit = all.filter(|&(x, y)| related(x, y));
+        match (self.evens[v], self.evens[w]) {
+            (true, true) => {
+                let best = |&x: &usize| Some((x, *of_w.iter().find(|&&y| related(x, y))?));
+                of_v.iter().filter_map(best).collect()
+            }
+            (false, false) => {
+                let best = |&y: &usize| Some((*of_v.iter().find(|&&x| related(x, y))?, y));
+                of_w.iter().filter_map(best).collect()
+            }
+            (true, false) => fit.collect(),
+            (false, true) => fit.next().into_iter().collect(),
         }
     }
 }

@@ -2,8 +2,10 @@
 
 use crate::arguments::Arguments;
 use crate::failure::{Failure, STATUSES};
-use crate::{check_reduction, check_solution, commands, files};
-use crate::{manual, options, questions, reduced, winners};
+use crate::{
+    batch, check_reduction, check_solution, commands, completions, dropped, files, reachable,
+};
+use crate::{edits, manual, options, page, questions, reduced, winners};
 use std::ops::RangeInclusive;
 
 /// An option, and what its value is called if it has one.
@@ -25,17 +27,21 @@ pub struct Command {
 }
 
 impl Opt {
+    /// A word for its value, if it has one.
+    pub fn word(&self) -> Option<&'static str> {
+        self.value.map(|_| match self.name {
+            "--as" => "FORM",
+            "--player" => "even|odd",
+            "--add" | "--remove" => "V:W",
+            "--pair" => "V,W",
+            "--vertex" | "--reachable" => "V",
+            _ => "FILE",
+        })
+    }
+
     /// The option with a word for its value.
     pub fn written(&self) -> String {
-        let word = match (self.name, self.value) {
-            (_, None) => return self.name.to_string(),
-            ("--as", _) => "FORM",
-            ("--player", _) => "even|odd",
-            ("--add" | "--remove", _) => "V:W",
-            ("--vertex", _) => "V",
-            _ => "FILE",
-        };
-        format!("{} {word}", self.name)
+        self.word().map_or(self.name.to_string(), |word| format!("{} {word}", self.name))
     }
 }
 
@@ -45,16 +51,30 @@ impl Command {
         self.usage.contains("GAME")
     }
 
+    /// Whether it writes over no file unless that is asked for.
+    pub fn keeps_files(&self) -> bool {
+        self.options.iter().any(|option| option.name == FORCE)
+    }
+
+    /// Whether it writes an output for each of its games, where these are several.
+    pub fn writes_each(&self) -> bool {
+        self.usage.contains("-o DIR")
+    }
+
     /// What holds for the games that it reads.
     fn of_games(&self) -> &'static [&'static str] {
         match self.name {
             "check-solution" | "check-reduction" | "winners" => &[check_solution::GAMES],
-            "reduce" | "merged" | "why" => &[reduced::LARGE, LIMITS, GIVEN],
+            "reduce" => &[batch::SEVERAL, reduced::LARGE, LIMITS, GIVEN],
+            "merged" | "dropped" | "why" => &[reduced::LARGE, LIMITS, GIVEN],
             _ if self.takes_game() => &[LIMITS, GIVEN],
             _ => &[],
         }
     }
 }
+
+/// The option by which a file that is there is written over.
+pub const FORCE: &str = "--force";
 
 /// The refusal numbers that `explain` knows.
 pub const NUMBERS: &str = "1 to 16, 21 to 24, 31 to 41, 81 to 89, 91, 92 and 94 to 106";
@@ -63,7 +83,7 @@ pub const NUMBERS: &str = "1 to 16, 21 to 24, 31 to 41, 81 to 89, 91, 92 and 94 
 pub const SEED_NUMBERS: [&str; 4] = ["SEED", "VERTICES", "DEGREE", "PRIORITIES"];
 
 /// The options that may be given several times; their sequence counts.
-pub const REPEATED: [&str; 2] = ["--add", "--remove"];
+pub const REPEATED: [&str; 3] = ["--add", "--remove", "--pair"];
 
 const AS: &[Opt] = &[Opt { name: "--as", value: Some("text, words or dot") }];
 const AS_OR_JSON: &[Opt] =
@@ -74,17 +94,20 @@ const OF_REDUCE: &[Opt] = &[
     Opt { name: "--classes", value: Some("a file") },
     Opt { name: "--large", value: None },
     Opt { name: "--then-order", value: None },
+    Opt { name: "--stats", value: None },
+    Opt { name: "--json", value: None },
 ];
 const AS_GAME: &[Opt] = &[Opt { name: "--as", value: Some("text, words, dot or pgsolver") }];
 
 /// What a newcomer has to know of every game.
 const LIMITS: &str =
-    "A game has at most 512 vertices and 4,096 edges, but for `check-solution`, `check-reduction`, `winners`, `reduce`, `merged` and `why`, which \
-     take any size. The lowest priority seen for ever decides, and even favours Even; a game of a tool that says the highest goes through \
+    "A game has at most 512 vertices and 4,096 edges, but for `check-solution`, `check-reduction`, `winners`, `reduce`, `merged`, `dropped` \
+     and `why`, which take any size. The lowest priority seen for ever decides, and even favours Even; a game of a tool that says the highest goes through \
      `convert` first.";
 
 /// Where the help of a command that takes a game says how it is given.
-const GIVEN: &str = "`raskjomi --help` says how a game is given, and what its words are.";
+const GIVEN: &str =
+    "`raskjomi --help` says how a game is given, what its words are, and what --reachable does.";
 
 /// How games are given, for every command that takes one.
 const GAMES: &str = "A game comes from a file, or from standard input, whose name is -; where the \
@@ -102,12 +125,13 @@ const GAMES: &str = "A game comes from a file, or from standard input, whose nam
 /// How options are written.
 const OPTIONS: &str =
     "Options and files may stand in any sequence, a value after a blank or after =; after \
-                       -- all words are files. Options between bars in a usage exclude each other. `raskjomi --version` tells the version.";
+                       -- all words are files. Options between bars in a usage exclude each other. `raskjomi --version` tells the version, and the \
+                       fingerprint of the proved archives.";
 
 /// Where to read on, and why a run can take long.
 const MORE: &str =
     "docs/CONTRACT.md has the definitions, the formats and every refusal; docs/WORKFLOW.md shows the way \
-     from a model through a solver to a plan. ./raskjomi proves and builds what has changed; all of it \
+     from a model through a solver to a plan; docs/JSON.md has each answer as JSON. ./raskjomi proves and builds what has changed; all of it \
      takes about 5 minutes on two idle cores.";
 
 /// The output of the commands that write a game.
@@ -174,13 +198,13 @@ pub const COMMANDS: [Command; 16] = [
     },
     Command {
         name: "reduce",
-        usage: "reduce [GAME] [--as text|words|dot|pgsolver] [--with-classes] [--classes FILE] [--large] [--then-order]",
+        usage: "reduce [GAME ..] [-o DIR] [--as text|words|dot|pgsolver | --json] [--with-classes | --json] [--classes FILE] [--large] [--then-order] [--stats]",
         summary: "the reduced game: the quotient without edges that its players have no use for",
         details: TABLES,
         example: "./raskjomi reduce games/lift-doors.txt",
-        files: 0..=1,
+        files: 0..=usize::MAX,
         options: OF_REDUCE,
-        run: commands::reduce,
+        run: batch::reduce,
     },
     Command {
         name: "check-relation",
@@ -279,28 +303,30 @@ pub const COMMANDS: [Command; 16] = [
             Opt { name: "--classes", value: None },
             Opt { name: "--as", value: Some("text, words or pgsolver") },
         ],
-        run: commands::edit,
+        run: edits::edit,
     },
     Command {
         name: "replay",
-        usage: "replay GAME TRACE [--classes | --as text|words|pgsolver]",
+        usage: "replay GAME TRACE [--names] [--classes | --as text|words|pgsolver]",
         summary: "the game after a recorded list of edits, or what that does to its classes",
         details: "A trace has its count, at most 4,096, then as many sources, then as many targets. Its \
                   entries are done in sequence: an edge that the game doesn't have is added behind \
                   the others, and one that it has is removed with every copy. Where an entry is \
                   refused, nothing is written, and the message tells how many were done before it. \
-                  The words of a trace are numbers of vertices, from 0 by ascending id, and no ids or names \
-                  of a file in PGSolver's format; `edit` takes those. GAME may have zeros behind its table, \
+                  The words of a trace are numbers of vertices, from 0 by ascending id. With --names, those behind \
+                  the count are ids or names of a file in PGSolver's format, as `why` and `edit` take them: such a \
+                  trace is text, and a name with blanks, slashes or # stands in quotation marks. GAME may have zeros behind its table, \
                   as for `edit`. The output is a game table, which every command reads; with --classes, it is the \
                   number of classes before and after, and each vertex that then shares its class with \
                   others than before.",
         example: "./raskjomi replay games/d.txt games/d.trace.txt --classes",
         files: 2..=2,
         options: &[
+            Opt { name: "--names", value: None },
             Opt { name: "--classes", value: None },
             Opt { name: "--as", value: Some("text, words or pgsolver") },
         ],
-        run: commands::replay,
+        run: edits::replay,
     },
     Command {
         name: "governed",
@@ -370,7 +396,9 @@ pub const COMMANDS: [Command; 16] = [
         details:
             "Even's vertices are diamonds, Odd's are boxes. A class of several members has a light colour, \
                   the same in both pictures. An edge that the reduced game drops is dashed. An edge that \
-                  the table has several times is one arrow.",
+                  the table has several times is one arrow. With --svg, a picture of more than 200 edges is laid out by \
+                  forces between its vertices (Graphviz's sfdp), which takes seconds where ranks take minutes; the \
+                  members of a class then have its colour and number, and no frame.",
         example: "./raskjomi dot games/d.txt | dot -Tsvg > d.svg",
         files: 0..=1,
         options: &[Opt { name: "--reduced", value: None }, Opt { name: "--svg", value: None }],
@@ -382,12 +410,20 @@ pub const COMMANDS: [Command; 16] = [
 pub fn commands() -> impl Iterator<Item = &'static Command> {
     let of_files = files::COMMANDS.iter().chain(&check_solution::COMMANDS);
     let of_files = of_files.chain(&check_reduction::COMMANDS).chain(&winners::COMMANDS);
-    COMMANDS.iter().chain(&questions::COMMANDS).chain(of_files).chain(&manual::COMMANDS)
+    let of_files = of_files.chain(&page::COMMANDS);
+    let of_games = COMMANDS.iter().chain(&questions::COMMANDS).chain(&dropped::COMMANDS);
+    let of_shells = manual::COMMANDS.iter().chain(&completions::COMMANDS);
+    of_games.chain(of_files).chain(of_shells)
 }
 
-/// The program's version.
+/// The program's version, and which archives it has: the SHA-256 of their bytes, and where they come from.
 pub fn version() -> String {
-    format!("raskjomi {}\n", env!("CARGO_PKG_VERSION"))
+    let origin = match env!("RASKJOMI_ORIGIN") {
+        "given" => "given to the build, which proved nothing",
+        _ => "proved from their sources by the build",
+    };
+    let (version, fingerprint) = (env!("CARGO_PKG_VERSION"), env!("RASKJOMI_FINGERPRINT"));
+    format!("raskjomi {version}\narchives {fingerprint}, {origin}\n")
 }
 
 /// The help of the whole program.
@@ -403,12 +439,14 @@ pub fn overview() -> String {
     for (status, meaning) in STATUSES {
         text += &format!("{status}  {meaning}\n");
     }
-    [GAMES, OPTIONS, MORE].iter().fold(text, |text, part| text + "\n" + &wrapped(part))
+    [GAMES, reachable::REACHABLE, OPTIONS, MORE]
+        .iter()
+        .fold(text, |text, part| text + "\n" + &wrapped(part))
 }
 
 /// What holds for all commands, for the man page.
-pub fn paragraphs() -> [&'static str; 5] {
-    [LIMITS, GAMES, reduced::LARGE, OPTIONS, MORE]
+pub fn paragraphs() -> [&'static str; 6] {
+    [LIMITS, GAMES, reachable::REACHABLE, reduced::LARGE, OPTIONS, MORE]
 }
 
 /// The help of one command.

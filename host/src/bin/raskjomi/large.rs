@@ -1,13 +1,13 @@
 //! Games of any size and solutions, as their files give them, and what is wrong with them.
 
 use crate::failure::Failure;
-use crate::input::number;
-use crate::json::{self, Value};
 use crate::progress::watch;
-use crate::source::{Encoding, Source};
+use crate::source::Source;
 use crate::tell;
-use crate::vertices::several;
-use raskjomi::large::{read_game, read_solution, FileForm, GameFile, Identifiers};
+use crate::values::{Called, Fields};
+use raskjomi::formats::json::{self, Value};
+use raskjomi::large::{read_game, read_partial_solution, read_solution};
+use raskjomi::large::{FileError, FileForm, GameFile, Identifiers};
 use raskjomi::{Flaw, LargeGame, LargeSolution, Refusal};
 use std::io::Read;
 
@@ -34,17 +34,10 @@ pub fn opened(source: Source) -> Result<Box<dyn Read>, Failure> {
     source.open().map_err(|error| source.unreadable(&error))
 }
 
-pub fn form(source: Source) -> Option<FileForm> {
-    source.form.map(|form| match form {
-        Encoding::Text => FileForm::Text,
-        Encoding::Binary => FileForm::Binary,
-    })
-}
-
 /// Reads the file of a game, whose words nobody has judged.
 pub fn file(source: Source, input: impl Read) -> Result<GameFile, Failure> {
     let _watch = watch("the game's file");
-    read_game(input, form(source), source.lowest)
+    read_game(input, source.form, source.lowest)
         .map_err(|error| Failure::usage(format!("{}: {error}", source.name())))
 }
 
@@ -54,9 +47,24 @@ impl Loaded {
         Loaded::read(source, opened(source)?)
     }
 
-    /// Reads a game from what comes of a source.
+    /// Reads a game from what comes of a source, or takes the part of it that is asked for.
     pub fn read(source: Source, input: impl Read) -> Result<Loaded, Failure> {
-        Loaded::of(source.name(), file(source, input)?)
+        Loaded::taken(source, file(source, input)?)
+    }
+
+    /// Reads a game once more, of which nothing is told again.
+    pub fn read_again(source: Source, input: impl Read) -> Result<Loaded, Failure> {
+        let mut read = file(source, input)?;
+        read.repeats = None;
+        Loaded::taken(source, read)
+    }
+
+    fn taken(source: Source, read: GameFile) -> Result<Loaded, Failure> {
+        let whole = Loaded::of(source.name(), read)?;
+        match source.reachable {
+            Some(word) => whole.part(word),
+            None => Ok(whole),
+        }
     }
 
     /// The game of a file that was read.
@@ -76,18 +84,8 @@ impl Loaded {
 
     /// The vertex that a word means: an id, or a name that one vertex alone has.
     pub fn vertex(&self, word: &str, option: &str) -> Result<u32, Failure> {
-        let name = word.strip_prefix('"').and_then(|word| word.strip_suffix('"')).unwrap_or(word);
-        let found = match number(word, u32::MAX) {
-            Some(id) => self.vertices.vertex(id),
-            None => self.vertices.named(name),
-        };
-        found.ok_or_else(|| {
-            let all = 0..self.game.size().vertices as u32;
-            let called = |&vertex: &u32| self.vertices.name(vertex).as_deref() == Some(name);
-            let ids: Vec<u32> =
-                all.filter(called).map(|vertex| self.vertices.id(vertex)).collect();
-            if ids.len() > 1 {
-                let several = several(word, &ids);
+        self.vertices.find(word).ok_or_else(|| {
+            if let Some(several) = self.vertices.ambiguous(word) {
                 return Failure::usage(format!("{several}; write {option} with one of these ids"));
             }
             let last = self.game.size().vertices as u32 - 1;
@@ -99,12 +97,8 @@ impl Loaded {
     }
 
     /// What a vertex is called, for a value.
-    pub fn vertex_fields(&self, vertex: u32) -> Vec<(&'static str, Value)> {
-        vec![
-            ("vertex", Value::from(vertex as usize)),
-            ("id", Value::Number(self.vertices.id(vertex).into())),
-            ("name", self.vertices.name(vertex).map_or(Value::Null, |name| Value::from(&*name))),
-        ]
+    pub fn vertex_fields(&self, vertex: u32) -> Fields {
+        self.fields_of(vertex as usize)
     }
 
     /// A priority as the file has it.
@@ -119,19 +113,33 @@ impl Loaded {
     }
 }
 
+/// A call that reads the words of a solution of a game.
+type ReadSolution =
+    fn(Box<dyn Read>, Option<FileForm>, &[u32], &Identifiers) -> Result<Vec<u32>, FileError>;
+
 impl Solved {
     /// Reads a solution of a game.
     pub fn load(of: Loaded, source: Source) -> Result<Solved, Failure> {
+        Solved::read(of, source, read_solution)
+    }
+
+    /// Reads a solution of a game that may name no winner at some vertices.
+    pub fn load_partial(of: Loaded, source: Source) -> Result<Solved, Failure> {
+        Solved::read(of, source, read_partial_solution)
+    }
+
+    fn read(of: Loaded, source: Source, read: ReadSolution) -> Result<Solved, Failure> {
         let name = source.name();
         let _watch = watch("the solution's file");
-        let words = read_solution(opened(source)?, form(source), of.game.words(), &of.vertices)
+        let words = read(opened(source)?, source.form, of.game.words(), &of.vertices)
             .map_err(|error| Failure::usage(format!("{name}: {error}")))?;
         Ok(Solved { of, name, solution: LargeSolution::from_words(words) })
     }
 
-    /// The winner at each vertex, 0 for Even and 1 for Odd.
+    /// The winner at each vertex, 0 for Even and 1 for Odd. Words that nobody has judged may be too few.
     pub fn winners(&self) -> &[u32] {
-        &self.solution.words()[..self.of.game.size().vertices]
+        let words = self.solution.words();
+        &words[..self.of.game.size().vertices.min(words.len())]
     }
 }
 

@@ -1,40 +1,30 @@
 //! Where in the user's files a refusal points.
 
-use crate::analysis::{Game, Merged};
 use crate::causes;
 use crate::check_solution::LARGER;
 use crate::failure::Failure;
+use crate::game_input::GameInput;
 use crate::input::Input;
-use crate::table::Table;
-use crate::vertices::Vertices;
-use raskjomi::{Kind, Refusal};
+use raskjomi::formats::Refused;
+use raskjomi::formats::Vertices;
+use raskjomi::{Game, Kind, Plan, Refusal};
 
-/// A refusal of the game, told with its place in the game's file.
+/// A refusal of a game, told with its place in the game's file.
+pub fn refused(name: &str, told: Refused) -> Failure {
+    Failure::refused(told.refusal, format!("{name}: {told}"))
+}
+
+/// A refusal of the game, with what the command line can do besides.
 pub fn game_refused(refusal: Refusal, game: &Input) -> Failure {
-    let place = refusal.place;
-    let number = |index: usize| game.numbers[index] as usize;
-    let (index, detail) = match refusal.number {
-        2 => (place, format!("n is {}", number(0))),
-        3 => (place, format!("m is {}", number(1))),
-        4 => {
-            let (n, m) = (number(0), number(1));
-            (place, format!("n is {n} and m is {m}, so {} words", 2 + 2 * n + 2 * m))
-        }
-        5 => (place, format!("owner {}", number(place))),
-        6 => (place, format!("vertex {}", number(place))),
-        8 => (2 + place, format!("vertex {}", game.vertices.label(place))),
-        36 => (place, format!("vertex {}", game.vertices.label(place - 2))),
-        _ => (place, String::new()),
-    };
-    let mut failure = tell(refusal, game.at(index, &detail));
-    if refusal.number == 3 || (refusal.number == 2 && number(0) > 0) {
+    let mut failure = refused(&game.name, game.refused(refusal));
+    if refusal.number == 3 || (refusal.number == 2 && game.numbers[0] > 0) {
         failure.message += &format!("; {LARGER}");
     }
     failure
 }
 
 /// A refusal of a relation on a game that is accepted.
-pub fn relation_refused(refusal: Refusal, game: &Game, relation: &Input) -> Failure {
+pub fn relation_refused(refusal: Refusal, game: &GameInput, relation: &Input) -> Failure {
     let (place, text) = (refusal.place, relation.is_text());
     let (index, detail) = match refusal.number {
         10 => return pair_refused(refusal, game, relation),
@@ -47,15 +37,15 @@ pub fn relation_refused(refusal: Refusal, game: &Game, relation: &Input) -> Fail
 }
 
 /// A marked pair that fails, told with the failing successor.
-fn pair_refused(refusal: Refusal, game: &Game, relation: &Input) -> Failure {
-    let (place, n, vertices) = (refusal.place, game.size.vertices, &game.input.vertices);
+fn pair_refused(refusal: Refusal, game: &GameInput, relation: &Input) -> Failure {
+    let (place, n, vertices) = (refusal.place, game.game.size().vertices, game.vertices());
     let (v, w) = (place / n, place % n);
     let pair = format!("pair {}, {}", vertices.label(v), vertices.label(w));
     let (index, detail) = match relation.is_text() {
         true => (place, pair),
         false => (place / 8, format!("{pair}, bit {} from 0", place % 8)),
     };
-    let cause = causes::of_pair(&game.table(), vertices, &relation.packed(game.pairs()), v, w);
+    let cause = causes::of_pair(&game.game, vertices, &relation.packed(game.pairs()), v, w);
     tell_cause(refusal, relation.at(index, &detail), &cause)
 }
 
@@ -64,29 +54,37 @@ pub fn plan_refused(refusal: Refusal, game: &Input, plan: &Input) -> Failure {
     if refusal.kind() == Kind::Game {
         return game_refused(refusal, game);
     }
-    let place = place_in_plan(refusal, plan, &game.vertices);
-    tell_cause(
-        refusal,
-        place,
-        &cause_in_plan(refusal, &game.numbers, &game.vertices, &plan.numbers),
-    )
+    let (vertices, place) = (&game.vertices, place_in_plan(refusal, plan, &game.vertices));
+    let cause = Game::new(game.numbers.clone())
+        .map(|game| cause_in_plan(refusal, &game, vertices, &plan_of(plan)));
+    tell_cause(refusal, place, &cause.unwrap_or_default())
 }
 
 /// A refusal of a plan that was made from something, told with what it was to show.
-pub fn made_plan_refused(refusal: Refusal, game: &Game, claim: String, words: &[u16]) -> Failure {
-    let vertices = &game.input.vertices;
-    let vertex = vertices.label(words[2 + refusal.place].into());
-    let cause = cause_in_plan(refusal, &game.input.numbers, vertices, words);
+pub fn made_plan_refused(
+    refusal: Refusal,
+    game: &GameInput,
+    claim: String,
+    plan: &Plan,
+) -> Failure {
+    let vertices = game.vertices();
+    let vertex = vertices.label(plan.positions()[refusal.place].into());
+    let cause = cause_in_plan(refusal, &game.game, vertices, plan);
     tell_cause(refusal, format!("{claim}, but vertex {vertex} shows that the plan fails"), &cause)
 }
 
 /// The missing link or the walk that a refusal of a plan is about, in words.
-fn cause_in_plan(refusal: Refusal, game: &[u16], vertices: &Vertices, plan: &[u16]) -> String {
+fn cause_in_plan(refusal: Refusal, game: &Game, vertices: &Vertices, plan: &Plan) -> String {
     match refusal.number {
-        15 => causes::of_missing(&Table::new(game), vertices, plan, refusal.place),
-        16 => causes::of_walk(&Table::new(game), vertices, plan, refusal.place),
+        15 => causes::of_missing(game, vertices, plan, refusal.place),
+        16 => causes::of_walk(game, vertices, plan, refusal.place),
         _ => String::new(),
     }
+}
+
+/// The plan of an input.
+pub fn plan_of(input: &Input) -> Plan {
+    Plan::from_words(input.numbers.clone())
 }
 
 /// Where in its file a refusal of a plan points.
@@ -117,15 +115,15 @@ fn place_in_plan(refusal: Refusal, plan: &Input, vertices: &Vertices) -> String 
 /// the reduced game.
 pub fn carry_refused(
     refusal: Refusal,
-    game: &Game,
+    game: &GameInput,
     plan: &Input,
     vertex: u32,
     class: bool,
 ) -> Failure {
     let of = if class { " of the reduced game" } else { "" };
-    let vertices = &game.input.vertices;
-    let reduced = class.then(|| game.reduced().ok()).flatten();
-    let classes = reduced.as_ref().map(|reduced| game.class_vertices(&reduced.classes));
+    let vertices = game.vertices();
+    let reduced = class.then(|| game.game.reduce());
+    let classes = reduced.as_ref().map(|reduced| vertices.of_classes(&reduced.classes));
     let of_plan = classes.as_ref().unwrap_or(vertices);
     let place = match refusal.number {
         33 => {
@@ -138,18 +136,18 @@ pub fn carry_refused(
         _ if class => format!("{}, on the reduced game", place_in_plan(refusal, plan, of_plan)),
         _ => place_in_plan(refusal, plan, of_plan),
     };
-    let table = reduced.as_ref().map_or(game.table(), Merged::table);
-    tell_cause(refusal, place, &cause_in_plan(refusal, table.words(), of_plan, &plan.numbers))
+    let game = reduced.as_ref().map_or(&game.game, |reduced| &reduced.game);
+    tell_cause(refusal, place, &cause_in_plan(refusal, game, of_plan, &plan_of(plan)))
 }
 
 /// A refusal of an edit, told with the option that asked for it.
-pub fn edit_refused(refusal: Refusal, game: &Game, edit: &str) -> Failure {
-    let range = game.input.vertices.range(game.size.vertices);
+pub fn edit_refused(refusal: Refusal, game: &GameInput, edit: &str) -> Failure {
+    let range = game.vertices().range(game.game.size().vertices);
     tell(refusal, format!("{}: {edit} ({range})", game.input.name))
 }
 
 /// A refusal of a trace, told with its words, or with the entry that it ends at and the entries done.
-pub fn replay_refused(refusal: Refusal, game: &Game, trace: &Input, done: usize) -> Failure {
+pub fn replay_refused(refusal: Refusal, game: &GameInput, trace: &Input, done: usize) -> Failure {
     if refusal.number == 40 {
         let words = trace.numbers.len();
         let detail = match trace.numbers.first() {
@@ -159,9 +157,15 @@ pub fn replay_refused(refusal: Refusal, game: &Game, trace: &Input, done: usize)
         return tell(refusal, trace.at(0, &detail));
     }
     let count = trace.numbers[0] as usize;
-    let ends = [1 + done, 1 + count + done].map(|word| trace.numbers[word]);
-    let [source, target] = ends;
-    let last = game.size.vertices - 1;
+    let (vertices, last) = (game.vertices(), game.game.size().vertices - 1);
+    let [source, target] = [1 + done, 1 + count + done].map(|word| {
+        let vertex = usize::from(trace.numbers[word]);
+        if vertex > last {
+            vertex.to_string()
+        } else {
+            vertices.label(vertex)
+        }
+    });
     let detail = format!(
         "entry {done} from 0, edge {source} to {target}; the vertices of {} are 0 to {last}; {done} of {count} \
          entries done",

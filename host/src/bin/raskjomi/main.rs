@@ -1,37 +1,46 @@
 //! The command line over the library.
 #![forbid(unsafe_code)]
 
-mod analysis;
+mod answers;
 mod any_size;
 mod arguments;
+mod batch;
 mod causes;
 mod check_reduction;
 mod check_solution;
 mod commands;
-mod dot;
+mod completions;
+mod dropped;
+mod edits;
 mod failure;
 mod files;
+mod game_input;
 mod graph;
 mod help;
 mod input;
-mod json;
 mod large;
 mod locate;
 mod manual;
+mod merged;
 mod options;
 mod output;
-mod pgsolver;
+mod page;
 mod progress;
 mod questions;
+mod reachable;
+mod reason;
 mod reduced;
-mod scanner;
-mod solution;
+mod reduced_value;
 mod source;
+mod stats;
 mod suggest;
-mod table;
+mod svg;
 mod text;
-mod vertices;
+mod trace;
+mod values;
+mod whole;
 mod why;
+mod why_command;
 mod why_large;
 mod winners;
 

@@ -3,10 +3,11 @@
 use crate::help::{Command, Opt};
 
 /// The options of every command that reads a game.
-const OF_GAMES: [Opt; 3] = [
+const OF_GAMES: [Opt; 4] = [
     Opt { name: "--lowest", value: None },
     Opt { name: "--text", value: None },
     Opt { name: "--binary", value: None },
+    Opt { name: "--reachable", value: Some("a vertex") },
 ];
 
 /// Those that exclude each other, as a usage has it.
@@ -31,6 +32,20 @@ pub fn apart(command: &Command) -> impl Iterator<Item = Vec<&'static str>> {
     })
 }
 
+/// The options that one of a command excludes.
+pub fn excluded(command: &Command, option: &str) -> Vec<&'static str> {
+    let groups = apart(command).filter(|group| group.contains(&option));
+    groups.flatten().filter(|name| *name != option).collect()
+}
+
+/// The words that may stand behind a word of the usage, the command or an option, where it lists them with bars.
+pub fn listed(command: &Command, word: &str) -> Vec<&'static str> {
+    let mut words = command.usage.split([' ', '[', ']']).filter(|word| !word.is_empty());
+    words.find(|other| *other == word);
+    let behind = words.next().filter(|behind| behind.contains('|')).unwrap_or_default();
+    behind.split('|').filter(|word| !word.is_empty()).collect()
+}
+
 /// What an option of a command is for.
 pub fn about(command: &str, option: &str) -> &'static str {
     match (command, option) {
@@ -43,6 +58,7 @@ pub fn about(command: &str, option: &str) -> &'static str {
         (_, "--certificate") => "check by the certificate in FILE, and make none",
         (_, "--save-certificate") => "write the certificate to FILE where all is right",
         ("reduce", "--classes") => "write the class of each vertex to FILE",
+        (_, "--both") => "whether W is below V as well, and what both mean",
         (_, "--large") => "merge by moves alone, as for games above the limits",
         (_, "--then-order") => "then merge by the order, where the result is within the limits",
         ("edit" | "replay", "--classes") => "what becomes of the classes, in place of the game",
@@ -50,12 +66,24 @@ pub fn about(command: &str, option: &str) -> &'static str {
         (_, "--as") => "the form of the output, one of those in the usage",
         ("verdict", "--player") => "who is to win, by a plan of the player's own",
         (_, "--player") => "whose plan it is",
+        (_, "--plan") => "a plan on the reduced game, to tell winners by",
+        (_, "--solution") => "a solution of the reduced game, to tell all winners by",
+        (_, "--pair") => "compare V and W, merged or not; may be given several times",
+        (_, "--force") => "write over the FILE of -o",
         (_, "--class") => "the plan is on the reduced game",
+        (_, "--names") => "the words of TRACE behind its count are ids or names of GAME's vertices",
         (_, "--add") => "add the edge from V to W; may be given several times",
         (_, "--remove") => "remove the edge from V to W; may be given several times",
         (_, "--preview") => "which vertices would part or merge, in place of the game",
         (_, "--reduced") => "the reduced game, in place of the game with its classes",
         (_, "--json") => "the output, and a refusal, as JSON in one line",
+        (_, "--reachable") => {
+            "take the part of the game that V reaches; its vertices keep their ids"
+        }
+        (_, "--stats") => "tell sizes, passes, times and memory on standard error",
+        ("reduce", "-o") => {
+            "write to FILE, which stays as it was where the command fails, or into the folder DIR; - is standard output"
+        }
         (_, "-o") => {
             "write to FILE, which stays as it was where the command fails; - is standard output"
         }

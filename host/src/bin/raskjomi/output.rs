@@ -1,17 +1,15 @@
-//! Tables in the form that is asked for.
+//! Games in the form that is asked for.
 
 use crate::arguments::{Arguments, Form};
 use crate::failure::Failure;
-use crate::pgsolver;
-use crate::table::Table;
-use crate::text;
-use crate::vertices::Vertices;
+use raskjomi::formats::{to_bytes, to_pgsolver, to_text, Vertices};
+use raskjomi::Game;
 
-/// A table to write.
+/// A game to write.
 pub struct Output<'a> {
     /// What it is, for a comment.
     pub title: String,
-    pub table: Table<'a>,
+    pub game: &'a Game,
     pub vertices: &'a Vertices,
 }
 
@@ -27,29 +25,18 @@ pub fn form_given(arguments: &Arguments, command: &str) -> Result<Option<Form>, 
 }
 
 impl Output<'_> {
-    /// The table in a form; where none is named, in the format that the game came in.
+    /// The game in a form; where none is named, in the format that the game came in.
     pub fn written(&self, form: Option<Form>, arguments: &Arguments) -> Result<Vec<u8>, Failure> {
         let came_in = if self.vertices.of_pgsolver() { Form::Pgsolver } else { Form::Text };
         match form.unwrap_or(came_in) {
-            Form::Words => Ok(text::bytes(self.table.words())),
+            Form::Words => Ok(to_bytes(self.game.words())),
             Form::Pgsolver => self.pgsolver(arguments.has("--lowest")),
-            _ => Ok(self.text().into()),
+            _ => Ok(to_text(self.game, self.vertices, &self.title).into()),
         }
-    }
-
-    /// Decimal text, with a comment for each vertex that has an id of its own or a name.
-    fn text(&self) -> String {
-        let mut title = self.title.clone();
-        if let Some(even) = self.vertices.even() {
-            title +=
-                &format!("; the lowest priority decides, and p stands for {even} - p of the file");
-        }
-        title += &self.vertices.comments(0..self.table.n());
-        text::table(&title, &self.table)
     }
 
     fn pgsolver(&self, lowest: bool) -> Result<Vec<u8>, Failure> {
-        let written = pgsolver::write(&self.table, self.vertices, lowest);
+        let written = to_pgsolver(self.game, self.vertices, lowest);
         written.map_err(|refusal| {
             let vertex = self.vertices.label(refusal.place - 2);
             let remedy = refusal.explanation().remedy;

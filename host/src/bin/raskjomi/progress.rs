@@ -13,6 +13,12 @@ pub struct Watch {
     thread: Option<(Sender<()>, JoinHandle<()>)>,
 }
 
+/// Watches a call while it is made.
+pub fn watched<T>(call: &'static str, make: impl FnOnce() -> T) -> T {
+    let _watch = watch(call);
+    make()
+}
+
 /// Watches a call.
 pub fn watch(call: &'static str) -> Watch {
     let thread = io::stderr().is_terminal().then(|| watching(call, SECOND, io::stderr()));

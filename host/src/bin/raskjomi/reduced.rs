@@ -7,7 +7,8 @@ use crate::large::Loaded;
 use crate::output::form_given;
 use crate::progress::watch;
 use crate::source::plain_error;
-use crate::{tell, text};
+use crate::stats::{Outcome, Sizes, Steps};
+use crate::{reduced_value, tell, text};
 use raskjomi::large::{write_game_as, Style};
 use raskjomi::{LargeGame, LargeReduction};
 use std::fs;
@@ -28,18 +29,26 @@ pub struct Reduced {
 impl Reduced {
     /// Reduces a game.
     pub fn make(of: Loaded) -> Result<Reduced, Failure> {
-        let reducing = watch("the reduction");
-        let reduction = of.game.reduce().map_err(|misfit| {
+        Reduced::timed(of, &mut Steps::default())
+    }
+
+    /// Reduces a game, and tells the steps apart.
+    fn timed(of: Loaded, steps: &mut Steps) -> Result<Reduced, Failure> {
+        let reduction = steps.time("reduce", || {
+            let _watch = watch("the reduction");
+            of.game.reduce()
+        });
+        let reduction = reduction.map_err(|misfit| {
             let number = |number: u32| number.to_string();
             let label = |vertex: u32| of.vertices.label(vertex);
             let told = misfit.told(label, number, |(p, q)| (of.priority(p), of.priority(q)));
             let message = format!("{}: {told}; {}", of.name, misfit.remedy());
             Failure::told(String::new(), message, 1)
         })?;
-        drop(reducing);
-        let checking = watch("the check");
-        let verdict = of.game.check_reduction(&reduction);
-        drop(checking);
+        let verdict = steps.time("check", || {
+            let _watch = watch("the check");
+            of.game.check_reduction(&reduction)
+        });
         verdict.map_err(|refusal| {
             let fault =
                 "nothing is written, and this program has a fault: please report it with the game";
@@ -71,8 +80,13 @@ pub fn classes_of(of: &Loaded, classes: &[u32], game: LargeGame) -> Loaded {
     }
 }
 
-/// `reduce` for a game that is handled as large ones are.
-pub fn reduce(arguments: &Arguments, of: Loaded) -> Written {
+/// `reduce` for a game that is handled as large ones are, of these sizes.
+pub fn reduce(
+    arguments: &Arguments,
+    of: Loaded,
+    before: Sizes,
+    mut steps: Steps,
+) -> Result<Outcome, Failure> {
     let form = form_given(arguments, "reduce")?;
     if arguments.has("--with-classes") {
         return Err(Failure::usage(format!(
@@ -80,22 +94,28 @@ pub fn reduce(arguments: &Arguments, of: Loaded) -> Written {
             of.name
         )));
     }
-    let Reduced { of, reduction } = Reduced::make(of)?;
-    let within = within_limits(reduction.reduced());
+    let Reduced { of, reduction } = Reduced::timed(of, &mut steps)?;
+    let within = reduction.reduced().within_limits();
     let told = told(&of, reduction.reduced(), within.is_some());
-    let by_order = within.filter(|_| arguments.has("--then-order")).map(|game| game.reduce());
+    let by_order = within.filter(|_| arguments.has("--then-order"));
+    let by_order = by_order.map(|game| steps.time("order", || game.reduce()));
     let (game, classes) = match &by_order {
         None => (reduction.reduced().clone(), reduction.classes().to_vec()),
-        Some(second) => chained(reduction.classes(), second)?,
+        Some(second) => chained(reduction.classes(), second),
     };
     if let Some(path) = arguments.value("--classes") {
         save_classes(path, &classes)?;
     }
-    let output = written(&classes_of(&of, &classes, game), form, arguments.has("--lowest"))?;
+    let after = Sizes { vertices: game.size().vertices, edges: game.size().edges };
+    let reduced = classes_of(&of, &classes, game);
+    let output = steps.time("format", || match arguments.has("--json") {
+        true => Ok(reduced_value::by_moves(&of, &reduced, &classes, by_order.is_some())),
+        false => written(&reduced, form, arguments.has("--lowest")),
+    })?;
     if by_order.is_none() {
         tell(&told);
     }
-    Ok(output)
+    Ok(Outcome { output, before, after, passes: None, steps })
 }
 
 /// What merging by moves has come to, and what the order of all pairs can do.
@@ -110,22 +130,10 @@ fn told(of: &Loaded, reduced: &LargeGame, within: bool) -> String {
     format!("{name}: {n} vertices merged by their moves into {k}, with {q} {edges}; {more}")
 }
 
-/// The game for the contract's own reducer, where it is within the limits.
-pub fn within_limits(game: &LargeGame) -> Option<raskjomi::Game> {
-    let words: Result<Vec<u16>, _> = game.words().iter().map(|&word| u16::try_from(word)).collect();
-    raskjomi::Game::new(words.ok()?).ok()
-}
-
 /// The game of a second reduction after a first one, and the classes of both in a row.
-pub fn chained(
-    classes: &[u32],
-    second: &raskjomi::Reduced,
-) -> Result<(LargeGame, Vec<u32>), Failure> {
-    let words = second.game.words().iter().map(|&word| word.into()).collect();
-    let game =
-        LargeGame::new(words).map_err(|refusal| Failure::refused(refusal, refusal.to_string()))?;
+pub fn chained(classes: &[u32], second: &raskjomi::Reduced) -> (LargeGame, Vec<u32>) {
     let classes = classes.iter().map(|&class| second.classes[class as usize].into()).collect();
-    Ok((game, classes))
+    (LargeGame::from(&second.game), classes)
 }
 
 /// Writes the class of each vertex to a file.
@@ -157,22 +165,7 @@ fn written(of: &Loaded, form: Option<Form>, lowest: bool) -> Written {
             for class in (0..words[0]).filter(|&class| of.vertices.name(class).is_some()) {
                 title += &format!("\n# vertex {class}: {}", of.vertices.label(class));
             }
-            Ok(text::large_table(&title, words).into())
+            Ok(format!("# {title}\n{}", of.game).into())
         }
     }
-}
-
-/// `merged` for a game that is handled as large ones are.
-pub fn merged(of: Loaded) -> Written {
-    let Reduced { of, reduction } = Reduced::make(of)?;
-    let members = reduction.members();
-    let mut text = String::new();
-    for (vertex, &class) in (0..).zip(reduction.classes()) {
-        let lowest = members.of(class)[0];
-        if lowest != vertex {
-            let [vertex, lowest] = [vertex, lowest].map(|vertex| of.vertices.label(vertex));
-            text += &text::merged(&vertex, class, &lowest);
-        }
-    }
-    Ok(if text.is_empty() { text::NONE_MERGED.into() } else { text.into() })
 }

@@ -2,6 +2,7 @@
 
 use crate::failure::Failure;
 use crate::tell;
+use raskjomi::large::FileForm;
 use std::ffi::OsStr;
 use std::fs::File;
 use std::io::{self, IsTerminal, Read};
@@ -14,14 +15,9 @@ pub struct Source<'a> {
     /// Whether the lowest priority decides in PGSolver's format, too.
     pub lowest: bool,
     /// What its bytes are, where somebody says it.
-    pub form: Option<Encoding>,
-}
-
-/// What the bytes of an input are.
-#[derive(Clone, Copy, Debug, PartialEq, Eq)]
-pub enum Encoding {
-    Text,
-    Binary,
+    pub form: Option<FileForm>,
+    /// The vertex that reaches the part of a game to take in its place.
+    pub reachable: Option<&'a str>,
 }
 
 impl Source<'_> {
@@ -35,6 +31,23 @@ impl Source<'_> {
         let name =
             if self.is_standard() { "standard input".into() } else { self.path.to_string_lossy() };
         name.replace(char::is_control, "?")
+    }
+
+    /// The words of a command line that name it, for a shell.
+    pub fn words(&self) -> String {
+        let form = match self.form {
+            Some(FileForm::Text) => " --text",
+            Some(FileForm::Binary) => " --binary",
+            None => "",
+        };
+        let lowest = if self.lowest { " --lowest" } else { "" };
+        let part = self.reachable.map(|vertex| format!(" --reachable {}", quoted(vertex)));
+        format!("{}{lowest}{form}{}", self.path_quoted(), part.unwrap_or_default())
+    }
+
+    /// Its path, for a shell.
+    pub fn path_quoted(&self) -> String {
+        quoted(&self.path.to_string_lossy())
     }
 
     /// Its bytes.
@@ -53,6 +66,15 @@ impl Source<'_> {
         let (name, error) = (self.name(), plain_error(error));
         let remedy = "name a file that can be read, or - for standard input";
         Failure::usage(format!("{name}: {error}; {remedy}"))
+    }
+}
+
+/// A word as a shell takes it.
+fn quoted(word: &str) -> String {
+    let plain = |c: char| c.is_alphanumeric() || "-_./,:+@%=".contains(c);
+    match !word.is_empty() && word.chars().all(plain) {
+        true => word.into(),
+        false => format!("'{}'", word.replace('\'', "'\\''")),
     }
 }
 

@@ -1,52 +1,13 @@
-//! Outputs as decimal text, which the commands read back, and as bytes.
+//! Outputs as decimal text, which the commands read back.
 
-use crate::analysis::{members, Order};
-use crate::table::Table;
-use crate::vertices::Vertices;
-use raskjomi::is_marked;
+use raskjomi::formats::{Part, Vertices};
+use raskjomi::{members, Order, Plan, Player};
 use std::collections::BTreeSet;
-use std::fmt::{Display, Write};
-
-/// Numbers in a line.
-const A_LINE: usize = 20;
-
-/// Numbers between blanks, in lines.
-fn lines<T: Display>(numbers: &[T], a_line: usize) -> String {
-    let line = |chunk: &[T]| {
-        let words: Vec<String> = chunk.iter().map(T::to_string).collect();
-        words.join(" ") + "\n"
-    };
-    numbers.chunks(a_line).map(line).collect()
-}
-
-/// A table, each part under a comment.
-pub fn table(title: &str, table: &Table) -> String {
-    let (sources, targets) = table.ends();
-    let parts = [&table.words()[..2], table.priorities(), table.owners(), sources, targets];
-    titled(title, &PARTS.iter().copied().zip(parts).collect::<Vec<_>>())
-}
-
-/// The parts of a table.
-const PARTS: [&str; 5] = [
-    "vertices, edges",
-    "priorities",
-    "owners: 0 Even, 1 Odd",
-    "sources of the edges",
-    "targets of the edges",
-];
-
-/// The table of a large game, each part under a comment.
-pub fn large_table(title: &str, words: &[u32]) -> String {
-    let (n, m) = (words[0] as usize, words[1] as usize);
-    let part = |from: usize, count: usize| &words[from..from + count];
-    let parts =
-        [part(0, 2), part(2, n), part(2 + n, n), part(2 + 2 * n, m), part(2 + 2 * n + m, m)];
-    titled(title, &PARTS.iter().copied().zip(parts).collect::<Vec<_>>())
-}
+use std::fmt::Write;
 
 /// The class of each vertex of a large game.
 pub fn class_list(classes: &[u32]) -> String {
-    titled("the class of each vertex", &[("from vertex 0 on", classes)])
+    format!("# the class of each vertex\n{}", Part("from vertex 0 on", classes))
 }
 
 /// A line for a vertex that another one represents.
@@ -57,36 +18,24 @@ pub fn merged(vertex: &str, class: u32, lowest: &str) -> String {
 /// What is said where no vertex is.
 pub const NONE_MERGED: &str = "no vertex is represented by another\n";
 
-/// Parts with their names, under a title.
-fn titled<T: Display>(title: &str, parts: &[(&str, &[T])]) -> String {
-    let mut text = format!("# {title}\n");
-    for (name, numbers) in parts {
-        write!(text, "# {name}\n{}", lines(numbers, A_LINE)).expect("a string takes all");
+/// The word for so many.
+pub fn plural(count: usize, one: &'static str, several: &'static str) -> &'static str {
+    if count == 1 {
+        one
+    } else {
+        several
     }
-    text
 }
 
-/// A plan under a sentence and what its vertices are called, each part under a comment.
-pub fn plan(sentence: &str, words: &[u16], names: &Vertices) -> String {
-    let (sizes, rest) = words.split_at(2);
-    let (vertices, links) = rest.split_at(sizes[0] as usize);
-    let all: BTreeSet<usize> = vertices.iter().map(|&vertex| vertex.into()).collect();
-    let sentence = format!("{sentence}{}", names.comments(all));
-    let (sources, targets) = links.split_at(sizes[1] as usize);
-    let parts = [
-        ("positions, links", sizes),
-        ("vertex of each position", vertices),
-        ("sources of the links", sources),
-        ("targets of the links", targets),
-    ];
-    titled(&sentence, &parts)
+/// A plan under a sentence and what its vertices are called.
+pub fn plan(sentence: &str, plan: &Plan, names: &Vertices) -> String {
+    let all: BTreeSet<usize> = plan.positions().iter().map(|&vertex| vertex.into()).collect();
+    format!("# {sentence}{}\n{plan}", names.comments(all))
 }
 
-/// The marks, a row for each vertex.
-pub fn marks(title: &str, Order { marks, passes }: &Order, n: usize) -> String {
-    let mark = |i: usize| is_marked(marks, n, i / n, i % n) as u8;
-    let marks: Vec<u8> = (0..n * n).map(mark).collect();
-    format!("# {title}; passes {passes}\n") + &lines(&marks, n)
+/// The marks under a title, a row for each vertex.
+pub fn marks(title: &str, order: &Order) -> String {
+    format!("# {title}; passes {}\n{order}", order.passes)
 }
 
 /// What a mark says: in the order, and in the largest governed bisimulation.
@@ -100,7 +49,7 @@ pub fn classes(classes: &[u16], vertices: &Vertices) -> String {
         writeln!(text, "# class {class}: {}", vertices.listed(members))
             .expect("a string takes all");
     }
-    text + "# the class of each vertex\n" + &lines(classes, A_LINE)
+    text + &Part("the class of each vertex", classes).to_string()
 }
 
 /// The class of each vertex, as comments.
@@ -166,7 +115,17 @@ fn grouped(vertices: &[usize], classes: &[u16]) -> Vec<Vec<usize>> {
     groups
 }
 
-/// Words as bytes, low byte first.
-pub fn bytes(words: &[u16]) -> Vec<u8> {
-    words.iter().flat_map(|word| word.to_le_bytes()).collect()
+/// What a player's plan that starts at a class of the reduced game shows of a vertex in a class.
+pub fn verdict(player: Player, start: u16, vertex: &str, class: u16) -> String {
+    let passes = format!("the plan wins for {player} from class {start} of the reduced game");
+    match start == class {
+        true => format!(
+            "wins: {player} wins at vertex {vertex}, as {passes}, which is the class of vertex {vertex}."
+        ),
+        false => format!(
+            "not shown: {passes}, but vertex {vertex} is in class {class}. This doesn't mean that {player} loses at \
+             vertex {vertex}, or that the other player wins there: a plan that starts at class {class} may \
+             still show either."
+        ),
+    }
 }

@@ -1,12 +1,14 @@
-//! Whether a vertex is below another and why, as sentences: the passes are worked out here again, and
-//! held to the marks and the pass count that the library gives.
+//! Whether a vertex is below another and why: the passes are worked out here again, and held to the marks
+//! and the pass count that the library gives.
 
-use crate::analysis::Order;
-use crate::graph::{Cause, Graph};
-use crate::vertices::Vertices;
-use raskjomi::is_marked;
+use crate::commands::order_of;
+use crate::failure::Failure;
+use crate::graph::Graph;
+use crate::progress::watch;
+use crate::reason::{Ground, Reason};
+use raskjomi::formats::Vertices;
+use raskjomi::{Game, Order};
 use std::collections::HashSet;
-use std::fmt::Write;
 
 /// The pass of a pair that no pass unmarks.
 const KEPT: u32 = u32::MAX;
@@ -55,20 +57,48 @@ impl Passes {
         }
     }
 
-    fn pass(&self, v: usize, w: usize) -> u32 {
-        self.fell[v * self.n + w]
+    /// The pass in which a pair falls, if it does.
+    pub fn pass(&self, v: usize, w: usize) -> Option<u32> {
+        Some(self.fell[v * self.n + w]).filter(|&pass| pass != KEPT)
     }
 
     /// Whether they are those of the order that the library wrote.
     pub fn agree(&self, order: &Order) -> bool {
         let pairs = (0..self.n).flat_map(|v| (0..self.n).map(move |w| (v, w)));
-        let mut pairs =
-            pairs.map(|(v, w)| (self.pass(v, w) == KEPT, is_marked(&order.marks, self.n, v, w)));
+        let mut pairs = pairs.map(|(v, w)| (self.pass(v, w).is_none(), order.has(v, w)));
         self.count == order.passes && pairs.all(|(kept, marked)| kept == marked)
     }
 }
 
-/// What is asked: the pair, in a game with its passes.
+/// A game's vertices with the passes over it, which are those of the proved order.
+pub struct Explained {
+    graph: Graph,
+    passes: Passes,
+}
+
+impl Explained {
+    /// Works the passes out, and holds them to the order.
+    pub fn new(game: &Game) -> Result<Explained, Failure> {
+        let (graph, order) = (Graph::new(game), order_of(game));
+        let _watch = watch("the explanation");
+        let passes = Passes::of(&graph);
+        match passes.agree(&order) {
+            true => Ok(Explained { graph, passes }),
+            false => Err(Failure::usage(
+                "the passes that are worked out here aren't those of the proved order, so nothing is \
+                 explained; the order stands, and this program has a fault: please report it with the game",
+            )),
+        }
+    }
+
+    /// What may be asked, of vertices that are called so.
+    pub fn question<'a>(&'a self, vertices: &'a Vertices) -> Question<'a> {
+        Question { graph: &self.graph, passes: &self.passes, vertices }
+    }
+}
+
+/// What is asked: a pair, in a game with its passes.
+#[derive(Clone, Copy)]
 pub struct Question<'a> {
     pub graph: &'a Graph,
     pub passes: &'a Passes,
@@ -76,106 +106,72 @@ pub struct Question<'a> {
 }
 
 impl Question<'_> {
-    /// Whether v is below w, and why.
-    pub fn answer(&self, v: usize, w: usize) -> String {
+    /// Whether v is below w.
+    pub fn is_below(&self, v: usize, w: usize) -> bool {
+        self.passes.pass(v, w).is_none()
+    }
+
+    /// A vertex's priority as the file has it.
+    pub fn priority(&self, vertex: usize) -> u32 {
+        self.vertices.priority(self.graph.priorities[vertex])
+    }
+
+    /// Why v is below w, or isn't.
+    pub fn reason(&self, v: usize, w: usize) -> Reason {
+        let Some(pass) = self.passes.pass(v, w) else {
+            let same = v == w;
+            let below = |x: usize, y: usize| self.is_below(x, y);
+            let rests_on = if same { Vec::new() } else { self.graph.matches(v, w, below) };
+            let ground = if same { Ground::Same } else { Ground::Matched };
+            return Reason { v, w, ground, rests_on };
+        };
+        let not_yet = |x: usize, y: usize| {
+            self.passes.pass(x, y).is_none_or(|earlier| earlier >= pass.max(1))
+        };
+        let cause = self.graph.cause(v, w, not_yet).expect("a pair that fell has a cause");
+        let rests_on = self.graph.unrelated(v, w, cause);
+        Reason { v, w, ground: Ground::Parted { pass, cause }, rests_on }
+    }
+
+    /// Why v is below w; or why it isn't, with the reason of each pair that this rests on, down to unequal priorities.
+    pub fn reasons(&self, v: usize, w: usize) -> Vec<Reason> {
+        let mut reasons = vec![self.reason(v, w)];
+        let (mut told, mut next) = (HashSet::from([(v, w)]), 0);
+        while !self.is_below(v, w) && next < reasons.len() {
+            let pairs = reasons[next].rests_on.iter().copied();
+            let open = pairs.filter(|&(x, y)| self.passes.pass(x, y) != Some(0));
+            let open: Vec<(usize, usize)> = open.filter(|&pair| told.insert(pair)).collect();
+            reasons.extend(open.into_iter().map(|(x, y)| self.reason(x, y)));
+            next += 1;
+        }
+        reasons
+    }
+
+    /// Whether a pair that a reason rests on is in the order, in words; where it isn't, with its pass or its priorities.
+    pub fn said(&self, x: usize, y: usize) -> String {
+        let [x_is, y_is] = [x, y].map(|vertex| self.vertices.label(vertex));
+        match self.passes.pass(x, y) {
+            None => format!("{x_is} is below {y_is}"),
+            Some(0) => {
+                let [p, q] = [x, y].map(|vertex| self.priority(vertex));
+                format!("{x_is} isn't below {y_is} (priorities {p} and {q})")
+            }
+            Some(pass) => format!("{x_is} isn't below {y_is} (pass {pass})"),
+        }
+    }
+
+    /// Whether v is below w, as a sentence.
+    pub fn claim(&self, v: usize, w: usize) -> String {
         let [v_is, w_is] = [v, w].map(|vertex| self.vertices.label(vertex));
-        if self.passes.pass(v, w) == KEPT {
-            let reason =
-                if v == w { "Every vertex is below itself.".into() } else { self.matched(v, w) };
-            return format!("Vertex {v_is} is below vertex {w_is}. {reason}\n");
-        }
-        let mut text = format!("Vertex {v_is} isn't below vertex {w_is}.\n");
-        let (mut told, mut next) = (HashSet::from([(v, w)]), vec![(v, w)]);
-        while !next.is_empty() {
-            let mut later = Vec::new();
-            for (v, w) in next {
-                let (sentence, needed) = self.fallen(v, w);
-                writeln!(text, "{sentence}").expect("a string takes all");
-                let open = needed.into_iter().filter(|&(x, y)| self.passes.pass(x, y) > 0);
-                later.extend(open.filter(|&pair| told.insert(pair)));
-            }
-            next = later;
-        }
-        text
+        let is = if self.is_below(v, w) { "is" } else { "isn't" };
+        format!("Vertex {v_is} {is} below vertex {w_is}.")
     }
 
-    /// Why a pair falls in its pass, and the pairs of successors that fell before it.
-    fn fallen(&self, v: usize, w: usize) -> (String, Vec<(usize, usize)>) {
-        let (graph, pass) = (self.graph, self.passes.pass(v, w));
-        let cause = graph.cause(v, w, |x, y| self.passes.pass(x, y) >= pass.max(1));
-        let cause = cause.expect("a pair that fell has a cause");
-        let needed = graph.unrelated(v, w, cause);
-        let label = |vertex: usize| self.vertices.label(vertex);
-        let [v_is, w_is] = [label(v), label(w)];
-        let not = self.not_below(&needed);
-        let reason = match cause {
-            Cause::Priorities => {
-                let [p, q] = [v, w].map(|vertex| self.vertices.priority(graph.priorities[vertex]));
-                return (format!("{v_is} has priority {p}, and {w_is} has priority {q}."), needed);
-            }
-            Cause::Source(x) => {
-                let x = label(x);
-                format!("Even may go from {v_is} to {x}, and from {w_is} nowhere as good: {not}")
-            }
-            Cause::Target(y) => {
-                let y = label(y);
-                format!(
-                    "Odd may go from {w_is} to {y}, and from {v_is} nowhere as good for Odd: {not}"
-                )
-            }
-            Cause::Both(x, y) => {
-                let [x, y] = [x, y].map(label);
-                format!("Even may go from {v_is} to {x}, and Odd from {w_is} to {y}: {not}")
-            }
-            Cause::Each => {
-                format!("wherever Odd goes from {v_is} and Even from {w_is}: {not}")
-            }
-        };
-        (format!("Pass {pass} parts {v_is} from {w_is}: {reason}."), needed)
-    }
-
-    /// Pairs that aren't in the order, each with its pass or its priorities.
-    fn not_below(&self, pairs: &[(usize, usize)]) -> String {
-        let told = |&(x, y): &(usize, usize)| {
-            let [p, q] = [x, y].map(|vertex| self.vertices.priority(self.graph.priorities[vertex]));
-            let why = match self.passes.pass(x, y) {
-                0 => format!("priorities {p} and {q}"),
-                pass => format!("pass {pass}"),
-            };
-            format!("{} isn't below {} ({why})", self.vertices.label(x), self.vertices.label(y))
-        };
-        pairs.iter().map(told).collect::<Vec<String>>().join(", ")
-    }
-
-    /// How the moves of a pair in the order are matched.
-    fn matched(&self, v: usize, w: usize) -> String {
-        let (of_v, of_w) = (&self.graph.successors[v], &self.graph.successors[w]);
-        let below = |x: usize, y: usize| self.passes.pass(x, y) == KEPT;
-        let pair = |x: usize, y: usize| {
-            format!("{} is below {}", self.vertices.label(x), self.vertices.label(y))
-        };
-        let found = "the pair is in the order";
-        let (moves, rule): (Vec<String>, &str) = match (self.graph.evens[v], self.graph.evens[w]) {
-            (true, true) => {
-                let best = |&x: &usize| *of_w.iter().find(|&&y| below(x, y)).expect(found);
-                let moves = of_v.iter().map(|x| pair(*x, best(x))).collect();
-                (moves, "Even has as good a move there for each one here")
-            }
-            (false, false) => {
-                let best = |&y: &usize| *of_v.iter().find(|&&x| below(x, y)).expect(found);
-                let moves = of_w.iter().map(|y| pair(best(y), *y)).collect();
-                (moves, "Odd has as good a move here for each one there")
-            }
-            (true, false) => {
-                let pairs = of_v.iter().flat_map(|&x| of_w.iter().map(move |&y| pair(x, y)));
-                (pairs.collect(), "each move of Even's here and of Odd's there fit")
-            }
-            (false, true) => {
-                let mut pairs = of_v.iter().flat_map(|&x| of_w.iter().map(move |&y| (x, y)));
-                let (x, y) = pairs.find(|&(x, y)| below(x, y)).expect(found);
-                (vec![pair(x, y)], "a move of Odd's here and one of Even's there fit")
-            }
-        };
-        format!("They have the same priority, and {rule}: {}.", moves.join(", "))
+    /// Whether v is below w, and why, as sentences.
+    pub fn answer(&self, v: usize, w: usize) -> String {
+        let sentences = self.reasons(v, w).into_iter().map(|reason| reason.sentence(self) + "\n");
+        let sentences: String = sentences.collect();
+        let behind = if self.is_below(v, w) { " " } else { "\n" };
+        format!("{}{behind}{sentences}", self.claim(v, w))
     }
 }
