@@ -1,8 +1,7 @@
 /* Calls of a proved reducer of parity games, for C and C++ on x86-64 Linux.
  *
- * Link libabi.a, libabi_carry.a, libabi_governed.a, libabi_edit.a, libabi_verdict.a and libabi_large.a of target/staticlib;
- * `rt staticlib abi`, and so on, writes each. docs/CONTRACT.md has the definitions, every refusal, and what each buffer holds
- * after each call.
+ * Link libraskjomi, which ./install makes of the proved archives: `pkg-config --cflags --libs raskjomi` names what that needs.
+ * docs/CONTRACT.md has the definitions, every refusal, and what each buffer holds after each call.
  *
  * A game is a table of 16-bit words: the numbers n of vertices and m of edges, then n priorities, n owners (0 Even,
  * 1 Odd), m sources and m targets. The lowest priority seen for ever decides, and even favours Even. An edge may stand
@@ -25,6 +24,12 @@
 #ifdef __cplusplus
 extern "C" {
 #endif
+
+/* The version that this header belongs to; raskjomi_version() tells that of the library. */
+#define RASKJOMI_VERSION "0.1.0"
+#define RASKJOMI_VERSION_MAJOR 0
+#define RASKJOMI_VERSION_MINOR 1
+#define RASKJOMI_VERSION_PATCH 0
 
 /* Limits of all games but large ones. */
 #define RASKJOMI_MOST_VERTICES 512
@@ -54,6 +59,73 @@ extern "C" {
 #define RASKJOMI_MARKS_BYTES(n) (((size_t)(n) * (size_t)(n) + 7) / 8)
 #define RASKJOMI_MARK(n, v, w) ((size_t)(v) * (size_t)(n) + (size_t)(w))
 #define RASKJOMI_IS_MARKED(marks, n, v, w) ((marks)[RASKJOMI_MARK(n, v, w) / 8] >> RASKJOMI_MARK(n, v, w) % 8 & 1)
+
+/* The numbers of an answer. */
+enum RaskjomiNumber {
+    RASKJOMI_ACCEPTED = 0,
+    /* The game. Number 7 no longer occurs. */
+    RASKJOMI_REFUSED_NO_SIZES = 1,
+    RASKJOMI_REFUSED_VERTICES_OUT_OF_LIMITS = 2,
+    RASKJOMI_REFUSED_TOO_MANY_EDGES = 3,
+    RASKJOMI_REFUSED_GAME_LENGTH = 4,
+    RASKJOMI_REFUSED_OWNER_ABOVE_1 = 5,
+    RASKJOMI_REFUSED_END_NOT_THERE = 6,
+    RASKJOMI_REFUSED_REPEATED_EDGE = 7,
+    RASKJOMI_REFUSED_NO_EDGE_OUT = 8,
+    /* The relation. Number 9 no longer occurs. */
+    RASKJOMI_REFUSED_MARK_ABOVE_1 = 9,
+    RASKJOMI_REFUSED_PAIR_FAILS = 10,
+    /* The plan. */
+    RASKJOMI_REFUSED_NO_PLAYER = 11,
+    RASKJOMI_REFUSED_PLAN_SIZES = 12,
+    RASKJOMI_REFUSED_PLAN_WORD = 13,
+    RASKJOMI_REFUSED_LINK_WITHOUT_EDGE = 14,
+    RASKJOMI_REFUSED_LINK_LACKING = 15,
+    RASKJOMI_REFUSED_WALK_LOST = 16,
+    /* The lent memory. */
+    RASKJOMI_REFUSED_MARKS_SHORT = 21,
+    RASKJOMI_REFUSED_SPARE_SHORT = 22,
+    RASKJOMI_REFUSED_CLASSES_SHORT = 23,
+    RASKJOMI_REFUSED_OUTPUT_SHORT = 24,
+    /* A game by a seed, a carried plan, a conversion, edits, a relation's last byte. */
+    RASKJOMI_REFUSED_SEED_OUT_OF_LIMITS = 31,
+    RASKJOMI_REFUSED_SEED_OUTPUT_SHORT = 32,
+    RASKJOMI_REFUSED_VERTEX_UNFIT = 33,
+    RASKJOMI_REFUSED_CARRIED_TOO_LARGE = 34,
+    RASKJOMI_REFUSED_CARRIED_OUTPUT_SHORT = 35,
+    RASKJOMI_REFUSED_PRIORITY_TOO_LARGE = 36,
+    RASKJOMI_REFUSED_EDGE_UNFIT = 37,
+    RASKJOMI_REFUSED_LAST_EDGE_OUT = 38,
+    RASKJOMI_REFUSED_NO_ROOM = 39,
+    RASKJOMI_REFUSED_TRACE_SIZES = 40,
+    RASKJOMI_REFUSED_UNUSED_BIT = 41,
+    /* A solution of a large game, and its certificate. */
+    RASKJOMI_REFUSED_SOLUTION_LENGTH = 81,
+    RASKJOMI_REFUSED_WINNER_ABOVE_1 = 82,
+    RASKJOMI_REFUSED_MOVE_UNFIT = 83,
+    RASKJOMI_REFUSED_MOVE_TO_LOSER = 84,
+    RASKJOMI_REFUSED_CERTIFICATE_LENGTH = 85,
+    RASKJOMI_REFUSED_CERTIFICATE_WORD = 86,
+    RASKJOMI_REFUSED_VERTEX_AT_PLACE = 87,
+    RASKJOMI_REFUSED_LAST_OF_RUN = 88,
+    RASKJOMI_REFUSED_EDGE_CLIMBS = 89,
+    /* A reduction of a large game, and its certificate. */
+    RASKJOMI_REFUSED_REDUCED_NO_SIZES = 91,
+    RASKJOMI_REFUSED_REDUCED_NO_VERTICES = 92,
+    RASKJOMI_REFUSED_REDUCED_LENGTH = 94,
+    RASKJOMI_REFUSED_REDUCED_OWNER_ABOVE_1 = 95,
+    RASKJOMI_REFUSED_REDUCED_END_NOT_THERE = 96,
+    RASKJOMI_REFUSED_REDUCED_SEQUENCE = 97,
+    RASKJOMI_REFUSED_CLASSES_LENGTH = 98,
+    RASKJOMI_REFUSED_CLASS_NOT_THERE = 99,
+    RASKJOMI_REFUSED_CLASS_PRIORITY = 100,
+    RASKJOMI_REFUSED_IMAGES_LENGTH = 101,
+    RASKJOMI_REFUSED_MEMBER_UNFIT = 102,
+    RASKJOMI_REFUSED_IMAGE_UNFIT = 103,
+    RASKJOMI_REFUSED_START_UNFIT = 104,
+    RASKJOMI_REFUSED_CLASS_OWNER = 105,
+    RASKJOMI_REFUSED_NEXT_UNFIT = 106
+};
 
 /* A call's answer. Number 0 is "accepted", with the counts that the call names; any other number is a refusal with its
  * place. All other fields are 0, but that a refused raskjomi_replay tells the entries done. */
@@ -237,6 +309,18 @@ RaskjomiAnswer raskjomi_large_reduction(const uint32_t *game, size_t game_len, c
 /* What a refusal number is about: 1 the game, 2 the relation, 3 the plan, 4 the lent memory, 5 a later addition (31 to 99),
  * 0 any other number: none of the contract's, though 100 to 106 are refusals of raskjomi_large_reduction. */
 uint32_t raskjomi_kind(uint32_t number);
+
+/* The calls below aren't proved: libraskjomi has them beside the proved archives, with the words of `raskjomi explain`. Each
+ * answers a text that ends with a zero, is never null and stays as long as the program runs. */
+
+/* The library's version, as RASKJOMI_VERSION has that of this header. */
+const char *raskjomi_version(void);
+
+/* A refusal in words: what its number means, what its place counts, and what to do. "no refusal" and two empty texts for a
+ * number that is none. */
+const char *raskjomi_meaning(uint32_t number);
+const char *raskjomi_place(uint32_t number);
+const char *raskjomi_remedy(uint32_t number);
 
 #ifdef __cplusplus
 }
