@@ -1,4 +1,4 @@
--- A relation in rows of bits, as it is written into a buffer of marks.
+-- A relation, as it is written into a buffer of marks.
 use mathlib.Core.Path.{_≡_}
 use mathlib.Core.Bool.{Bool, cond}
 use mathlib.Core.List.{List}
@@ -7,9 +7,9 @@ use lib.Bits.{bitOr}
 use lib.Dec.{eqb}
 use lib.ListN.{length, getD}
 use Rattle.theory.specs.logic.Range.{tabulate}
+use Rattle.theory.specs.order.Passes.{Rel}
 use Rattle.table.specs.Answers.{written}
 use Rattle.words.specs.Word.{digit}
-use Rattle.order_rows.specs.Bits.{cell}
 use Rattle.marks.specs.Marks.{bytesFor, marksLength, bytes}
 
 -- the byte of mark `at` as far as it is written: a byte begins as 0
@@ -27,18 +27,18 @@ BitsWritten word at count old new =
     → old ≡ written (bytes (tabulate at f)) base → new ≡ written (bytes (tabulate (at + count) f)) base
 
 -- the mark of pair i of n vertices
-unfoldable pub rowMark : ℕ → List ℕ → ℕ → Bool
-rowMark n rows i = cell rows (i / n) (i % n)
+unfoldable pub rowMark : ℕ → Rel → ℕ → Bool
+rowMark n rel i = rel (i / n) (i % n)
 
 -- what held the marks before (v, 0) now holds those before (v, w)
-abbrev pub RowWritten : ℕ → List ℕ → ℕ → ℕ → List ℕ → List ℕ → Type 0
-RowWritten n rows v w old new =
-    (base : List ℕ) → marksLength n ≤ length base → old ≡ written (bytes (tabulate (v * n) (rowMark n rows))) base
-    → new ≡ written (bytes (tabulate (v * n + w) (rowMark n rows))) base
+abbrev pub RowWritten : ℕ → Rel → ℕ → ℕ → List ℕ → List ℕ → Type 0
+RowWritten n rel v w old new =
+    (base : List ℕ) → marksLength n ≤ length base → old ≡ written (bytes (tabulate (v * n) (rowMark n rel))) base
+    → new ≡ written (bytes (tabulate (v * n + w) (rowMark n rel))) base
 
 -- all marks are written
-abbrev pub RowsWritten : ℕ → List ℕ → List ℕ → List ℕ → Type 0
-RowsWritten n rows old new = new ≡ written (bytes (tabulate (n * n) (rowMark n rows))) old
+abbrev pub RowsWritten : ℕ → Rel → List ℕ → List ℕ → Type 0
+RowsWritten n rel old new = new ≡ written (bytes (tabulate (n * n) (rowMark n rel))) old
 
 -- the first `count` bytes are those of another buffer
 abbrev pub Copied : ℕ → List ℕ → List ℕ → List ℕ → Type 0

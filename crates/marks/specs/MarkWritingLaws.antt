@@ -18,7 +18,7 @@ use Rattle.theory.specs.logic.BoolsLaws.{or-first, or-false}
 use Rattle.theory.specs.logic.Range.{tabulate}
 use Rattle.theory.specs.logic.ListLaws.{length-tabulate, getD-tabulate, tabulate-by, after-set}
 use Rattle.theory.specs.logic.CountLaws.{row-lt, col-lt}
-use Rattle.theory.specs.order.Passes.{Marks, marked}
+use Rattle.theory.specs.order.Passes.{Rel, Marks, marked}
 use Rattle.table.specs.Answers.{written}
 use Rattle.table.specs.AnswersLaws.{length-written, getD-written, getD-written-beyond}
 use Rattle.words.specs.Word.{digit}
@@ -196,33 +196,43 @@ module _ (word at : ℕ) where
 pub row-inside : (n v : ℕ) → v < n → v * n + n ≤ n * n
 row-inside n v hv = omega (arith, suc-mul v n, mul-le-mul-right n hv)
 
-module _ (n : ℕ) (rows : List ℕ) where
-  pub row-start : (v : ℕ) (old : List ℕ) → RowWritten n rows v 0 old old
+module _ (n : ℕ) (rel : Rel) where
+  pub row-start : (v : ℕ) (old : List ℕ) → RowWritten n rel v 0 old old
   row-start v old base h e = rw (add-zero (v * n)) e
 
-  -- a word's bits are the marks of its pairs
-  bits-are : (v w k : ℕ) → w % 64 ≡ 0 → k < 64 → w + k < n → rowMark n rows (v * n + w + k) ≡ digit (getD rows (v * rowWords + w / 64) 0) k
+  mark-is : (v k : ℕ) → k < n → rowMark n rel (v * n + k) ≡ rel v k
   unfolding rowMark
-  bits-are v w k z h l =
-      let e : v * n + w + k ≡ v * n + (w + k) = omega arith in
-      let s : w + k ≡ w / 64 * 64 + k = omega arith in
-      rw (e, digits-div v l, digits-mod v l) (ap (cell rows v) s ∙ cell-at rows v (w / 64) k h)
+  mark-is v k l = rw (digits-div v l, digits-mod v l) refl
 
-  pub row-next : (v w end : ℕ) (old mid new : List ℕ) → v < n → w < n → w % 64 ≡ 0 → end ≡ min n (w + 64) → RowWritten n rows v w old mid
-      → BitsWritten (getD rows (v * rowWords + w / 64) 0) (v * n + w) (end - w) mid new → RowWritten n rows v end old new
-  row-next v w end old mid new hv hw z e r b base h q =
-      let s : v * n + end ≡ v * n + w + (end - w) = omega (arith, e) in
-      rw s (b (rowMark n rows) base (omega (arith, e, h, row-inside n v hv)) (λ k m. bits-are v w k z (omega (arith, e)) (omega (arith, e))) (r base h q))
+  -- a word's bits are marks of the row, or all of them
+  pub row-whole : (v word : ℕ) (old new : List ℕ) → v < n → ((k : ℕ) → k < n → rel v k ≡ digit word k) → BitsWritten word (v * n) n old new
+      → RowWritten n rel v n old new
+  row-whole v word old new hv d bits base h q =
+      bits (rowMark n rel) base (omega (arith, h, row-inside n v hv)) (λ k m. mark-is v k m ∙ d k m) q
 
-  pub rows-next : (v : ℕ) (base old new : List ℕ) → marksLength n ≤ length base → old ≡ written (bytes (tabulate (v * n) (rowMark n rows))) base
-      → RowWritten n rows v n old new → new ≡ written (bytes (tabulate ((v + 1) * n) (rowMark n rows))) base
+  pub row-next : (v w end word : ℕ) (old mid new : List ℕ) → v < n → w ≤ end → end ≤ n → ((k : ℕ) → k < end - w → rel v (w + k) ≡ digit word k)
+      → RowWritten n rel v w old mid → BitsWritten word (v * n + w) (end - w) mid new → RowWritten n rel v end old new
+  row-next v w end word old mid new hv a b d r bits base h q =
+      let s : v * n + end ≡ v * n + w + (end - w) = omega (arith, a) in
+      rw s
+      (bits (rowMark n rel) base (omega (arith, a, b, h, row-inside n v hv))
+      (λ k m.
+      let i : v * n + w + k ≡ v * n + (w + k) = omega arith in
+      ap (rowMark n rel) i ∙ mark-is v (w + k) (omega (arith, b, m)) ∙ d k m) (r base h q))
+
+  pub rows-next : (v : ℕ) (base old new : List ℕ) → marksLength n ≤ length base → old ≡ written (bytes (tabulate (v * n) (rowMark n rel))) base
+      → RowWritten n rel v n old new → new ≡ written (bytes (tabulate ((v + 1) * n) (rowMark n rel))) base
   rows-next v base old new h e r = rw (add-one v, suc-mul v n) (r base h e)
 
+-- a word of a row of eight holds the row's bits from a multiple of 64 on
+pub cells-are : (rows : List ℕ) (v w k : ℕ) → w % 64 ≡ 0 → k < 64 → cell rows v (w + k) ≡ digit (getD rows (v * rowWords + w / 64) 0) k
+cells-are rows v w k z h = let s : w + k ≡ w / 64 * 64 + k = omega arith in ap (cell rows v) s ∙ cell-at rows v (w / 64) k h
+
 -- the marks of all pairs
-pub rows-are : (n : ℕ) (rows : List ℕ) (m : Marks) (old new : List ℕ) → RowsWritten n rows old new → length m ≡ n * n
-    → ((v w : ℕ) → v < n → w < n → cell rows v w ≡ marked m (v * n + w)) → new ≡ written (bytes m) old
+pub rows-are : (n : ℕ) (rel : Rel) (m : Marks) (old new : List ℕ) → RowsWritten n rel old new → length m ≡ n * n
+    → ((v w : ℕ) → v < n → w < n → rel v w ≡ marked m (v * n + w)) → new ≡ written (bytes m) old
 unfolding rowMark
-rows-are n rows m old new r l e =
+rows-are n rel m old new r l e =
     r ∙ ap (λ (k : Marks). written (bytes k) old)
     (sym (tabulate-by (n * n) _ false m l
     (λ i h. sym (e (i / n) (i % n) (row-lt n n i h) (col-lt n n i h) ∙ ap (λ (k : ℕ). marked m k) (div-add-mod' i n)))))

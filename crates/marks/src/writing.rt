@@ -3,11 +3,11 @@ use order_rows::row::WORDS;
 use order_rows::row::end_of;
 ghost use mathlib.Core.Path.{_≡_};
 ghost use Prim.Native.Nat.{_+_, _*_, _/_, _%_, _^_, _<_, _≤_};
-ghost use lib.ListN.{length};
+ghost use lib.ListN.{length, getD};
 ghost use Rattle.table.specs.Lent.{old, new};
 ghost use Rattle.table.specs.Limits.{vertexLimit, pairLimit};
-ghost use Rattle.words.specs.Word.{wordBits};
-ghost use Rattle.order_rows.specs.Bits.{rowWords};
+ghost use Rattle.words.specs.Word.{wordBits, digit};
+ghost use Rattle.order_rows.specs.Bits.{rowWords, cell};
 ghost use Rattle.marks.specs.Marks.{bytesFor, marksLength};
 ghost use Rattle.marks.specs.MarkWriting.{begunByte, BitsWritten, RowWritten, RowsWritten, Copied};
 
@@ -81,7 +81,7 @@ fn write_bits(marks: &mut [u8], at: usize, word: u64, count: usize)
 // Writes row v of n.
 fn write_row(rows: &[u64], n: usize, v: usize, marks: &mut [u8])
     requires { ⌜ (v < n) × (n ≤ vertexLimit) × (n * rowWords ≤ length (now rows)) × (marksLength n ≤ length (now marks)) ⌝ }
-    ensures { λ r. ⌜ RowWritten n (old rows) v n (old marks) (new marks) ⌝ }
+    ensures { λ r. ⌜ RowWritten n (cell (old rows)) v n (old marks) (new marks) ⌝ }
 {
     let row = v * n;
     let mut w = 0;
@@ -95,11 +95,23 @@ fn write_row(rows: &[u64], n: usize, v: usize, marks: &mut [u8])
 // Writes the relation between n vertices that the rows hold.
 pub fn write_marks(rows: &[u64], n: usize, marks: &mut [u8])
     requires { ⌜ (n ≤ vertexLimit) × (n * rowWords ≤ length (now rows)) × (marksLength n ≤ length (now marks)) ⌝ }
-    ensures { λ r. ⌜ RowsWritten n (old rows) (old marks) (new marks) ⌝ }
+    ensures { λ r. ⌜ RowsWritten n (cell (old rows)) (old marks) (new marks) ⌝ }
 {
     let mut v = 0;
     while v < n {
         write_row(rows, n, v, marks);
+        v += 1;
+    }
+}
+
+// The same from rows of one word.
+pub fn write_small(rows: &[u64], n: usize, marks: &mut [u8])
+    requires { ⌜ (n ≤ wordBits) × (n ≤ length (now rows)) × (marksLength n ≤ length (now marks)) ⌝ }
+    ensures { λ r. ⌜ RowsWritten n (λ v x. digit (getD (old rows) v 0) x) (old marks) (new marks) ⌝ }
+{
+    let mut v = 0;
+    while v < n {
+        write_bits(marks, v * n, rows[v], n);
         v += 1;
     }
 }

@@ -9,6 +9,11 @@ use Rattle.table.specs.Table.{gameOf}
 use Rattle.table.specs.Answers.{written}
 use Rattle.order.specs.OrderCall.{bytesOf}
 
+-- the number of passes, and a buffer holds the relation's marks
+pub record MarksFilled (relation : Game → Marks) (passes : Game → ℕ) (game marks : List ℕ) (c : ℕ) (marks′ : List ℕ) : Type 0 where
+  pub count : c ≡ passes (gameOf game)
+  pub marks-after : marks′ ≡ written (bytesOf relation game) marks
+
 -- the number of passes, and both buffers hold the relation's marks
 pub record MarksDone (relation : Game → Marks) (passes : Game → ℕ) (game marks spare : List ℕ) (c : ℕ) (marks′ spare′ : List ℕ) : Type 0 where
   pub count : c ≡ passes (gameOf game)

@@ -1,15 +1,15 @@
 // The direct simulation order of a parity game.
+mod small;
+mod wide;
+
 use marks::packed::length_for;
 use marks::writing::copy_marks;
-use marks::writing::write_marks;
-use order_losses::edges::EDGE_WORDS;
-use order_losses::edges::fill;
-use order_rounds::rounds;
-use order_rows::row::WORDS;
+use order_small_losses::edges::SMALL;
+use small::fill_small;
 use table::Filling;
 use table::Refusal;
-use table::limits::VERTICES;
 use table::refusal_of;
+use wide::fill_wide;
 ghost use mathlib.Core.Path.{_≡_};
 ghost use Prim.Native.Nat.{_≤_};
 ghost use lib.ListN.{length};
@@ -18,7 +18,7 @@ ghost use Rattle.table.specs.Lent.{old, new};
 ghost use Rattle.table.specs.Table.{vertexCount};
 ghost use Rattle.table.specs.WellFormed.{WellFormed};
 ghost use Rattle.marks.specs.Marks.{marksLength};
-ghost use Rattle.order.specs.OrderWritten.{MarksDone, OrderDone};
+ghost use Rattle.order.specs.OrderWritten.{MarksFilled, MarksDone, OrderDone};
 ghost use Rattle.order.specs.OrderCall.{orderingAnswer, MarksCall, OrderCall};
 
 pub struct PassCount {
@@ -30,33 +30,30 @@ pub enum Ordering {
     Refused(Refusal),
 }
 
-// The words of a relation in rows.
-const RELATION_WORDS: usize = VERTICES * WORDS;
+// Writes the order of a well-formed table or, with `mirror`, its governed bisimulation into a buffer that is long enough.
+fn fill_marks(game: &[u16], marks: &mut [u8], mirror: bool) -> u32
+    requires { ⌜ WellFormed (now game) × (marksLength (vertexCount (now game)) ≤ length (now marks)) ⌝ }
+    ensures { λ r. ⌜ MarksFilled (marksBy mirror) (passesBy mirror) (old game) (old marks) r (new marks) ⌝ }
+{
+    let n = game[0] as usize;
+    if n <= SMALL {
+        return fill_small(game, marks, mirror);
+    }
+    // Two calls: the compiler puts a function that is called once into its caller, so that a small game would have the arrays of 192 KiB on its stack.
+    if mirror {
+        return fill_wide(game, marks, true);
+    }
+    fill_wide(game, marks, false)
+}
 
-// Writes the order of a well-formed table or, with `mirror`, its governed bisimulation into buffers that are long enough, by rows of bits in
-// local arrays of 192 KiB. A part of the calls that leave such a relation; no host calls it.
+// The same into both buffers, which are long enough. A part of the calls that leave such a relation; no host calls it.
 pub fn fill_relation(game: &[u16], marks: &mut [u8], spare: &mut [u8], mirror: bool) -> u32
     requires { ⌜ WellFormed (now game) ⌝ }
     requires { ⌜ (marksLength (vertexCount (now game)) ≤ length (now marks)) × (marksLength (vertexCount (now game)) ≤ length (now spare)) ⌝ }
     ensures { λ r. ⌜ MarksDone (marksBy mirror) (passesBy mirror) (old game) (old marks) (old spare) r (new marks) (new spare) ⌝ }
 {
-    let mut edges = [0u64; EDGE_WORDS];
-    let mut related = [0u64; RELATION_WORDS];
-    let mut lost = [0u64; RELATION_WORDS];
-    let mut falls = [0u64; RELATION_WORDS];
-    let mut next = [0u64; RELATION_WORDS];
-    fill(game, &mut edges);
-    let passes = rounds(
-        game,
-        &edges,
-        &mut related,
-        &mut lost,
-        &mut falls,
-        &mut next,
-        mirror,
-    );
+    let passes = fill_marks(game, marks, mirror);
     let n = game[0] as usize;
-    write_marks(&related, n, marks);
     copy_marks(marks, spare, length_for(n));
     passes
 }

@@ -1,4 +1,2 @@
 pub mod Losses
 pub mod ValuesLaws
-pub mod EdgesLaws
-pub mod LossesLaws

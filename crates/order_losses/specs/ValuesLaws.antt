@@ -11,7 +11,7 @@ use lib.ListN.{getD}
 use borrow.Author.Tests.{eqb-true, eq-eqb, ltb-true, lt-ltb, le-ltb}
 use Rattle.theory.specs.logic.Bools.{_&_, _or_}
 use Rattle.theory.specs.logic.BoolsLaws.{So-ext, and-in, and-out, or-left, or-right, or-out, and-first}
-use Rattle.order_losses.specs.Losses.{differs}
+use Rattle.order_sets.specs.Losses.{differs}
 
 module _ (words : List ℕ) (from value base : ℕ) where
   -- vertex base + k is before w, and its word isn't the value

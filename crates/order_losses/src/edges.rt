@@ -2,6 +2,7 @@
 use crate::values::differing;
 use order_rows::matrix::add;
 use order_rows::matrix::apart_of;
+use order_rows::matrix::apart_word;
 use order_rows::matrix::put;
 use order_rows::matrix::row;
 use order_rows::matrix::unite;
@@ -62,13 +63,21 @@ pub fn fill(game: &[u16], edges: &mut [u64])
     put(edges, 2 * VERTICES, differing(game, 2 + n, n, 0));
 }
 
-// Of `near` those of a player's, and those of the other's without a successor in x.
+// Of `near` those of a player's, and those of the other's without a successor in x. The row is put together word by word: whole rows, read right after
+// their words were stored, keep the processor waiting.
 fn falling(edges: &[u64], near: Row, player: Row, x: Row) -> Row
     requires { ⌜ edgeWords ≤ length (now edges) ⌝ }
     ensures { λ r. ⌜ RowIs r (fallingRows (old edges) near player x) ⌝ }
 {
-    let stuck = apart_of(edges, without(near, player), x);
-    either(common(near, player), stuck)
+    let mut out = [0u64; WORDS];
+    let mut j = 0;
+    while j < WORDS {
+        let own = near[j] & player[j];
+        let stuck = apart_word(edges, j * 64, near[j] ^ own, x);
+        out[j] = own | stuck;
+        j += 1;
+    }
+    out
 }
 
 // What leaves the controllable predecessors when l is taken out and x is left: of the vertices with a successor in l those of Odd's, and those

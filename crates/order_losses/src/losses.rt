@@ -20,8 +20,9 @@ ghost use Rattle.theory.specs.order.Rows.{loses};
 ghost use Rattle.table.specs.Lent.{old, new};
 ghost use Rattle.words.specs.Word.{wordBits};
 ghost use Rattle.words.specs.Words.{has};
+ghost use Rattle.order_sets.specs.Losses.{oddLoss};
 ghost use Rattle.order_rows.specs.Bits.{rowBits, rowWords, RowIs, cell};
-ghost use Rattle.order_losses.specs.Losses.{edgeWords, EdgeRows, relationWords, struck, Fell, oddLoss, LossesTo};
+ghost use Rattle.order_losses.specs.Losses.{edgeWords, EdgeRows, relationWords, struck, Fell, LossesTo};
 
 // What an Odd vertex v loses, where `gone` is what the rows of its successors lost. It ends early where other successors still have all of it.
 fn lose_odd(edges: &[u64], related: &[u64], gone: Row, v: usize) -> Row

@@ -8,10 +8,10 @@ ghost use lib.ListN.{length};
 ghost use Rattle.table.specs.Lent.{old};
 ghost use Rattle.words.specs.Word.{wordBits, digit};
 ghost use Rattle.order_rows.specs.Bits.{rowBits, RowIs};
-ghost use Rattle.order_losses.specs.Losses.{differs};
+ghost use Rattle.order_sets.specs.Losses.{differs};
 
 // Those of 64 vertices from `base` on, below n, whose word from `from` on isn't the value.
-fn differing_word(words: &[u16], from: usize, n: usize, value: u16, base: usize) -> u64
+pub fn differing_word(words: &[u16], from: usize, n: usize, value: u16, base: usize) -> u64
     requires { ⌜ (from + n ≤ length (now words)) × (base ≤ rowBits) ⌝ }
     ensures { λ r. ⌜ ((k : ℕ) → k < wordBits → digit r k ≡ differs (old words) from n value (base + k)) ⌝ }
 {

@@ -1,4 +1,2 @@
 pub mod RowRemoval
-pub mod RowRemovalLaws
 pub mod ReverseLosses
-pub mod ReverseLossesLaws

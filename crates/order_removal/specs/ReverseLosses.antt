@@ -1,36 +1,21 @@
 -- Losses that gain pairs: the reverses of what a round takes out are taken out too.
-use mathlib.Core.Path.{_≡_}
-use mathlib.Core.Bool.{Bool, So}
+use mathlib.Core.Bool.{Bool}
 use mathlib.Core.List.{List}
-use Prim.Native.Nat.{ℕ, _+_, _<_}
-use lib.Dec.{eqb}
-use Rattle.theory.specs.logic.Bools.{_&_, _or_}
-use Rattle.theory.specs.logic.Range.{anyBelow}
+use Prim.Native.Nat.{ℕ}
 use Rattle.theory.specs.order.Passes.{Rel}
-use Rattle.theory.specs.order.Rows.{mirroredBy}
-use Rattle.words.specs.Word.{wordBits, digit}
 use Rattle.words.specs.Words.{has}
-use Rattle.order_rows.specs.Bits.{rowBits}
-use Rattle.order_losses.specs.Losses.{struck}
+use Rattle.order_sets.specs.Reverses as sets
+use Rattle.order_sets.specs.Reverses.{MoreIn, CompletedIn}
+use Rattle.order_rows.specs.Bits.{rowBits, cell}
 
 -- the pairs of p are losses too, and no row leaves those that lose something
-pub record LosesToo (p : Rel) (next losing next′ losing′ : List ℕ) : Type 0 where
-  pub pairs : (u y : ℕ) → u < rowBits → y < rowBits → struck losing′ next′ u y ≡ (struck losing next u y or p u y)
-  pub grows : (u : ℕ) → u < rowBits → So (has losing u) → So (has losing′ u)
-
--- the pair (w, v)
-abbrev pub onePair : ℕ → ℕ → Rel
-onePair w v u y = eqb u w & eqb y v
-
--- the pairs of a word's bits with v; its bit 0 is for row `base`
-abbrev pub wordPairs : ℕ → ℕ → ℕ → Rel
-wordPairs base which v u y = anyBelow wordBits (λ k. digit which k & onePair (base + k) v u y)
+abbrev pub LosesToo : Rel → List ℕ → List ℕ → List ℕ → List ℕ → Type 0
+LosesToo p next losing next′ losing′ = MoreIn rowBits p (cell next) (has losing) (cell next′) (has losing′)
 
 -- the pairs of all in `which` with v
 abbrev pub columnPairs : List ℕ → ℕ → Rel
-columnPairs which v u y = has which u & eqb y v
+columnPairs which = sets.columnPairs (has which)
 
 -- the losses are those before and, with `mirror`, their reverses
 abbrev pub Completed : Bool → List ℕ → List ℕ → List ℕ → List ℕ → Type 0
-Completed mirror next losing next′ losing′ =
-    (u y : ℕ) → u < rowBits → y < rowBits → struck losing′ next′ u y ≡ mirroredBy mirror (struck losing next) u y
+Completed mirror next losing next′ losing′ = CompletedIn rowBits mirror (cell next) (has losing) (cell next′) (has losing′)

@@ -12,9 +12,10 @@ ghost use Prim.Native.Nat.{_+_, _<_, _≤_};
 ghost use lib.ListN.{length};
 ghost use Rattle.table.specs.Lent.{old, new};
 ghost use Rattle.words.specs.Word.{wordBits};
+ghost use Rattle.order_sets.specs.Reverses.{onePair, wordPairs};
 ghost use Rattle.order_rows.specs.Bits.{rowBits, rowWords};
 ghost use Rattle.order_losses.specs.Losses.{relationWords};
-ghost use Rattle.order_removal.specs.ReverseLosses.{LosesToo, onePair, wordPairs, columnPairs, Completed};
+ghost use Rattle.order_removal.specs.ReverseLosses.{LosesToo, columnPairs, Completed};
 
 // One loss more: the pair (w, v).
 fn lose_pair(next: &mut [u64], losing: &mut [u64], w: usize, v: usize)

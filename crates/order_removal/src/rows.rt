@@ -1,19 +1,41 @@
 // Losses are taken out of a relation, and counted.
 use order_losses::edges::fall_of;
+use order_losses::edges::fall_within;
 use order_rows::matrix::put;
 use order_rows::matrix::row;
+use order_rows::matrix::unite;
+use order_rows::row::Row;
+use order_rows::row::WORDS;
 use order_rows::row::first_from;
+use order_rows::row::is_some;
 use order_rows::row::size;
 use order_rows::row::without;
 use table::limits::VERTICES;
 ghost use Prim.Native.Nat.{_<_, _≤_};
 ghost use lib.ListN.{length};
+ghost use Rattle.theory.specs.games.Game.{Game};
 ghost use Rattle.table.specs.Lent.{old, new};
 ghost use Rattle.order_rows.specs.Bits.{rowBits, rowWords, cell};
-ghost use Rattle.order_losses.specs.Losses.{edgeWords, relationWords};
-ghost use Rattle.order_removal.specs.RowRemoval.{RowTaken, TakenTo};
+ghost use Rattle.order_losses.specs.Losses.{edgeWords, EdgeRows, relationWords};
+ghost use Rattle.order_removal.specs.RowRemoval.{FallAsked, RowTaken, TakenTo};
 
-// Takes row a of `next` out of `related`, and works out its fall; how many pairs it holds.
+// What leaves the controllable predecessors when `out` is taken out of row a and `left` is left, as far as Even's predecessors of a ask for it: for
+// what is in their rows. With `few` all of it is worked out, which is less work where `out` has few vertices.
+fn asked_fall(edges: &[u64], related: &[u64], out: Row, left: Row, a: usize, few: bool) -> Row
+    requires { ⌜ (edgeWords ≤ length (now edges)) × (relationWords ≤ length (now related)) × (a < rowBits) ⌝ }
+    ensures { λ r. ⌜ ((G : Game) → EdgeRows G (old edges) → FallAsked G (old related) a out left r) ⌝ }
+{
+    let evens = without(row(edges, VERTICES + a), row(edges, 2 * VERTICES));
+    if !is_some(evens) {
+        return [0u64; WORDS];
+    }
+    if few {
+        return fall_of(edges, out, left);
+    }
+    fall_within(edges, unite(related, 0, evens), out, left)
+}
+
+// Takes row a of `next` out of `related`, and works out its fall, as far as it is asked for; how many pairs it holds.
 fn take_row(
     edges: &[u64],
     next: &[u64],
@@ -30,8 +52,9 @@ fn take_row(
     let left = without(row(related, a), out);
     put(related, a, left);
     put(lost, a, out);
-    put(falls, a, fall_of(edges, out, left));
-    size(out)
+    let pairs = size(out);
+    put(falls, a, asked_fall(edges, related, out, left, a, pairs <= 2));
+    pairs
 }
 
 // Takes the rows of `losing` in `next` out of `related`; how many pairs they hold.

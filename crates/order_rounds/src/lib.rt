@@ -1,6 +1,6 @@
 // Passes of the order, or of the governed bisimulation, as rounds over rows of bits: from the rows that lost something in the round before to
 // what they can lose now. Parts of the calls; no host calls these.
-mod start;
+pub mod start;
 
 use order_losses::losses::lose_all;
 use order_removal::reverses::complete;

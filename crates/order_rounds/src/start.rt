@@ -23,7 +23,7 @@ ghost use Rattle.order_losses.specs.Losses.{edgeWords, EdgeRows, relationWords}
 ghost use Rattle.order_rounds.specs.Rounds.{AllVertices, Parted, Begun};
 
 // The first vertex before v of v's priority; v where there is none.
-fn first_equal(game: &[u16], v: usize) -> usize
+pub fn first_equal(game: &[u16], v: usize) -> usize
     requires { ⌜ WellFormed (now game) × (v < vertexCount (now game)) ⌝ }
     ensures { λ r. ⌜ r ≡ first (λ u. equalPriority (gameOf (old game)) (gameOf (old game)) u v) 0 v ⌝ }
 {

@@ -1,4 +1,3 @@
 pub mod Bits
-pub mod MembersLaws
 pub mod RowLaws
 pub mod MatrixLaws

@@ -9,14 +9,16 @@ use lib.Arith.{digits-div, digits-mod}
 use lib.Dec.{eqb}
 use lib.ListN.{length, getD, set, replicate}
 use lib.Seq.{getD-set-same, getD-set-other}
+use borrow.Author.Tests.{eq-eqb}
 use Rattle.theory.specs.logic.Bools.{_&_, _or_}
-use Rattle.theory.specs.logic.BoolsLaws.{and-assoc, and-neither}
+use Rattle.theory.specs.logic.BoolsLaws.{and-assoc, and-neither, and-one}
 use Rattle.theory.specs.logic.Range.{anyBelow}
 use Rattle.theory.specs.logic.RangeLaws.{any-append, any-ext}
 use Rattle.theory.specs.logic.CountLaws.{digits-one, digits-same}
 use Rattle.theory.specs.logic.ListLaws.{zeros}
 use Rattle.words.specs.Word.{wordBits, digit}
 use Rattle.words.specs.Words.{has}
+use Rattle.order_sets.specs.Sets.{Is, With, unitedIn}
 use Rattle.order_rows.specs.Bits.{rowBits, rowWords, cell, Put, Added, unitedRows}
 use Rattle.words.specs.WordLaws.{digit-zero}
 use Rattle.words.specs.WordsLaws.{has-at, word-set, same-bit}
@@ -30,10 +32,6 @@ cell-at words v j k h = rw (digits-div j h, digits-mod j h)
 pub cell-zero : (n v x : ℕ) → cell (replicate n 0) v x ≡ false
 unfolding cell
 cell-zero n v x = rw (zeros n (v * rowWords + x / 64)) (digit-zero (x % 64))
-
--- row 0 + v is row v
-pub cell-base : (words : List ℕ) (v x : ℕ) → cell words v x ≡ cell words (0 + v) x
-cell-base words v x = let e : v ≡ 0 + v = omega arith in ap (λ (u : ℕ). cell words u x) e
 
 -- ---- a row is put, word by word
 
@@ -88,7 +86,7 @@ module _ (words : List ℕ) (base : ℕ) (which : List ℕ) (x : ℕ) where
       ∙ sym (ap (λ (i : ℕ). anyBelow i (λ a. has which a & cell words (base + a) x)) e ∙ any-append (j * 64) 64 _)
 
   pub united-end : unitedTo rowWords ≡ unitedRows words base which x
-  unfolding unitedRows
+  unfolding unitedIn
   united-end = refl
 
 -- no row of the first j words, nor of the next
@@ -101,7 +99,14 @@ stripped-next words which x j a b e =
     same : (k : ℕ) → k < wordBits → digit (getD which j 0) k & cell words (j * 64 + k) x ≡ digit (getD which j 0) k & cell words (0 + j * 64 + k) x
     same k h = let s : j * 64 + k ≡ 0 + j * 64 + k = omega arith in rw s
 
--- a row by itself
+-- ---- a row by itself
+
 pub cell-row : (words : List ℕ) (x : ℕ) → cell words 0 x ≡ has words x
 unfolding cell has
 cell-row words x = let s : 0 * rowWords + x / 64 ≡ x / 64 = omega arith in rw s
+
+pub row-alone : (words : List ℕ) (p : ℕ → Bool) → Is rowBits p (cell words 0) → Is rowBits p (has words)
+row-alone words p e x h = e x h ∙ cell-row words x
+
+pub added-alone : (old new : List ℕ) (x : ℕ) (b : Bool) → Added old new 0 x b → With rowBits (has old) (has new) x b
+added-alone old new x b a y h = sym (cell-row new y) ∙ a 0 y h ∙ ap₂ _or_ (and-one _ (eq-eqb 0 0 refl)) (cell-row old y)

@@ -125,7 +125,7 @@ pub fn strip(words: &[u64], which: Row, from: Row) -> Row
 }
 
 // The bits of a word whose rows don't meet x; its bit 0 is for row `base`.
-fn apart_word(words: &[u64], base: usize, which: u64, x: Row) -> u64
+pub fn apart_word(words: &[u64], base: usize, which: u64, x: Row) -> u64
     requires { ⌜ (base + wordBits) * rowWords ≤ length (now words) ⌝ }
     ensures { λ r. ⌜ ((k : ℕ) → k < wordBits → digit r k ≡ digit which k & apart (old words) (base + k) x) ⌝ }
 {

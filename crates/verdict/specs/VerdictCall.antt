@@ -53,7 +53,7 @@ pub record VerdictCall (game : List ℕ) (vertex player : ℕ) (plan marks spare
   pub classes-after : classes′ ≡ after (beforePlanRows game vertex marks spare classes reduction) (classWords game) classes
   pub reduction-after : reduction′ ≡ after (beforePlanRows game vertex marks spare classes reduction) (classTable reduced game) reduction
 
--- The plan acceptor on any table, with these counts and whether the plan starts at the class. No public promise cites it.
+-- 11 to 16 about any table, with these counts and whether the plan starts at the class. No public promise cites it.
 unfoldable pub startAnswer : List ℕ → ℕ → List ℕ → ℕ → TableCounts → Answer
 startAnswer table player plan class c =
-    judge (gameRows table ++ planRows table player plan) (c .classes ∷ c .vertices ∷ c .edges ∷ bit (eqb (vertexAt plan 0) class) ∷ [])
+    judge (planRows table player plan) (c .classes ∷ c .vertices ∷ c .edges ∷ bit (eqb (vertexAt plan 0) class) ∷ [])

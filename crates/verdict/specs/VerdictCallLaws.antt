@@ -13,10 +13,10 @@ use Rattle.table.specs.Limits.{vertexLimit, edgeLimit}
 use Rattle.table.specs.Table.{vertexCount, tableEdges, tableLength}
 use Rattle.table.specs.Answers.{Row, row, memoryRow, Answer, accepted, refused, judge, Clean, after}
 use Rattle.table.specs.AnswersLaws.{judge-clean, judge-hit, judge-past, judge-stays, judge-accepted, after-past, after-refused}
-use Rattle.table.specs.Reading.{gameRows, readAnswer, sizesAnswer}
+use Rattle.table.specs.Reading.{gameRows, sizesAnswer}
 use Rattle.table.specs.Filling.{fillingAnswer, refusalOf}
-use Rattle.table.specs.ReadingLaws.{read-accepted, reading-accepted}
-use Rattle.table.specs.WellFormed.{WellSized}
+use Rattle.table.specs.ReadingLaws.{read-accepted, reading-accepted, well-clean}
+use Rattle.table.specs.WellFormed.{WellFormed, WellSized}
 use Rattle.table.specs.declared.FilledSizes.{FilledSizes}
 use Rattle.table.specs.declared.Refusal.{Refusal}
 use Rattle.table.specs.declared.Filling.{Filling}
@@ -35,37 +35,36 @@ use Rattle.verdict.specs.VerdictCall.{beforePlanRows, verdictRows, shown
 
 -- ---- the plan acceptor on a table that the reader accepts
 
-module _ (table : List ℕ) (player : ℕ) (plan : List ℕ) {counts : List ℕ} (read : readAnswer table ≡ accepted counts) where
-  read-clean : Clean (gameRows table)
-  unfolding readAnswer
-  read-clean = judge-accepted (gameRows table) _ _ read .0
+pub read-plan : (table : List ℕ) (player : ℕ) (plan : List ℕ) → WellFormed table
+    → (given : List ℕ) → judge (gameRows table ++ planRows table player plan) given ≡ judge (planRows table player plan) given
+read-plan table player plan well given = judge-past (gameRows table) _ given (well-clean table well)
 
-  pub read-plan : (given : List ℕ) → judge (gameRows table ++ planRows table player plan) given ≡ judge (planRows table player plan) given
-  read-plan given = judge-past (gameRows table) _ given read-clean
-
+module _ (table : List ℕ) (player : ℕ) (plan : List ℕ) where
   -- none of 1 to 8 comes back
-  pub read-plan-number : (k p : ℕ) → planAnswer table player plan ≡ refused k p → (11 ≤ k) × (k ≤ 16)
-  unfolding planAnswer
-  read-plan-number k p e =
+  pub plan-number : (k p : ℕ) → judge (planRows table player plan) [] ≡ refused k p → (11 ≤ k) × (k ≤ 16)
+  plan-number k p e =
       judge-number (λ j. (11 ≤ j) × (j ≤ 16)) (planRows table player plan) [] k p
       (plan-numbers (λ j. (11 ≤ j) × (j ≤ 16)) (λ j h l. (h, l)) table player plan)
-      (sym (read-plan []) ∙ e)
+      e
+
+  -- a plan that passes has a start
+  pub start-there : WellFormed table → accepted [] ≡ judge (planRows table player plan) [] → 2 < length plan
+  unfolding planAnswer
+  start-there well e =
+      let s = plan-accepted table player plan [] (read-plan table player plan well [] ∙ sym e) .0 .sized in
+      omega (arith, s .some, s .size)
 
 -- ---- what is judged of a plan and a class
 
--- a plan that passes has a start
-pub start-there : (table : List ℕ) (player : ℕ) (plan : List ℕ) → accepted [] ≡ planAnswer table player plan → 2 < length plan
-start-there table player plan e = let s = plan-accepted table player plan [] (sym e) .0 .sized in omega (arith, s .some, s .size)
-
 module _ (table : List ℕ) (player : ℕ) (plan : List ℕ) (class : ℕ) (c : TableCounts) where
-  pub start-refused : (k p : ℕ) → refused k p ≡ planAnswer table player plan → refused k p ≡ startAnswer table player plan class c
-  unfolding planAnswer startAnswer
-  start-refused k p e = sym (recount (gameRows table ++ planRows table player plan) [] _ (sym e))
+  pub start-refused : (k p : ℕ) → refused k p ≡ judge (planRows table player plan) [] → refused k p ≡ startAnswer table player plan class c
+  unfolding startAnswer
+  start-refused k p e = sym (recount (planRows table player plan) [] _ (sym e))
 
-  module _ (e : accepted [] ≡ planAnswer table player plan) where
+  module _ (e : accepted [] ≡ judge (planRows table player plan) []) where
     start-passed : accepted (c .classes ∷ c .vertices ∷ c .edges ∷ bit (eqb (vertexAt plan 0) class) ∷ []) ≡ startAnswer table player plan class c
-    unfolding planAnswer startAnswer
-    start-passed = sym (judge-clean (gameRows table ++ planRows table player plan) _ (judge-accepted _ _ _ (sym e) .0))
+    unfolding startAnswer
+    start-passed = sym (judge-clean (planRows table player plan) _ (judge-accepted _ _ _ (sym e) .0))
 
     pub start-wins : vertexAt plan 0 ≡ class → accepted (c .classes ∷ c .vertices ∷ c .edges ∷ 1 ∷ []) ≡ startAnswer table player plan class c
     unfolding bit
@@ -83,15 +82,21 @@ read-sized {game} e a = reading-accepted game _ (rw e at a)
 
 module _ {game marks spare classes reduction : List ℕ} {answer : Answer} {marks′ spare′ classes′ reduction′ : List ℕ}
     (table : TableCall reduced game marks spare classes reduction answer marks′ spare′ classes′ reduction′)
-    (c : TableCounts) (accepts : answer ≡ accepted (c .classes ∷ c .vertices ∷ c .edges ∷ [])) where
-  pub reduced-small : (c .vertices ≤ vertexLimit) × (c .edges ≤ edgeLimit)
-  reduced-small =
-      let (w, e) = read-accepted _ _ (table-read reduced-faithful table _ _ _ accepts) in
-      let n : c .vertices ≡ vertexCount (writtenTable (c .vertices) (c .edges) reduction′) = cc e in
-      let m : c .edges ≡ tableEdges (writtenTable (c .vertices) (c .edges) reduction′) = cc e in
-      (omega (arith, w .vertices), omega (arith, w .edges))
+    (k n e : ℕ) (accepts : answer ≡ accepted (k ∷ n ∷ e ∷ [])) where
+  abbrev written : List ℕ
+  written = writtenTable n e reduction′
 
-  pub reduced-long : tableLength (c .vertices) (c .edges) ≤ length reduction′
+  -- the reader accepts the written table, with these sizes
+  written-read : WellFormed written × (n ≡ vertexCount written) × (e ≡ tableEdges written)
+  written-read = let (w, counts) = read-accepted _ _ (table-read reduced-faithful table _ _ _ accepts) in (w, cc counts, cc counts)
+
+  pub written-well : WellFormed written
+  written-well = written-read .0
+
+  pub reduced-small : (n ≤ vertexLimit) × (e ≤ edgeLimit)
+  reduced-small = let (w, vertices, edges) = written-read in (omega (arith, w .vertices), omega (arith, w .edges))
+
+  pub reduced-long : tableLength n e ≤ length reduction′
   reduced-long = table-long reduced-faithful table _ _ _ accepts
 
   pub classes-long : vertexCount game ≤ length classes′
@@ -180,9 +185,6 @@ module _ (game : List ℕ) (vertex player : ℕ) (plan marks spare classes reduc
         }
 
         module _ (c : TableCounts) (accepts : answer ≡ accepted (c .classes ∷ c .vertices ∷ c .edges ∷ [])) where
-          abbrev t : List ℕ
-          t = writtenTable (c .vertices) (c .edges) reduction′
-
           abbrev given : List ℕ
           given = c .classes ∷ c .vertices ∷ c .edges ∷ bit (eqb (vertexAt plan 0) (getD classes′ vertex 0)) ∷ []
 
@@ -196,14 +198,14 @@ module _ (game : List ℕ) (vertex player : ℕ) (plan marks spare classes reduc
           front-clean : Clean front
           front-clean = judge-accepted front (tableCounts reduced game) _ (front-judge _ ∙ sym (table .verdict) ∙ accepts) .0
 
-          -- what the plan acceptor says of the written table, and where the plan starts
-          pub verdict-judged : (answer₂ : Answer) → answer₂ ≡ startAnswer t player plan (getD classes′ vertex 0) c
+          -- what 11 to 16 say of the written table, and where the plan starts
+          pub verdict-judged : (answer₂ : Answer)
+              → answer₂ ≡ startAnswer (writtenTable (c .vertices) (c .edges) reduction′) player plan (getD classes′ vertex 0) c
               → Call answer₂ marks′ spare′ classes′ reduction′
           unfolding verdictRows startAnswer
           verdict-judged answer₂ e = record {
             verdict =
-                e ∙ read-plan t player plan (table-read reduced-faithful table _ _ _ accepts) given
-                ∙ ap₂ (λ (w xs : List ℕ). judge (planRows w player plan) xs) (table-is reduced-faithful table _ _ _ accepts) counts-are
+                e ∙ ap₂ (λ (w xs : List ℕ). judge (planRows w player plan) xs) (table-is reduced-faithful table _ _ _ accepts) counts-are
                 ∙ sym (judge-past front _ counts front-clean);
             marks-after = table .marks-after ∙ sym (front-after (orderBytes game) marks);
             spare-after = table .spare-after ∙ sym (front-after (orderBytes game) spare);

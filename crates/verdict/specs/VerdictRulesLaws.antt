@@ -10,8 +10,8 @@ use Rattle.theory.specs.classes.Reduction.{reduced}
 use Rattle.table.specs.Table.{vertexCount}
 use Rattle.table.specs.Answers.{Row, Answer, accepted, refused, Clean}
 use Rattle.table.specs.AnswersLaws.{judge-clean, judge-accepted, after-refused, clean-append, clean-split}
-use Rattle.table.specs.Reading.{gameRows, readAnswer}
-use Rattle.table.specs.ReadingLaws.{rows-render, read-accepted, well-clean, clean-well}
+use Rattle.table.specs.Reading.{gameRows}
+use Rattle.table.specs.ReadingLaws.{rows-render, well-clean, clean-well}
 use Rattle.table.specs.WellFormed.{WellFormed}
 use Rattle.table.specs.Rules.{FirstRule, Rendered, none, next}
 use Rattle.table.specs.RulesLaws.{renders-placed, memory-renders, rendered-append}
@@ -27,9 +27,9 @@ use Rattle.plan.specs.AcceptanceRules.{Accepts}
 use Rattle.plan.specs.AcceptanceLaws.{plan-decides}
 use Rattle.plan.specs.WinningLaws.{plan-accepted, plan-accepts}
 use Rattle.plan.specs.NumbersLaws.{Numbers, numbers-append, game-numbers, plan-numbers, refused-first, passed-first}
-use Rattle.claims.specs.Demands.{reduced-faithful, table-is, table-read}
+use Rattle.claims.specs.Demands.{reduced-faithful, table-is}
 use Rattle.verdict.specs.VerdictCall.{beforePlanRows, verdictRows, verdictCounts, VerdictCall}
-use Rattle.verdict.specs.VerdictCallLaws.{read-plan, front-judge, front-after}
+use Rattle.verdict.specs.VerdictCallLaws.{read-plan, written-well, front-judge, front-after}
 use Rattle.verdict.specs.VerdictRules.{beforePlanRules, verdictRules, VerdictFits, OfPlan}
 
 module _ (game : List ℕ) (vertex : ℕ) (marks spare classes reduction : List ℕ) where
@@ -93,24 +93,21 @@ module _ {game : List ℕ} {vertex player : ℕ} {plan marks spare classes reduc
 
   -- so the reader accepts the table of the reduced game
   module _ (c : Clean front) where
-    reduced-read : (counts : List ℕ) × (readAnswer (classTable reduced game) ≡ accepted counts)
-    reduced-read = (_, rw (table-is reduced-faithful (verdict-table c) _ _ _ refl) at (table-read reduced-faithful (verdict-table c) _ _ _ refl))
-
     reduced-well : WellFormed (classTable reduced game)
-    reduced-well = read-accepted (classTable reduced game) _ (reduced-read .1) .0
+    reduced-well = rw (table-is reduced-faithful (verdict-table c) _ _ _ refl) at (written-well (verdict-table c) _ _ _ refl)
 
     -- and 11 to 16 are passed exactly by the plans that the acceptor accepts
     plan-clean : Clean (planRows (classTable reduced game) player plan) → Accepts (classTable reduced game) player plan
     unfolding planAnswer
     plan-clean d =
         plan-accepted (classTable reduced game) player plan []
-        (read-plan (classTable reduced game) player plan (reduced-read .1) [] ∙ judge-clean _ [] d) .0
+        (read-plan (classTable reduced game) player plan reduced-well [] ∙ judge-clean _ [] d) .0
 
     clean-plan : Accepts (classTable reduced game) player plan → Clean (planRows (classTable reduced game) player plan)
     unfolding planAnswer
     clean-plan a =
         judge-accepted _ [] []
-        (sym (read-plan (classTable reduced game) player plan (reduced-read .1) []) ∙ plan-accepts (classTable reduced game) player plan a) .0
+        (sym (read-plan (classTable reduced game) player plan reduced-well []) ∙ plan-accepts (classTable reduced game) player plan a) .0
 
   pub verdict-refused : (k p : ℕ) → (answer ≡ refused k p) ↔ FirstRule (verdictRules game vertex player plan marks spare classes reduction) k p
   unfolding verdictRows

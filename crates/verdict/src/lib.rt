@@ -1,15 +1,16 @@
 // The verdict call: whether a plan on the reduced game shows that a player wins at a vertex of the game. The crate calls the reduction and the
-// plan acceptor, and concludes from their promises and the transfer of winners alone.
-use plan::accept_plan;
+// plan acceptor, each by the part that supposes a game that was read, and concludes from their promises and the transfer of winners alone.
+use plan::judge_plan;
 use reduction::TableCounts;
 use reduction::Tabulation;
-use reduction::write_reduced;
+use reduction::tabulate_classes;
 use table::Acceptance;
 use table::Filling;
 use table::Refusal;
 use table::refusal_of;
 ghost use mathlib.Core.Path.{_≡_};
 ghost use Rattle.table.specs.Lent.{old, new};
+ghost use Rattle.table.specs.WellFormed.{WellFormed};
 ghost use Rattle.verdict.specs.VerdictCall.{verdictAnswer, startAnswer, VerdictCall};
 
 // What is confirmed of a player and a vertex. Wins and NotShown carry the number of classes and the reduced game's vertices and edges.
@@ -47,7 +48,7 @@ pub fn give_verdict(
             place: v,
         });
     }
-    let written = write_reduced(game, marks, spare, classes, reduction);
+    let written = tabulate_classes(game, sizes, marks, spare, classes, reduction, true);
     match written {
         Tabulation::Accepted(counts) => {
             let size = 2 + 2 * counts.vertices + 2 * counts.edges;
@@ -57,7 +58,7 @@ pub fn give_verdict(
     }
 }
 
-// The plan acceptor on the table of the reduced game, and whether the plan starts at the class.
+// 11 to 16 about the reduced game, whose table is well formed as it was written, and whether the plan starts at the class.
 fn judge_reduced(
     reduced: &[u16],
     player: u32,
@@ -65,9 +66,10 @@ fn judge_reduced(
     class: u16,
     counts: TableCounts,
 ) -> Verdict
+    requires { ⌜ WellFormed (now reduced) ⌝ }
     ensures { λ r. ⌜ verdictAnswer r ≡ startAnswer (old reduced) player (old plan) class counts ⌝ }
 {
-    let judged = accept_plan(reduced, player, plan);
+    let judged = judge_plan(reduced, player, plan);
     if let Acceptance::Refused(refusal) = judged {
         return Verdict::Refused(refusal);
     }

@@ -2,10 +2,11 @@
 -- with the reverses that `mirror` asks, they are what the round takes out and counts.
 use mathlib.Core.Path.{sym, _∙_}
 use native.Mathlib.Omega.{arith}
-use Rattle.order_rows.specs.MatrixLaws.{cell-row}
+use Rattle.words.specs.Words.{has}
+use Rattle.order_rows.specs.MatrixLaws.{row-alone}
 use Rattle.words.specs.WordsLaws.{has-zero}
-use Rattle.order_rows.specs.Bits.{rowWords}
-use Rattle.order_rounds.specs.RoundsLaws.{round-of}
+use Rattle.order_rows.specs.Bits.{rowBits, rowWords}
+use Rattle.order_sets.specs.RoundsLaws.{round-of}
 use borrow.Author.Needs.{needs}
 use Rattle.order_rounds.proofs.round.Statement.{statement}
 use Rattle.order_rounds.proofs.round.Tie as tie
@@ -83,9 +84,6 @@ same-length-4 c = search needs
 same-length-5 : tie.Need-same-length-5
 same-length-5 c = search needs
 
-abbrev returns-start : tie.After-slice-known13 → tie.Start
-returns-start c = c .before .before .before .before .before .before .before .before .before .before .before .before .before .before .before .before .before .before .before .before .before .before .before .before .before .before .before .before .before .before .before .before .before .before .before .before .before .before .before .before .before .before .before
-
 abbrev at-row : tie.After-slice-known13 → tie.After-row
 at-row c = c .before .before .before .before .before .before .before .before .before .before .before .before .before .before .before .before .before .before .before .before .before .before .before .before .before .before .before .before .before .before .before .before .before .before .before
 
@@ -99,9 +97,8 @@ abbrev returns-complete : tie.After-slice-known13 → tie.After-complete
 returns-complete c = search
 
 returns : tie.Need-returns
-returns c = let a = returns-start c .args in
-    λ G r f m.
-    round-of G _ _ _ _ _ _ _ _ _ r f (λ x h. at-row c .row .ensures x h ∙ cell-row (a .changed .now) x) (at-unite c .unite .ensures) (returns-lose-all c .lose-all .ensures) _ _ _ (returns-complete c .complete .ensures) m _ _ _ _ (c .before .before .before .before .before .before .take-all .ensures)
+returns c = λ G r f m.
+    round-of rowBits G _ _ _ _ (has _) (has _) (has _) _ (has _) r f (row-alone _ _ (at-row c .row .ensures)) (at-unite c .unite .ensures) (returns-lose-all c .lose-all .ensures) _ _ (has _) (returns-complete c .complete .ensures) m _ _ _ _ (c .before .before .before .before .before .before .take-all .ensures)
 
 pub round-spec : {M : Type 1} → statement M
 round-spec =

@@ -8,10 +8,11 @@ use lib.ListN.{length}
 use Rattle.theory.specs.order.Rows.{AfterRound}
 use Rattle.table.specs.Limits.{pairLimit}
 use Rattle.table.specs.Table.{pairCount, gameOf}
-use Rattle.order_rows.specs.Bits.{cell}
+use Rattle.words.specs.Words.{has}
+use Rattle.order_rows.specs.Bits.{rowBits, cell}
 use Rattle.order_losses.specs.Losses.{struck, Fell}
 use Rattle.order_rounds.specs.Rounds.{RoundOf}
-use Rattle.order_rounds.specs.RoundsLaws.{after-more, after-last}
+use Rattle.order_sets.specs.RoundsLaws.{after-more, after-last}
 use borrow.Author.Needs.{needs}
 use Rattle.order_rounds.proofs.settle.Statement.{statement}
 use Rattle.order_rounds.proofs.settle.Tie as tie
@@ -79,7 +80,7 @@ at-round c = search
 
 returns : tie.Need-returns Inv-loop μ-loop
 returns c = let r = at-round c in
-    after-last _ _ _ _ _ _ _ _ _ _ _ (r .before .before .before .before .before .before .loop .inv .6) (done r) (c .if1 .taken)
+    after-last rowBits _ _ _ _ _ _ (has _) _ _ _ (has _) (r .before .before .before .before .before .before .loop .inv .6) (done r) (c .if1 .taken)
 
 abbrev again-round : tie.Else1 Inv-loop μ-loop → tie.After-round Inv-loop μ-loop
 again-round c = search
@@ -87,7 +88,7 @@ again-round c = search
 -- one pass more
 more : (c : tie.Else1 Inv-loop μ-loop) → let r = again-round c in
     AfterRound (start (r .before .before .before .before .before .before) .args .mirror) (gameOf (start (r .before .before .before .before .before .before) .args .game .now)) (r .before .before .before .before .before .before .loop .passes + 1) (cell (r .round .last .1 .0)) (struck (r .round .last .1 .1 .1 .1 .1 .0) (r .round .last .1 .1 .0))
-more c = let r = again-round c in after-more _ _ _ _ _ _ _ _ _ _ _ (r .before .before .before .before .before .before .loop .inv .6) (done r) (c .if1 .left)
+more c = let r = again-round c in after-more rowBits _ _ _ _ _ _ (has _) _ _ _ (has _) (r .before .before .before .before .before .before .loop .inv .6) (done r) (c .if1 .left)
 
 loop-less : tie.Need-loop-less Inv-loop μ-loop
 unfolding gameOf

@@ -1,14 +1,16 @@
--- The reader's refusal, or 33; then the reduced-game call's, or what the plan acceptor says of the table that it wrote.
+-- The reader's refusal, or 33; then the reduction's, or what 11 to 16 say of the table that it wrote.
 use mathlib.Core.Path.{sym, ap}
 use Prim.Native.Nat.{_≤_, _<_}
 use native.Mathlib.Omega.{arith}
 use lib.Seq.{length-take-le}
+use Rattle.theory.specs.classes.Reduction.{reduced}
 use Rattle.table.specs.Limits.{vertexLimit, edgeLimit}
 use Rattle.table.specs.Table.{vertexCount}
 use Rattle.table.specs.ReadingLaws.{well-clean}
-use Rattle.table.specs.WellFormed.{WellFormed}
-use Rattle.reduction.specs.TableCall.{tabulationAnswer}
-use Rattle.verdict.specs.VerdictCallLaws.{read-sized, reduced-small, reduced-long, classes-long, verdict-handed, verdict-beyond, verdict-short, verdict-judged}
+use Rattle.table.specs.WellFormed.{WellFormed, WellSized}
+use Rattle.reduction_edges.specs.Rows.{gameBy}
+use Rattle.reduction.specs.TableCall.{tabulationAnswer, TableCall}
+use Rattle.verdict.specs.VerdictCallLaws.{read-sized, written-well, reduced-small, reduced-long, classes-long, verdict-handed, verdict-beyond, verdict-short, verdict-judged}
 use borrow.Author.Needs.{needs}
 use Rattle.verdict.proofs.give_verdict.Statement.{statement}
 use Rattle.verdict.proofs.give_verdict.Tie as tie
@@ -19,14 +21,14 @@ start c = c .before .before .before .before .before .before .before
 abbrev reader : tie.After-reading → tie.After-read-sizes
 reader c = c .before .before
 
-abbrev else : tie.After-write-reduced → tie.Else1
+abbrev else : tie.After-tabulate-classes → tie.Else1
 else c = c .before .before .before .before .before
 
-abbrev wrote : tie.After-slice-known8 → tie.After-write-reduced
+abbrev wrote : tie.After-slice-known8 → tie.After-tabulate-classes
 wrote c = search
 
--- where the reduced-game call accepted
-abbrev there : tie.After-written → tie.After-write-reduced
+-- where the reduction accepted
+abbrev there : tie.After-written → tie.After-tabulate-classes
 there c = wrote (c .before .before)
 
 abbrev known : tie.After-struct-known3 → tie.After-written
@@ -35,19 +37,31 @@ known c = c .before .before .before
 abbrev sliced : tie.After-judge-reduced-arg → tie.After-struct-known3
 sliced c = c .before
 
+-- what the reduction leaves
+table : (c : tie.After-tabulate-classes)
+    → let a = start (reader (else c .before .before .before)) .args in
+    TableCall reduced (a .game .now) (a .marks .now) (a .spare .now) (a .classes .now) (a .reduction .now) (tabulationAnswer (c .tabulate-classes .result))
+    (c .tabulate-classes .last .1 .1 .0) (c .tabulate-classes .last .1 .1 .1 .0) (c .tabulate-classes .last .1 .1 .1 .1 .0)
+    (c .tabulate-classes .last .1 .1 .1 .1 .1 .0)
+unfolding gameBy
+table c = c .tabulate-classes .ensures
+
 -- the reader accepted
+sizes : (c : tie.After-reading) → WellSized (start (reader c) .args .game .now) (c .reading .given .0 .0)
+sizes c = read-sized (c .reading .given .1) (reader c .read-sizes .ensures)
+
 well : (c : tie.After-reading) → WellFormed (start (reader c) .args .game .now)
-well c = read-sized (c .reading .given .1) (reader c .read-sizes .ensures) .well
+well c = sizes c .well
 
 -- the vertex is below n
 below : (c : tie.Else1) → let a = start (reader (c .before .before .before)) .args in a .vertex < vertexCount (a .game .now)
 below c =
     let r = c .before .before .before in
-    omega (arith, c .if1 .left, read-sized (r .reading .given .1) (reader r .read-sizes .ensures) .vertices)
+    omega (arith, c .if1 .left, sizes r .vertices)
 
 -- the reduced game is within the limits
 small : (c : tie.After-written) → let k = c .written .given .0 .0 in (k .vertices ≤ vertexLimit) × (k .edges ≤ edgeLimit)
-small c = reduced-small (there c .write-reduced .ensures) _ (ap tabulationAnswer (c .written .given .1))
+small c = reduced-small (table (there c)) _ _ _ (ap tabulationAnswer (c .written .given .1))
 
 read-sizes-requires : tie.Need-read-sizes-requires
 read-sizes-requires c κs = search needs
@@ -70,10 +84,10 @@ returns-2 : tie.Need-returns-2
 returns-2 c =
     let r = c .before .before .before in
     verdict-beyond _ _ _ _ _ _ _ _ (well-clean _ (well r))
-    (omega (arith, c .if1 .taken, read-sized (r .reading .given .1) (reader r .read-sizes .ensures) .vertices))
+    (omega (arith, c .if1 .taken, sizes r .vertices))
 
-write-reduced-requires : tie.Need-write-reduced-requires
-write-reduced-requires c κs = search needs
+tabulate-classes-requires : tie.Need-tabulate-classes-requires
+tabulate-classes-requires c κs = sizes (c .before .before .before .before .before .before .before)
 
 enum-known-written : tie.Need-enum-known-written
 enum-known-written c = search needs
@@ -91,7 +105,7 @@ add-size-2 : tie.Need-add-size-2
 add-size-2 c = omega (arith, small (known c))
 
 slice-reshare-prefix-judge-reduced : tie.Need-slice-reshare-prefix-judge-reduced
-slice-reshare-prefix-judge-reduced c = let k = known c in reduced-long (there k .write-reduced .ensures) _ (ap tabulationAnswer (k .written .given .1))
+slice-reshare-prefix-judge-reduced c = let k = known c in reduced-long (table (there k)) _ _ _ (ap tabulationAnswer (k .written .given .1))
 
 slice-aggregate-judge-reduced : tie.Need-slice-aggregate-judge-reduced
 slice-aggregate-judge-reduced c = sym (length-take-le _ _ (slice-reshare-prefix-judge-reduced (sliced c)))
@@ -105,10 +119,12 @@ slice-read-judge-reduced : tie.Need-slice-read-judge-reduced
 slice-read-judge-reduced c =
     let k = known (sliced (c .before)) in
     let w = there k in
-    omega (arith, below (else w), classes-long (w .write-reduced .ensures) _ (ap tabulationAnswer (k .written .given .1)))
+    omega (arith, below (else w), classes-long (table w) _ _ _ (ap tabulationAnswer (k .written .given .1)))
 
 judge-reduced-requires : tie.Need-judge-reduced-requires
-judge-reduced-requires c κs = search needs
+judge-reduced-requires c κs =
+    let k = known (sliced (c .before)) in
+    written-well (table (there k)) _ _ _ (ap tabulationAnswer (k .written .given .1))
 
 enum-known-written-2 : tie.Need-enum-known-written-2
 enum-known-written-2 c = search needs
@@ -130,7 +146,7 @@ returns-3 c =
     let k = known (sliced (c .before .before)) in
     let w = there k in
     let e = else w in
-    verdict-judged _ _ _ _ _ _ _ _ (well-clean _ (well (e .before .before .before))) (below e) (w .write-reduced .ensures) _
+    verdict-judged _ _ _ _ _ _ _ _ (well-clean _ (well (e .before .before .before))) (below e) (table w) _
     (ap tabulationAnswer (k .written .given .1)) _ (c .judge-reduced .ensures)
 
 same-length-5 : tie.Need-same-length-5
@@ -150,7 +166,7 @@ returns-4 c =
     let k = c .before in
     let w = wrote (k .before .before) in
     let e = else w in
-    verdict-short _ _ _ _ _ _ _ _ (well-clean _ (well (e .before .before .before))) (below e) (w .write-reduced .ensures) _ _
+    verdict-short _ _ _ _ _ _ _ _ (well-clean _ (well (e .before .before .before))) (below e) (table w) _ _
     (ap tabulationAnswer (k .written2 .given .1))
 
 pub give-verdict-spec : {M : Type 1} → statement M
@@ -163,7 +179,7 @@ give-verdict-spec =
     refusal-of-requires
     returns
     returns-2
-    write-reduced-requires
+    tabulate-classes-requires
     enum-known-written
     mul-size
     add-size

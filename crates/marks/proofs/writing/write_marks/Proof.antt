@@ -6,6 +6,7 @@ use native.Mathlib.Omega.{arith}
 use lib.ListN.{length}
 use Rattle.theory.specs.logic.Range.{tabulate}
 use Rattle.table.specs.Answers.{written}
+use Rattle.order_rows.specs.Bits.{cell}
 use Rattle.marks.specs.Marks.{bytes}
 use Rattle.marks.specs.MarkWriting.{rowMark}
 use Rattle.marks.specs.MarkWritingLaws.{held-none, rows-next}
@@ -17,13 +18,13 @@ abbrev Inv-loop : tie.InvT-loop
 Inv-loop rows n marks₀ v₀ marks v =
     (v ≤ n)
     × (length marks ≡ length marks₀)
-    × (marks ≡ written (bytes (tabulate (v * n) (rowMark n rows))) marks₀)
+    × (marks ≡ written (bytes (tabulate (v * n) (rowMark n (cell rows)))) marks₀)
 
 abbrev μ-loop : tie.MeasureT-loop
 μ-loop rows n marks₀ v₀ marks v = n - v
 
 loop-holds : tie.Need-loop-holds Inv-loop μ-loop
-loop-holds c = let a = c .before .before .args in (search needs, refl, rw (zero-mul (a .n)) (held-none (rowMark (a .n) (a .rows .now)) (a .marks .now)))
+loop-holds c = let a = c .before .before .args in (search needs, refl, rw (zero-mul (a .n)) (held-none (rowMark (a .n) (cell (a .rows .now))) (a .marks .now)))
 
 write-row-requires : tie.Need-write-row-requires Inv-loop μ-loop
 write-row-requires c κs = let l = c .before .before in
@@ -41,7 +42,7 @@ loop-again c = let l = c .before .before .before .before .before in
     let i = l .loop .inv in (
       search needs,
       c .before .before .write-row .kept .1 .1 .1 .0 ∙ i .1,
-      rows-next (s .args .n) (s .args .rows .now) (l .loop .v) _ _ _ (s .pre .2) (i .2) (c .before .before .write-row .ensures),
+      rows-next (s .args .n) (cell (s .args .rows .now)) (l .loop .v) _ _ _ (s .pre .2) (i .2) (c .before .before .write-row .ensures),
     )
 
 same-length : tie.Need-same-length Inv-loop μ-loop

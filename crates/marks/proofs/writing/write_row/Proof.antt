@@ -5,8 +5,9 @@ use native.Mathlib.Nat.{mul-le-mul}
 use native.Mathlib.Omega.{arith}
 use lib.ListN.{length}
 use Rattle.table.specs.Limits.{pairLimit}
+use Rattle.order_rows.specs.Bits.{cell}
 use Rattle.marks.specs.MarkWriting.{RowWritten}
-use Rattle.marks.specs.MarkWritingLaws.{row-inside, row-start, row-next}
+use Rattle.marks.specs.MarkWritingLaws.{row-inside, row-start, row-next, cells-are}
 use borrow.Author.Needs.{needs}
 use Rattle.marks.proofs.writing.write_row.Statement.{statement}
 use Rattle.marks.proofs.writing.write_row.Tie as tie
@@ -16,7 +17,7 @@ Inv-loop rows n v marks₀ row w₀ marks w =
     (w ≤ n)
     × (w < n → w % 64 ≡ 0)
     × (length marks ≡ length marks₀)
-    × RowWritten n rows v w marks₀ marks
+    × RowWritten n (cell rows) v w marks₀ marks
 
 abbrev μ-loop : tie.MeasureT-loop
 μ-loop rows n v marks₀ row w₀ marks w = n - w
@@ -73,7 +74,8 @@ loop-again c = let l = c .before .before .before .before .before .before .before
       omega (arith, e),
       λ h. omega (arith, e, h, i .1 t),
       c .before .before .write-bits .kept .0 ∙ i .2,
-      row-next (s .args .n) (s .args .rows .now) (s .args .v) (l .loop .w) _ _ _ _ (s .pre .0) t (i .1 t) e (i .3) (c .before .before .write-bits .ensures),
+      row-next (s .args .n) (cell (s .args .rows .now)) (s .args .v) (l .loop .w) _ _ _ _ _ (s .pre .0) (omega (arith, e, t)) (omega (arith, e))
+          (λ k h. cells-are (s .args .rows .now) (s .args .v) (l .loop .w) k (i .1 t) (omega (arith, e, h))) (i .3) (c .before .before .write-bits .ensures),
     )
 
 same-length : tie.Need-same-length Inv-loop μ-loop

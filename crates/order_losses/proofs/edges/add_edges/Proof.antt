@@ -6,7 +6,7 @@ use Prim.Native.Nat.{_-_, _≤_, _<_}
 use native.Mathlib.Omega.{arith}
 use lib.ListN.{length}
 use Rattle.order_losses.specs.Losses.{EdgesTo}
-use Rattle.order_losses.specs.EdgesLaws.{edges-start, edges-next}
+use Rattle.order_sets.specs.EdgesLaws.{edges-start, edges-next}
 use borrow.Author.Needs.{needs}
 use Rattle.order_losses.proofs.edges.add_edges.Statement.{statement}
 use Rattle.order_losses.proofs.edges.add_edges.Tie as tie
@@ -52,7 +52,7 @@ add-targets : tie.Need-add-targets Inv-loop μ-loop
 add-targets c = search needs
 
 loop-holds : tie.Need-loop-holds Inv-loop μ-loop
-loop-holds c = let s = c .before .before .before .before in (search needs, refl, edges-start _ _ (s .pre .1 .1))
+loop-holds c = let s = c .before .before .before .before in (search needs, refl, edges-start rowBits _ _ (s .pre .1 .1))
 
 add-v : tie.Need-add-v Inv-loop μ-loop
 add-v c = search needs
@@ -102,7 +102,7 @@ loop-again c = let t = at-in-loop c in
     let l = t .before in (
       search needs,
       c .before .before .add2 .kept .0 ∙ c .before .before .before .before .before .before .add .kept .0 ∙ l .loop .inv .1,
-      edges-next _ (l .loop .j) _ _ _ (ends t .0) (ends t .1) (l .loop .inv .2) (c .before .before .before .before .before .before .add .ensures) (c .before .before .add2 .ensures),
+      edges-next rowBits _ (l .loop .j) _ _ _ (ends t .0) (ends t .1) (l .loop .inv .2) (c .before .before .before .before .before .before .add .ensures) (c .before .before .add2 .ensures),
     )
 
 same-length : tie.Need-same-length Inv-loop μ-loop

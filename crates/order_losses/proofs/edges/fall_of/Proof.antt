@@ -2,7 +2,9 @@
 use mathlib.Core.Path.{refl, sym, _∙_}
 use mathlib.Core.Bool.{true}
 use Rattle.theory.specs.logic.BoolsLaws.{and-one}
-use Rattle.order_losses.specs.LossesLaws.{near-is, fall-rows}
+use Rattle.words.specs.Words.{has}
+use Rattle.order_sets.specs.LossesLaws.{near-is, fall-rows}
+use Rattle.order_rows.specs.Bits.{rowBits, cell}
 use borrow.Author.Needs.{needs}
 use Rattle.order_losses.proofs.edges.fall_of.Statement.{statement}
 use Rattle.order_losses.proofs.edges.fall_of.Tie as tie
@@ -23,8 +25,8 @@ returns : tie.Need-returns
 returns c = let a = c .before .before .before .before .args in
     λ G s w h.
     c .falling .ensures w h
-    ∙ fall-rows G (a .edges .now) s (a .l) (a .x) _ _ true w h (c .before .row .ensures w h)
-    (c .before .before .unite .ensures w h ∙ near-is G (a .edges .now) s (a .l) w h ∙ sym (and-one _ refl))
+    ∙ fall-rows rowBits G (cell (a .edges .now)) s (has (a .l)) (has (a .x)) (has _) (has _) true w h (c .before .row .ensures w h)
+    (c .before .before .unite .ensures w h ∙ near-is rowBits G (cell (a .edges .now)) s (has (a .l)) w h ∙ sym (and-one _ refl))
     ∙ and-one _ refl
 
 pub fall-of-spec : {M : Type 1} → statement M

@@ -2,7 +2,9 @@
 use mathlib.Core.Path.{ap₂, _∙_}
 use mathlib.Core.Bool.{not}
 use Rattle.theory.specs.logic.Bools.{_&_}
-use Rattle.order_losses.specs.LossesLaws.{near-is, fall-rest}
+use Rattle.words.specs.Words.{has}
+use Rattle.order_sets.specs.LossesLaws.{near-is, fall-rest}
+use Rattle.order_rows.specs.Bits.{rowBits, cell}
 use borrow.Author.Needs.{needs}
 use Rattle.order_losses.proofs.edges.fall_of_all.Statement.{statement}
 use Rattle.order_losses.proofs.edges.fall_of_all.Tie as tie
@@ -46,8 +48,8 @@ returns-2 c = let a = c .before .before .before .before .before .before .before 
     λ G s t v w h.
     c .without2 .ensures w h
     ∙ ap₂ (λ b d. b & not d) (all .ensures w h) (c .before .falling .ensures w h)
-    ∙ fall-rest G (a .edges .now) s (a .l) (a .x) _ _ w h t v
-    (c .before .before .before .before .unite .ensures w h ∙ near-is G (a .edges .now) s (a .x) w h)
+    ∙ fall-rest rowBits G (cell (a .edges .now)) s (has (a .l)) (has (a .x)) (has _) (has _) w h t v
+    (c .before .before .before .before .unite .ensures w h ∙ near-is rowBits G (cell (a .edges .now)) s (has (a .x)) w h)
     (c .before .before .without .ensures w h ∙ ap₂ (λ b d. b & not d) (all .ensures w h) (c .before .before .before .row .ensures w h))
 
 pub fall-of-all-spec : {M : Type 1} → statement M

@@ -1,5 +1,6 @@
 -- Odd's vertices are those whose owner word isn't 0; their row is put behind the rows of the edges, which stay as they were.
-use Rattle.order_losses.specs.EdgesLaws.{edges-end}
+use Rattle.order_sets.specs.EdgesLaws.{edges-end}
+use Rattle.order_rows.specs.Bits.{rowBits}
 use borrow.Author.Needs.{needs}
 use Rattle.order_losses.proofs.edges.fill.Statement.{statement}
 use Rattle.order_losses.proofs.edges.fill.Tie as tie
@@ -35,7 +36,7 @@ abbrev at-add-edges : tie.After-slice-known3 → tie.After-add-edges
 at-add-edges c = search
 
 returns : tie.Need-returns
-returns c = edges-end _ _ _ _ (at-start c .pre .0) (at-add-edges c .add-edges .ensures) (c .before .before .before .differing .ensures) (c .before .before .put .ensures)
+returns c = edges-end rowBits _ _ _ _ (at-start c .pre .0) (at-start c .pre .0 .vertices) (at-add-edges c .add-edges .ensures) (c .before .before .before .differing .ensures) (c .before .before .put .ensures)
 
 pub fill-spec : {M : Type 1} → statement M
 fill-spec =

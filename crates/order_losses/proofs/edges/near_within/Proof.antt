@@ -3,7 +3,8 @@ use mathlib.Core.Path.{ap, _∙_}
 use mathlib.Core.Bool.{not}
 use Rattle.theory.specs.logic.Bools.{_&_}
 use Rattle.words.specs.Words.{has}
-use Rattle.order_losses.specs.LossesLaws.{near-is, near-apart}
+use Rattle.order_sets.specs.LossesLaws.{near-is, near-apart}
+use Rattle.order_rows.specs.Bits.{rowBits, cell}
 use borrow.Author.Needs.{needs}
 use Rattle.order_losses.proofs.edges.near_within.Statement.{statement}
 use Rattle.order_losses.proofs.edges.near_within.Tie as tie
@@ -25,7 +26,7 @@ returns c = let a = c .before .before .before .before .before .before .args in
     λ G s w h.
     c .without .ensures w h
     ∙ ap (λ b. has (a .mask) w & not b) (c .before .apart-of .ensures w h)
-    ∙ near-apart G (a .edges .now) s (a .l) (has (a .mask) w) w h
+    ∙ near-apart rowBits G (cell (a .edges .now)) s (has (a .l)) (has (a .mask) w) w h
 
 unite-requires : tie.Need-unite-requires
 unite-requires c κs = search needs
@@ -37,7 +38,7 @@ returns-2 : tie.Need-returns-2
 returns-2 c = let a = c .before .before .before .before .before .before .args in
     λ G s w h.
     c .common .ensures w h
-    ∙ ap (λ b. has (a .mask) w & b) (c .before .unite .ensures w h ∙ near-is G (a .edges .now) s (a .l) w h)
+    ∙ ap (λ b. has (a .mask) w & b) (c .before .unite .ensures w h ∙ near-is rowBits G (cell (a .edges .now)) s (has (a .l)) w h)
 
 pub near-within-spec : {M : Type 1} → statement M
 near-within-spec =

@@ -3,8 +3,8 @@
 use mathlib.Core.Path.{sym, ap, ap₂, _∙_}
 use Rattle.theory.specs.logic.Bools.{_&_}
 use Rattle.words.specs.Words.{has}
-use Rattle.order_rows.specs.Bits.{RowIs, cell}
-use Rattle.order_losses.specs.LossesLaws.{loses-odd, loses-even}
+use Rattle.order_rows.specs.Bits.{rowBits, RowIs, cell}
+use Rattle.order_sets.specs.LossesLaws.{loses-odd, loses-even}
 use borrow.Author.Needs.{needs}
 use Rattle.order_losses.proofs.losses.lose.Statement.{statement}
 use Rattle.order_losses.proofs.losses.lose.Tie as tie
@@ -39,7 +39,7 @@ returns c = let m = c .before .before .before .before in
     let a = start m .args in
     λ G s k f x h.
     c .lose-odd .ensures G s x h
-    ∙ loses-odd G (a .edges .now) s (a .related .now) (a .v) (start m .pre .4) (a .lost .now) (a .changed) _ k (which m) _ (c .before .unite .ensures)
+    ∙ loses-odd rowBits G (cell (a .edges .now)) s (cell (a .related .now)) (a .v) (start m .pre .4) (cell (a .lost .now)) (has (a .changed)) _ k (which m) _ (c .before .unite .ensures)
     (sym (c .before .before .before .holds .ensures) ∙ c .before .before .if1 .taken) x
 
 row-requires-2 : tie.Need-row-requires-2
@@ -57,7 +57,7 @@ returns-2 c = let m = c .before .before .before .before .before in
     λ G s k f x h.
     c .common2 .ensures x h
     ∙ ap₂ _&_ (c .before .before .row2 .ensures x h) (c .before .unite2 .ensures x h)
-    ∙ loses-even G (a .edges .now) s (a .related .now) (a .v) (start m .pre .4) (a .lost .now) (a .changed) _ k (which m) (a .falls .now) f
+    ∙ loses-even rowBits G (cell (a .edges .now)) s (cell (a .related .now)) (a .v) (start m .pre .4) (cell (a .lost .now)) (has (a .changed)) _ k (which m) (cell (a .falls .now)) f
     (sym (c .before .before .before .before .holds .ensures) ∙ c .before .before .before .if1 .left) x h
 
 pub lose-spec : {M : Type 1} → statement M

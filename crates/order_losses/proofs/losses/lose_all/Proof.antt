@@ -1,11 +1,13 @@
 -- Before word j, the losses of the vertices of `near` below 64 × j are written; each word adds those of its 64 vertices.
-use mathlib.Core.Path.{_≡_, refl, _∙_}
+use mathlib.Core.Path.{_≡_, refl, sym, _∙_}
 use Prim.Native.Nat.{_+_, _-_, _*_, _≤_}
 use native.Mathlib.Omega.{arith}
 use lib.ListN.{length}
-use Rattle.order_rows.specs.Bits.{rowWords}
+use Rattle.words.specs.Words.{has}
+use Rattle.order_rows.specs.Bits.{rowBits, rowWords}
+use Rattle.order_rows.specs.MatrixLaws.{cell-row}
 use Rattle.order_losses.specs.Losses.{LossesTo}
-use Rattle.order_losses.specs.LossesLaws.{losses-start}
+use Rattle.order_sets.specs.LossesLaws.{losses-start}
 use borrow.Author.Needs.{needs}
 use Rattle.order_losses.proofs.losses.lose_all.Statement.{statement}
 use Rattle.order_losses.proofs.losses.lose_all.Tie as tie
@@ -24,7 +26,7 @@ abbrev start : tie.At-loop Inv-loop μ-loop → tie.Start Inv-loop μ-loop
 start c = search
 
 loop-holds : tie.Need-loop-holds Inv-loop μ-loop
-loop-holds c = let s = c .before .before .before .before .before .before .before in (omega arith, refl, refl, λ G r f v. losses-start _ (s .args .near .now) _ _ (s .pre .1 .1))
+loop-holds c = let s = c .before .before .before .before .before .before .before in (omega arith, refl, refl, λ G r f v. losses-start rowBits _ (has (s .args .near .now)) _ _ (λ x h. sym (cell-row _ x) ∙ s .pre .1 .1 x h))
 
 lose-word-requires : tie.Need-lose-word-requires Inv-loop μ-loop
 lose-word-requires c κs = let l = c .before .before .before in

@@ -10,7 +10,7 @@ use Rattle.words.specs.Words.{has}
 use Rattle.order_rows.specs.Bits.{rowBits, rowWords, cell}
 use Rattle.words.specs.WordsLaws.{has-zero}
 use Rattle.order_losses.specs.Losses.{EdgeRows}
-use Rattle.order_losses.specs.LossesLaws.{united-is, odd-none, odd-some}
+use Rattle.order_sets.specs.LossesLaws.{united-is, odd-none, odd-some}
 use borrow.Author.Needs.{needs}
 use Rattle.order_losses.proofs.losses.lose_odd.Statement.{statement}
 use Rattle.order_losses.proofs.losses.lose_odd.Tie as tie
@@ -23,7 +23,7 @@ less : (c : tie.After-strip) (G : Game) → EdgeRows G (start c .args .edges .no
     → let a = start c .args in has (c .strip .result) x ≡ has (a .gone) x & not (united G (cell (a .related .now)) (a .v) x)
 less c G s x h = let a = start c .args in
     c .strip .ensures x h
-    ∙ ap (λ b. has (a .gone) x & not b) (united-is G (a .edges .now) s (a .related .now) _ (a .v) x (start c .pre .2) (c .before .row .ensures))
+    ∙ ap (λ b. has (a .gone) x & not b) (united-is rowBits G (cell (a .edges .now)) s (cell (a .related .now)) _ (a .v) x (start c .pre .2) (c .before .row .ensures))
 
 row-requires : tie.Need-row-requires
 row-requires c κs = search needs
@@ -39,7 +39,7 @@ returns c = let u = c .before .before in
     let a = start u .args in
     λ G s x h.
     has-zero rowWords x
-    ∙ sym (odd-none G (a .edges .now) s (a .related .now) (a .v) (start u .pre .2) (a .gone) _ (less u G s)
+    ∙ sym (odd-none rowBits G (cell (a .edges .now)) s (cell (a .related .now)) (a .v) (start u .pre .2) (has (a .gone)) _ (less u G s)
     (sym (c .before .is-some .ensures) ∙ not-out (c .if1 .taken)) x)
 
 unite-requires : tie.Need-unite-requires
@@ -58,8 +58,8 @@ returns-2 c = let u = c .before .before .before .before .before in
     λ G s x h.
     c .fall-within .ensures G s x h
     ∙ ap (λ b. b & fall G (has (u .strip .result)) (has (w .unite .result)) x) (c .before .row2 .ensures x h)
-    ∙ odd-some G (a .edges .now) s (a .related .now) (a .v) (start u .pre .2) (a .gone) _ _ (less u G s)
-    (λ y k. w .unite .ensures y k ∙ united-is G (a .edges .now) s (a .related .now) _ (a .v) y (start u .pre .2) (u .before .row .ensures)) x
+    ∙ odd-some rowBits G (cell (a .edges .now)) s (cell (a .related .now)) (a .v) (start u .pre .2) (has (a .gone)) _ _ (less u G s)
+    (λ y k. w .unite .ensures y k ∙ united-is rowBits G (cell (a .edges .now)) s (cell (a .related .now)) _ (a .v) y (start u .pre .2) (u .before .row .ensures)) x
 
 pub lose-odd-spec : {M : Type 1} → statement M
 lose-odd-spec =

@@ -9,7 +9,9 @@ use Rattle.words.specs.Words.{has}
 use Rattle.words.specs.LeftLaws.{Onward, onward-start, onward-here, onward-next, lowest-none}
 use Rattle.words.specs.WordsLaws.{has-at}
 use Rattle.order_losses.specs.Losses.{LossesTo}
-use Rattle.order_losses.specs.LossesLaws.{losses-step, word-start, word-next}
+use Rattle.order_sets.specs.LossesLaws.{losses-step, word-start, word-next}
+use Rattle.order_rows.specs.Bits.{rowBits}
+use Rattle.order_rows.specs.MatrixLaws.{added-alone}
 use borrow.Author.Needs.{needs}
 use Rattle.order_losses.proofs.losses.lose_word.Statement.{statement}
 use Rattle.order_losses.proofs.losses.lose_word.Tie as tie
@@ -41,7 +43,7 @@ loop-holds c = let s : tie.Start Inv-loop μ-loop = search in
       onward-start (getD near j 0),
       refl,
       refl,
-      λ G r f v. word-start _ near j _ _ (rw e at (s .pre .1 .1 G r f v)),
+      λ G r f v. word-start rowBits _ (has near) (j * 64) (getD near j 0) (has-at near j) _ _ (rw e at (s .pre .1 .1 G r f v)),
     )
 
 mul-v : tie.Need-mul-v Inv-loop μ-loop
@@ -85,9 +87,9 @@ loop-again c = let l = c .before .before .before .before .before .before .before
       c .before .before .before .before .before .before .before .before .put .kept .0 ∙ i .1,
       c .before .before .before .add .kept .0 ∙ i .2,
       λ G r f inside.
-          word-next _ near j _ _ _ _ _ (i .0) m e
-          (losses-step _ near v _ _ _ _ _ _ on (rw (sym (m .is)) at (i .3 G r f inside))
-          (c .before .before .before .before .before .before .before .before .before .before .lose .ensures G r (inside v (omega (arith, start l .pre .1 .0 .3, m .inside)) on) f) (c .before .before .before .before .before .before .before .before .put .ensures) (c .before .before .before .before .is-some .ensures) (c .before .before .before .add .ensures)),
+          word-next rowBits _ (has near) (j * 64) (getD near j 0) (has-at near j) _ _ _ _ _ (i .0) m e
+          (losses-step rowBits _ (has near) v _ _ _ _ _ _ on (rw (sym (m .is)) at (i .3 G r f inside))
+          (c .before .before .before .before .before .before .before .before .before .before .lose .ensures G r (inside v (omega (arith, start l .pre .1 .0 .3, m .inside)) on) f) (c .before .before .before .before .before .before .before .before .put .ensures) (c .before .before .before .before .is-some .ensures) (added-alone _ _ _ _ (c .before .before .before .add .ensures))),
     )
 
 same-length : tie.Need-same-length Inv-loop μ-loop

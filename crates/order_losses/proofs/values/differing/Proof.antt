@@ -3,7 +3,7 @@ use mathlib.Core.Path.{refl}
 use Prim.Native.Nat.{_-_, _≤_}
 use Rattle.order_rows.specs.Bits.{rowWords}
 use Rattle.order_rows.specs.RowLaws.{Filled, filled-start, filled-next, filled-end}
-use Rattle.order_losses.specs.Losses.{differs}
+use Rattle.order_sets.specs.Losses.{differs}
 use borrow.Author.Needs.{needs}
 use Rattle.order_losses.proofs.values.differing.Statement.{statement}
 use Rattle.order_losses.proofs.values.differing.Tie as tie

@@ -6,9 +6,10 @@ use native.Mathlib.Omega.{arith}
 use lib.ListN.{length}
 use Rattle.theory.specs.logic.RangeLaws.{first-ge}
 use Rattle.words.specs.Words.{has}
-use Rattle.order_rows.specs.Bits.{rowBits}
-use Rattle.order_rows.specs.MembersLaws.{Reached, reached-start, reached-next}
-use Rattle.order_removal.specs.ReverseLossesLaws.{MirrorTo, mirror-start, mirror-next, mirror-end, mirror-none}
+use Rattle.order_rows.specs.Bits.{rowBits, cell}
+use Rattle.order_rows.specs.MatrixLaws.{row-alone}
+use Rattle.order_sets.specs.MembersLaws.{Reached, reached-start, reached-next}
+use Rattle.order_sets.specs.ReversesLaws.{MirrorTo, mirror-start, mirror-next, mirror-end, mirror-none}
 use borrow.Author.Needs.{needs}
 use Rattle.order_removal.proofs.reverses.complete.Statement.{statement}
 use Rattle.order_removal.proofs.reverses.complete.Tie as tie
@@ -18,13 +19,13 @@ Inv-loop next₀ losing₀ mirror which v₀ next losing v =
     Reached (has which) rowBits v
     × (length next ≡ length next₀)
     × (length losing ≡ length losing₀)
-    × MirrorTo which next₀ losing₀ v next losing
+    × MirrorTo rowBits (has which) (cell next₀) (has losing₀) v (cell next) (has losing)
 
 abbrev μ-loop : tie.MeasureT-loop
 μ-loop next₀ losing₀ mirror which v₀ next losing v = rowBits - v
 
 returns : tie.Need-returns Inv-loop μ-loop
-returns c = mirror-none _ (c .if1 .taken) _ _
+returns c = mirror-none rowBits _ (c .if1 .taken) _ _
 
 row-requires : tie.Need-row-requires Inv-loop μ-loop
 row-requires c κs = search needs
@@ -41,7 +42,7 @@ loop-holds c = let a = c .before .before .before .before .before .before .before
       rw e (reached-start (has _) rowBits),
       refl,
       refl,
-      rw e (mirror-start _ (a .next .now) (a .losing .now) (c .before .before .row .ensures)),
+      rw e (mirror-start rowBits (has _) (cell (a .next .now)) (has (a .losing .now)) (row-alone _ _ (c .before .before .row .ensures))),
     )
 
 abbrev at-start : tie.After-row-arg2 Inv-loop μ-loop → tie.Start Inv-loop μ-loop
@@ -88,7 +89,7 @@ loop-again c = let l = c .before .before .before .before .before .before .before
       rw e (reached-next (has _) rowBits (l .loop .v) t),
       q .kept .0 ∙ i .1,
       q .kept .1 .0 ∙ i .2,
-      rw e (mirror-next _ (a .next .now) (a .losing .now) (c .before .before .before .before .before .before .before .before .before .before .before .before .before .before .before .row .ensures) (l .loop .v) _ _ _ _ _ t (i .0 .1 t) (i .3) (c .before .before .before .before .before .before .before .before .before .row2 .ensures) (q .ensures)),
+      rw e (mirror-next rowBits (has _) (cell (a .next .now)) (has (a .losing .now)) (row-alone _ _ (c .before .before .before .before .before .before .before .before .before .before .before .before .before .before .before .row .ensures)) (l .loop .v) _ _ _ _ _ t (i .0 .1 t) (i .3) (c .before .before .before .before .before .before .before .before .before .row2 .ensures) (q .ensures)),
     )
 
 same-length : tie.Need-same-length Inv-loop μ-loop
@@ -103,7 +104,7 @@ returns-start c = search
 returns-2 : tie.Need-returns-2 Inv-loop μ-loop
 returns-2 c = let i = c .before .loop .inv in
     let a = returns-start c .args in
-    mirror-end _ (a .next .now) (a .losing .now) (c .before .before .before .before .row .ensures) (a .mirror) (c .before .before .before .before .before .before .if1 .left) _ _ _ (omega (arith, i .0 .0, c .loop-test .left)) (i .3)
+    mirror-end rowBits (has _) (cell (a .next .now)) (has (a .losing .now)) (row-alone _ _ (c .before .before .before .before .row .ensures)) (a .mirror) (c .before .before .before .before .before .before .if1 .left) _ _ _ (omega (arith, i .0 .0, c .loop-test .left)) (i .3)
 
 pub complete-spec : {M : Type 1} → statement M
 complete-spec =

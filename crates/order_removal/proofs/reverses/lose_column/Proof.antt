@@ -3,8 +3,10 @@ use mathlib.Core.Path.{_≡_, refl, _∙_}
 use Prim.Native.Nat.{_-_, _≤_}
 use native.Mathlib.Omega.{arith}
 use lib.ListN.{length}
-use Rattle.order_rows.specs.Bits.{rowWords}
-use Rattle.order_removal.specs.ReverseLossesLaws.{ColumnTo, column-start, column-next, column-end}
+use Rattle.words.specs.Words.{has}
+use Rattle.words.specs.WordsLaws.{has-at}
+use Rattle.order_rows.specs.Bits.{rowBits, rowWords, cell}
+use Rattle.order_sets.specs.ReversesLaws.{ColumnTo, column-start, column-next, column-end}
 use borrow.Author.Needs.{needs}
 use Rattle.order_removal.proofs.reverses.lose_column.Statement.{statement}
 use Rattle.order_removal.proofs.reverses.lose_column.Tie as tie
@@ -14,14 +16,14 @@ Inv-loop next₀ losing₀ v which j₀ next losing j =
     (j ≤ rowWords)
     × (length next ≡ length next₀)
     × (length losing ≡ length losing₀)
-    × ColumnTo which v next₀ losing₀ j next losing
+    × ColumnTo rowBits (has which) v (cell next₀) (has losing₀) j (cell next) (has losing)
 
 abbrev μ-loop : tie.MeasureT-loop
 μ-loop next₀ losing₀ v which j₀ next losing j = rowWords - j
 
 loop-holds : tie.Need-loop-holds Inv-loop μ-loop
 loop-holds c = let a = c .before .before .args in
-    (search needs, refl, refl, column-start _ (a .v) (a .next .now) (a .losing .now))
+    (search needs, refl, refl, column-start rowBits (has _) (a .v) (cell (a .next .now)) (has (a .losing .now)))
 
 mul-lose-word : tie.Need-mul-lose-word Inv-loop μ-loop
 mul-lose-word c = search needs
@@ -56,7 +58,7 @@ loop-again c = let i = at-loop c .loop .inv in
       omega (arith, c .before .before .before .before .before .before .before .loop-test .taken),
       q .kept .0 ∙ i .1,
       q .kept .1 .0 ∙ i .2,
-      column-next _ (a .v) (a .next .now) (a .losing .now) _ _ _ _ _ (i .3) (q .ensures),
+      column-next rowBits (has _) (a .v) (cell (a .next .now)) (has (a .losing .now)) _ _ _ _ _ _ (has-at _ _) (i .3) (q .ensures),
     )
 
 same-length : tie.Need-same-length Inv-loop μ-loop
@@ -68,7 +70,7 @@ same-length-2 c = search needs
 returns : tie.Need-returns Inv-loop μ-loop
 returns c = let i = c .before .loop .inv in
     let a = c .before .before .before .before .args in
-    column-end _ (a .v) (a .next .now) (a .losing .now) _ _ _ (omega (arith, i .0, c .loop-test .left)) (i .3)
+    column-end rowBits (has _) (a .v) (cell (a .next .now)) (has (a .losing .now)) _ _ _ (omega (arith, i .0, c .loop-test .left)) (i .3)
 
 pub lose-column-spec : {M : Type 1} → statement M
 lose-column-spec =

@@ -1,9 +1,10 @@
 -- A row of `losing` gains the pair. The words of another row don't count, so it is emptied first, and holds this pair alone.
 use mathlib.Core.Path.{sym, _∙_}
-use Rattle.order_rows.specs.Bits.{rowWords}
+use Rattle.words.specs.Words.{has}
+use Rattle.order_rows.specs.Bits.{rowBits, rowWords}
 use Rattle.words.specs.WordsLaws.{has-zero}
-use Rattle.order_rows.specs.MatrixLaws.{cell-row}
-use Rattle.order_removal.specs.ReverseLossesLaws.{pair-added, pair-new}
+use Rattle.order_rows.specs.MatrixLaws.{cell-row, added-alone}
+use Rattle.order_sets.specs.ReversesLaws.{pair-added, pair-new}
 use borrow.Author.Needs.{needs}
 use Rattle.order_removal.proofs.reverses.lose_pair.Statement.{statement}
 use Rattle.order_removal.proofs.reverses.lose_pair.Tie as tie
@@ -26,7 +27,7 @@ at-start c = search
 returns : tie.Need-returns
 returns c = let a = at-start c .args in
     let on = sym (c .before .before .before .before .before .holds .ensures) ∙ c .before .before .before .before .if1 .taken in
-    pair-added _ _ _ _ _ (at-start c .pre .2) (sym (cell-row (a .losing .now) (a .w)) ∙ on) (c .before .before .add .ensures)
+    pair-added rowBits _ _ (has _) _ _ (at-start c .pre .2) (sym (cell-row (a .losing .now) (a .w)) ∙ on) (c .before .before .add .ensures)
 
 put-requires : tie.Need-put-requires
 put-requires c κs = search needs
@@ -58,7 +59,7 @@ at-put c = search
 returns-2 : tie.Need-returns-2
 returns-2 c = let a = new-start c .args in
     let off = sym (at-holds c .holds .ensures) ∙ at-else1 c .if1 .left in
-    pair-new _ _ _ _ _ _ _ _ (new-start c .pre .2) (sym (cell-row (a .losing .now) (a .w)) ∙ off) (has-zero rowWords) (at-put c .put .ensures) (c .before .before .before .before .before .before .add2 .ensures) (c .before .before .add3 .ensures)
+    pair-new rowBits _ _ _ (has _) (has _) (has _) _ _ (new-start c .pre .2) (sym (cell-row (a .losing .now) (a .w)) ∙ off) (has-zero rowWords) (at-put c .put .ensures) (c .before .before .before .before .before .before .add2 .ensures) (added-alone _ _ _ _ (c .before .before .add3 .ensures))
 
 pub lose-pair-spec : {M : Type 1} → statement M
 lose-pair-spec =

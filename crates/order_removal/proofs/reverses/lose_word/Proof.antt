@@ -2,8 +2,10 @@
 use mathlib.Core.Path.{_≡_, refl, _∙_}
 use native.Mathlib.Omega.{arith}
 use lib.ListN.{length}
+use Rattle.words.specs.Words.{has}
 use Rattle.words.specs.LeftLaws.{Left, left-start, left-next}
-use Rattle.order_removal.specs.ReverseLossesLaws.{WordTo, word-start, word-next, word-end}
+use Rattle.order_sets.specs.ReversesLaws.{WordTo, word-start, word-next, word-end}
+use Rattle.order_rows.specs.Bits.{rowBits, cell}
 use borrow.Author.Needs.{needs}
 use Rattle.order_removal.proofs.reverses.lose_word.Statement.{statement}
 use Rattle.order_removal.proofs.reverses.lose_word.Tie as tie
@@ -13,14 +15,14 @@ Inv-loop next₀ losing₀ base which v left₀ next losing left =
     (length next ≡ length next₀)
     × (length losing ≡ length losing₀)
     × Left which left
-    × WordTo base which v next₀ losing₀ left next losing
+    × WordTo rowBits base which v (cell next₀) (has losing₀) left (cell next) (has losing)
 
 abbrev μ-loop : tie.MeasureT-loop
 μ-loop next₀ losing₀ base which v left₀ next losing left = left
 
 loop-holds : tie.Need-loop-holds Inv-loop μ-loop
 loop-holds c = let a = c .before .before .args in
-    (refl, refl, left-start (a .which), word-start (a .base) (a .which) (a .v) (a .next .now) (a .losing .now))
+    (refl, refl, left-start (a .which), word-start rowBits (a .base) (a .which) (a .v) (cell (a .next .now)) (has (a .losing .now)))
 
 lowest-requires : tie.Need-lowest-requires Inv-loop μ-loop
 lowest-requires c κs = search needs
@@ -53,7 +55,7 @@ loop-again c = let l = at-loop c in
       q .kept .0 ∙ i .0,
       q .kept .1 .0 ∙ i .1,
       left-next (a .which) _ _ (i .2) (c .rest .ensures),
-      word-next (a .base) (a .which) (a .v) (a .next .now) (a .losing .now) _ _ _ _ _ _ _ (i .2) (c .before .before .before .before .before .before .lowest .ensures) (c .rest .ensures) (i .3) (q .ensures),
+      word-next rowBits (a .base) (a .which) (a .v) (cell (a .next .now)) (has (a .losing .now)) _ _ _ _ _ _ _ (i .2) (c .before .before .before .before .before .before .lowest .ensures) (c .rest .ensures) (i .3) (q .ensures),
     )
 
 same-length : tie.Need-same-length Inv-loop μ-loop
@@ -65,7 +67,7 @@ same-length-2 c = search needs
 returns : tie.Need-returns Inv-loop μ-loop
 returns c = let i = c .before .loop .inv in
     let a = c .before .before .before .before .args in
-    word-end (a .base) (a .which) (a .v) (a .next .now) (a .losing .now) _ _ _ (c .loop-test .left) (i .3)
+    word-end rowBits (a .base) (a .which) (a .v) (cell (a .next .now)) (has (a .losing .now)) _ _ _ (c .loop-test .left) (i .3)
 
 pub lose-word-spec : {M : Type 1} → statement M
 lose-word-spec =

@@ -9,10 +9,10 @@ use Rattle.theory.specs.logic.CountLaws.{count-le}
 use Rattle.theory.specs.logic.SumLaws.{sum-le}
 use Rattle.words.specs.Words.{has}
 use Rattle.order_rows.specs.Bits.{rowBits, cell}
-use Rattle.order_rows.specs.MembersLaws.{Reached, reached-start, reached-next}
+use Rattle.order_sets.specs.MembersLaws.{Reached, reached-start, reached-next}
 use Rattle.order_losses.specs.Losses.{struck}
 use Rattle.order_removal.specs.RowRemoval.{TakenTo}
-use Rattle.order_removal.specs.RowRemovalLaws.{taken-start, taken-next}
+use Rattle.order_sets.specs.RemovalLaws.{taken-start, taken-next}
 use borrow.Author.Needs.{needs}
 use Rattle.order_removal.proofs.rows.take_all.Statement.{statement}
 use Rattle.order_removal.proofs.rows.take_all.Tie as tie
@@ -41,7 +41,7 @@ loop-holds c = let e = c .first-from .ensures in
       refl,
       refl,
       refl,
-      rw e (taken-start (a .edges .now) (a .next .now) (a .losing .now) (a .related .now) (a .lost .now) (a .falls .now)),
+      rw e (taken-start rowBits (cell (a .edges .now)) (cell (a .next .now)) (has (a .losing .now)) (cell (a .related .now)) (cell (a .lost .now)) (cell (a .falls .now))),
     )
 
 take-row-requires : tie.Need-take-row-requires Inv-loop μ-loop
@@ -91,7 +91,7 @@ loop-again c = let at-in-loop : tie.In-loop Inv-loop μ-loop = search in
       q .kept .1 .1 .0 ∙ i .1,
       q .kept .1 .1 .1 .0 ∙ i .2,
       q .kept .1 .1 .1 .1 .0 ∙ i .3,
-      rw e (taken-next (a .edges .now) (a .next .now) (a .losing .now) (a .related .now) (l .loop .a) (i .0 .1 t) t _ _ _ _ _ _ _ _ (i .4) (q .ensures)),
+      rw e (taken-next rowBits (cell (a .edges .now)) (cell (a .next .now)) (has (a .losing .now)) (cell (a .related .now)) (l .loop .a) (i .0 .1 t) t _ _ _ _ _ _ _ _ (i .4) (q .ensures)),
     )
 
 same-length : tie.Need-same-length Inv-loop μ-loop

@@ -1,13 +1,16 @@
 -- The rows before v are those of pass 0, and `changed` holds those that lost something.
 -- Each vertex has a successor, so under all pairs every pair passes, which the state after pass 0 asks.
-use mathlib.Core.Path.{_≡_, refl, _∙_}
+use mathlib.Core.Path.{_≡_, refl, sym, _∙_}
 use Prim.Native.Nat.{_-_, _≤_}
 use native.Mathlib.Omega.{arith}
 use lib.ListN.{length}
 use Rattle.table.specs.Table.{vertexCount, gameOf}
 use Rattle.table.specs.TableLaws.{game-total}
+use Rattle.words.specs.Words.{has}
+use Rattle.order_rows.specs.Bits.{rowBits}
+use Rattle.order_rows.specs.MatrixLaws.{cell-row, added-alone}
 use Rattle.order_rounds.specs.Rounds.{Parted, Started}
-use Rattle.order_rounds.specs.RoundsLaws.{all-row, parted-none, started-none, started-next, begun}
+use Rattle.order_sets.specs.RoundsLaws.{all-row, parted-none, started-none, started-next, begun}
 use borrow.Author.Needs.{needs}
 use Rattle.order_rounds.proofs.start.begin.Statement.{statement}
 use Rattle.order_rounds.proofs.start.begin.Tie as tie
@@ -41,7 +44,7 @@ differing-requires : tie.Need-differing-requires Inv-loop μ-loop
 differing-requires c κs = search needs
 
 loop-holds : tie.Need-loop-holds Inv-loop μ-loop
-loop-holds c = (search needs, refl, refl, refl, refl, parted-none _ _ _ _, started-none _ _ (c .before .before .before .before .before .before .before .before .pre .1 .1 .1 .1))
+loop-holds c = (search needs, refl, refl, refl, refl, parted-none rowBits _ _ _ _, started-none rowBits _ (has _) (λ x h. sym (cell-row _ x) ∙ c .before .before .before .before .before .before .before .before .pre .1 .1 .1 .1 x h))
 
 abbrev at-differing : tie.At-loop Inv-loop μ-loop → tie.After-differing Inv-loop μ-loop
 at-differing c = search
@@ -51,7 +54,7 @@ start-row-requires c κs = let l = c .before .before .before .before in
     let s = start l in
     let i = l .loop .inv in
     let q = s .pre .1 .1 .0 in (
-      (s .pre .0, c .before .before .before .loop-test .taken, all-row _ _ (s .pre .0) (at-differing l .differing .ensures)),
+      (s .pre .0, c .before .before .before .loop-test .taken, all-row rowBits _ (has _) (s .pre .0) (at-differing l .differing .ensures)),
       (s .pre .1 .0, ((omega (arith, i .1, q .0), omega (arith, i .2, q .1), omega (arith, i .3, q .2)), i .5)),
     )
 
@@ -107,7 +110,7 @@ loop-again c = let l = again-loop c in
       r .kept .1 .1 .1 .1 .0 ∙ i .3,
       c .before .before .add .kept .0 ∙ i .4,
       r .ensures,
-      started-next _ (l .loop .v) _ _ _ _ _ _ _ (r .ensures) (i .6) (c .before .before .before .before .row .ensures) (c .before .before .before .is-some .ensures) (c .before .before .add .ensures),
+      started-next rowBits _ (l .loop .v) _ _ _ (has _) (has _) (has _) _ (r .ensures) (i .6) (c .before .before .before .before .row .ensures) (c .before .before .before .is-some .ensures) (added-alone _ _ _ _ (c .before .before .add .ensures)),
     )
 
 same-length : tie.Need-same-length Inv-loop μ-loop
@@ -129,7 +132,7 @@ returns c = let l = c .before in
     let g = s .args .game .now in
     let i = l .loop .inv in
     let e : l .loop .v ≡ vertexCount g = omega (arith, c .loop-test .left, i .0) in
-    begun (gameOf g) _ _ _ _ _ (s .pre .1 .0 .0) (game-total g (s .pre .0)) (rw e at (i .5)) (rw e at (i .6))
+    begun rowBits (gameOf g) _ _ _ _ (has _) (s .pre .1 .0 .0) (game-total g (s .pre .0)) (rw e at (i .5)) (rw e at (i .6))
 
 pub begin-spec : {M : Type 1} → statement M
 begin-spec =

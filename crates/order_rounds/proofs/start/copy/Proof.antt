@@ -1,5 +1,7 @@
 -- Vertices of equal priority differ in priority from the same vertices, so they lose the same, with the same fall.
-use Rattle.order_rounds.specs.RoundsLaws.{parted-copy}
+use Rattle.order_sets.specs.RoundsLaws.{parted-copy}
+use Rattle.words.specs.Words.{has}
+use Rattle.order_rows.specs.Bits.{rowBits}
 use borrow.Author.Needs.{needs}
 use Rattle.order_rounds.proofs.start.copy.Statement.{statement}
 use Rattle.order_rounds.proofs.start.copy.Tie as tie
@@ -48,7 +50,7 @@ at-row2 c = search
 
 returns : tie.Need-returns
 returns c = λ G t s.
-    parted-copy G _ _ _ _ _ _ _ _ _ _ s (at-put c .put .ensures) (at-put2 c .put2 .ensures) (c .before .before .put3 .ensures) _ (at-start c .pre .1 .0) t (at-row c .row .ensures) (at-row2 c .row2 .ensures) (c .before .before .before .row3 .ensures)
+    parted-copy rowBits G _ _ _ _ (has _) (has _) (has _) _ _ _ s (at-put c .put .ensures) (at-put2 c .put2 .ensures) (c .before .before .put3 .ensures) _ (at-start c .pre .1 .0) t (at-row c .row .ensures) (at-row2 c .row2 .ensures) (c .before .before .before .row3 .ensures)
 
 pub copy-spec : {M : Type 1} → statement M
 copy-spec =

@@ -2,9 +2,10 @@
 use mathlib.Core.Path.{_∙_}
 use Rattle.table.specs.Table.{gameOf}
 use Rattle.table.specs.TableLaws.{game-total}
-use Rattle.order_rows.specs.Bits.{RowIs}
-use Rattle.order_rounds.specs.Rounds.{unequal}
-use Rattle.order_rounds.specs.RoundsLaws.{unequal-row, row-all, parted-row}
+use Rattle.words.specs.Words.{has}
+use Rattle.order_rows.specs.Bits.{rowBits, RowIs}
+use Rattle.order_sets.specs.Rounds.{unequal}
+use Rattle.order_sets.specs.RoundsLaws.{unequal-row, row-all, parted-row}
 use borrow.Author.Needs.{needs}
 use Rattle.order_rounds.proofs.start.part.Statement.{statement}
 use Rattle.order_rounds.proofs.start.part.Tie as tie
@@ -72,9 +73,9 @@ returns c = let s = at-start c in
     let e = s .pre .1 .0 .0 in
     let all = s .pre .0 .2 in
     let w = at-without c .without .ensures in
-    parted-row (gameOf g) (s .args .v) _ _ _ _ _ _ _ _ _ (s .pre .1 .1 .1) (at-put c .put .ensures) (c .before .before .before .before .before .before .before .put2 .ensures) (c .before .before .put3 .ensures)
-    _ all (taken-out c) w _ e
-    (c .before .before .before .fall-of-all .ensures (gameOf g) e (game-total g (s .pre .0 .0)) (row-all (gameOf g) (s .args .v) _ _ _ all (taken-out c) w))
+    parted-row rowBits (gameOf g) (s .args .v) _ _ _ (has _) (has _) (has _) _ _ _ (s .pre .1 .1 .1) (at-put c .put .ensures) (c .before .before .before .before .before .before .before .put2 .ensures) (c .before .before .put3 .ensures)
+    (has _) all (taken-out c) w _ e
+    (c .before .before .before .fall-of-all .ensures (gameOf g) e (game-total g (s .pre .0 .0)) (row-all rowBits (gameOf g) (s .args .v) (has _) (has _) (has _) all (taken-out c) w))
 
 pub part-spec : {M : Type 1} → statement M
 part-spec =

@@ -7,6 +7,7 @@ use Rattle.theory.specs.logic.Bools.{_&_, _or_}
 use Rattle.theory.specs.logic.RangeLaws.{any-ext}
 use Rattle.words.specs.Word.{wordBits, digit}
 use Rattle.words.specs.Words.{has}
+use Rattle.order_sets.specs.Sets.{apartIn}
 use Rattle.order_rows.specs.Bits.{rowBits, apart}
 use Rattle.words.specs.WordLaws.{digit-zero}
 use Rattle.words.specs.LeftLaws.{Left, left-start, left-next, picked, picked-start, picked-next, picked-end}
@@ -52,7 +53,7 @@ loop-less c = c .rest .ensures .less
 -- whether the row meets x
 free : (c : tie.After-meets Inv-loop μ-loop)
     → let a = c .before .before .before .before .before .before .args in not (c .meets .result) ≡ apart (a .words .now) (a .base + c .before .before .lowest .result) (a .x)
-unfolding apart
+unfolding apartIn
 free c = let a = c .before .before .before .before .before .before .args in
     ap not (c .meets .ensures ∙ any-ext rowBits _ _ (λ y h. ap (λ b. b & has (a .x) y) (c .before .row .ensures y h)))
 
