@@ -46,7 +46,7 @@ fn search(
     y: usize,
 ) -> Counts
     requires { ⌜ Seated (now game) player (now plan) (now seats) (now marks) ⌝ }
-    requires { ⌜ (y < vertexCount (now game)) × Fresh (positionCount (now plan)) (now work) ⌝ }
+    requires { ⌜ (y < vertexCount (now game)) × Fresh (now work) ⌝ }
     ensures { λ r. ⌜ SearchResult (tableFound (old game) player (old plan) (old seats) y) (memoryIn (new work) r) ⌝ }
 {
     let mut edges = [0u64; PAIR_WORDS];

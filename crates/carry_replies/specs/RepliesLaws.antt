@@ -3,17 +3,17 @@ use mathlib.Core.Path.{_≡_, refl, sym, ap, _∙_}
 use mathlib.Core.Logic.{inl, inr}
 use mathlib.Core.Bool.{Bool, true, false, cond, So, false≢true}
 use mathlib.Core.List.{List, [], _∷_, _++_, append-nil, append-assoc}
-use Prim.Native.Nat.{ℕ, zero, suc, _+_, _≤_, _<_, zero-le}
+use Prim.Native.Nat.{ℕ, zero, suc, _+_, _≤_, _<_}
 use native.Mathlib.Decide.{decLt}
 use native.Mathlib.Numerals.{add-one}
 use native.Mathlib.Omega.{arith}
 use lib.Dec.{eqb, ltb}
-use lib.ListN.{getD, take}
+use lib.ListN.{getD}
 use borrow.Author.Tests.{lt-ltb, le-ltb, ltb-true}
 use Rattle.theory.specs.logic.Bools.{_&_}
 use Rattle.theory.specs.logic.BoolsLaws.{decide, and-out, So-not}
 use Rattle.theory.specs.logic.Range.{first}
-use Rattle.theory.specs.logic.RangeLaws.{first-passes, first-before, first-ext}
+use Rattle.theory.specs.logic.RangeLaws.{first-ext}
 use Rattle.theory.specs.games.Game.{Player, even, odd, own}
 use Rattle.theory.specs.order.Order.{order}
 use Rattle.theory.specs.plans.Plan.{linked}
@@ -143,27 +143,6 @@ module _ (game : List ℕ) (player : ℕ) (plan seats : List ℕ) (i u : ℕ) wh
         moves-suc c ∙ ap (λ (x : List (ℕ × ℕ)). moves c ++ x) none ∙ append-nil (moves c)
         ∙ movesBelow-skip a c (omega arith) (λ w x y. f w x (omega arith)))
   ]
-
-  none-below : (c : ℕ) → ((w : ℕ) → w < c → replied game player plan seats i u w ≡ false) → moves c ≡ []
-  unfolding movesBelow
-  none-below c f = movesBelow-skip 0 c zero-le (λ w l. f w)
-
-  -- where no vertex is replied there is no move
-  pub lone-none : (w n : ℕ) → w ≡ first (replied game player plan seats i u) 0 n → n ≤ w → take 1 (moves n) ≡ []
-  lone-none w n e h = rw (none-below n (λ j l. first-before (replied game player plan seats i u) 0 n j zero-le (omega arith))) refl
-
-  lone-here : (w : ℕ) (xs : List (ℕ × ℕ)) → So (replied game player plan seats i u w)
-      → take 1 (moveTo game player plan seats i u w ++ xs) ≡ moveTo game player plan seats i u w
-  unfolding moveTo
-  lone-here w xs t = rw t refl
-
-  -- the first move is to the lowest that is replied
-  pub lone-some : (w n : ℕ) → w ≡ first (replied game player plan seats i u) 0 n → w < n → take 1 (moves n) ≡ moveTo game player plan seats i u w
-  lone-some w n e h =
-      let p = replied game player plan seats i u in
-      let t : So (p w) = rw e (first-passes p 0 n zero-le (omega arith)) in
-      let r = movesBelow-prefix (w + 1) n (omega arith) in
-      rw (← (r .1), movesBelow-more w, none-below w (λ j l. first-before p 0 n j zero-le (omega arith))) (lone-here w (r .0) t)
 
   move-inside : {marks : List ℕ} → Seated game player plan seats marks → (w : ℕ) (x : ℕ × ℕ) → Among x (moveTo game player plan seats i u w)
       → (x .0 < positionCount plan) × (x .1 < suc w)

@@ -1,13 +1,13 @@
 -- Laws of the way from successor to successor: a search in a part of a list, and that no vertex between two successors is replied.
 use mathlib.Core.Path.{_≡_, sym, ap, _∙_}
-use mathlib.Core.Bool.{Bool, false, So}
+use mathlib.Core.Bool.{Bool, false}
 use mathlib.Core.List.{List}
 use Prim.Native.Nat.{ℕ, _+_, _-_, _*_, _≤_, _<_}
 use native.Mathlib.Decide.{decLt}
 use native.Mathlib.Omega.{arith}
 use Rattle.theory.specs.logic.Bools.{_&_}
 use Rattle.theory.specs.logic.Range.{first}
-use Rattle.theory.specs.logic.RangeLaws.{first-is, first-ge, first-le, first-none, first-passes, first-before, first-skip}
+use Rattle.theory.specs.logic.RangeLaws.{first-is, first-ge, first-le, first-none, first-passes, first-before}
 use Rattle.theory.specs.carry.Carry.{movesBelow}
 use Rattle.table.specs.Table.{vertexCount, playerOf, gameOf}
 use Rattle.table.specs.Limits.{vertexLimit, pairLimit}
@@ -47,11 +47,6 @@ module _ (game edges : List ℕ) (flags : EdgeFlags game edges) (u a w : ℕ) (h
   pub successor-ge : a ≤ w
   successor-ge = omega (arith, e, first-ge (flagged (vertexCount game) edges u) a (vertexCount game))
 
-  pub successor-edge : w < vertexCount game → So (gameOf game .edge u w)
-  successor-edge h =
-      let t = first-passes (flagged (vertexCount game) edges u) a (vertexCount game) ha (omega (arith, e, h)) in
-      sym (flags .edge u w hu h) ∙ rw e t
-
   module _ (player : ℕ) (plan seats : List ℕ) (i : ℕ) where
     -- none before it is replied
     pub successor-none : (j : ℕ) → a ≤ j → j < w → replied game player plan seats i u j ≡ false
@@ -60,11 +55,7 @@ module _ (game edges : List ℕ) (flags : EdgeFlags game edges) (u a w : ℕ) (h
         let f = first-before (flagged (vertexCount game) edges u) a (vertexCount game) j l (omega (arith, e)) in
         rw (sym (flags .edge u j hu (omega (arith, successor-le))) ∙ f)
 
-    -- so that the lowest that is replied is the same from there on
-    pub successor-first : first (replied game player plan seats i u) a (vertexCount game) ≡ first (replied game player plan seats i u) w (vertexCount game)
-    successor-first = first-skip _ a w (vertexCount game) successor-ge successor-le successor-none
-
-    -- and there is no move between
+    -- so that there is no move between
     pub successor-moves : movesBelow (playerOf player) (gameOf game) (gameOf game) (needed game player) (seated plan seats) i u w
         ≡ movesBelow (playerOf player) (gameOf game) (gameOf game) (needed game player) (seated plan seats) i u a
     successor-moves = movesBelow-skip game player plan seats i u a w successor-ge successor-none

@@ -19,7 +19,7 @@ ghost use Rattle.table.specs.Flags.{flagged};
 ghost use Rattle.marks.specs.Marks.{marksLength, relation};
 ghost use Rattle.plan_links.specs.PlanTable.{positionCount, linkCount, linkSource, linkTarget};
 ghost use Rattle.plan_links.specs.PlanFormed.{PlanSized};
-ghost use Rattle.carry_replies.specs.Replies.{Seated, LinkChains, Linked, Readable, needed, linkTo, replied, replyTo};
+ghost use Rattle.carry_replies.specs.Replies.{Seated, LinkChains, Linked, Readable, needed, linkTo, replyTo};
 
 // Whether vertex v is the player's.
 pub fn owns(game: &[u16], player: u32, v: usize) -> bool
@@ -170,34 +170,4 @@ pub fn next_successor(edges: &[u64], n: usize, u: usize, from: usize) -> usize
 {
     let base = u * n;
     next_member(edges, base + from, base + n) - base
-}
-
-// The lowest successor of u that is answered at position i; the number of vertices where there is none.
-pub fn lowest_reply(
-    game: &[u16],
-    player: u32,
-    plan: &[u16],
-    seats: &[u16],
-    marks: &[u8],
-    edges: &[u64],
-    firsts: &[u16],
-    follow: &[u16],
-    i: usize,
-    u: usize,
-) -> usize
-    requires { ⌜ Readable (now game) player (now plan) (now seats) (now marks) (now edges) (now firsts) (now follow) ⌝ }
-    requires { ⌜ (i < positionCount (now plan)) × (u < vertexCount (now game)) ⌝ }
-    ensures { λ r. ⌜ r ≡ first (replied (old game) player (old plan) (old seats) i u) 0 (vertexCount (old game)) ⌝ }
-{
-    let n = game[0] as usize;
-    let p = plan[0] as usize;
-    let mut w = next_successor(edges, n, u, 0);
-    while w < n {
-        let j = reply_along(game, player, plan, seats, marks, firsts, follow, i, w);
-        if j < p {
-            return w;
-        }
-        w = next_successor(edges, n, u, w + 1);
-    }
-    w
 }

@@ -9,14 +9,14 @@ use lib.Seq.{getD-set-same}
 use Rattle.theory.specs.logic.Range.{tabulate}
 use Rattle.table.specs.Limits.{positionLimit}
 use Rattle.carry_search.specs.LastBelow.{last}
-use Rattle.carry_search.specs.Chains.{pairsIn}
+use Rattle.carry_search.specs.Chains.{pairsIn, chainOf}
 use Rattle.carry_search.specs.ChainsLaws.{added-held}
 use Rattle.carry_search.specs.SearchMemory.{Memory}
 use Rattle.carry_search.specs.Work.{pairRoom, linkRoom, oldsAt, verticesAt, headsAt, nextsAt, sourcesAt, targetsAt, memoryIn, pairStored, withPair}
 use Rattle.carry_search.specs.WorkLaws.{length-part, getD-part, pair-stored}
 use Rattle.carry_search.specs.Search.{Fresh, onePair, Started}
 
-module _ (p w : ℕ) (work : List ℕ) (some : 0 < p) (few : p ≤ positionLimit) (fresh : Fresh p work) where
+module _ (p w : ℕ) (work : List ℕ) (some : 0 < p) (few : p ≤ positionLimit) (fresh : Fresh work) where
   abbrev m : Memory
   m = memoryIn work onePair
 
@@ -39,23 +39,24 @@ module _ (p w : ℕ) (work : List ℕ) (some : 0 < p) (few : p ≤ positionLimit
       few = few;
       olds = omega (arith, length-set (m .olds) 0 0, olds-long);
       vertices = omega (arith, length-set (m .vertices) 0 w, vertices-long);
-      heads = omega (arith, length-set (m .heads) 0 (0 + 1), heads-long);
-      nexts = omega (arith, length-set (m .nexts) 0 (getD (m .heads) 0 0), nexts-long);
+      heads = omega (arith, length-set (m .heads) (chainOf 0 w) (0 + 1), heads-long);
+      nexts = omega (arith, length-set (m .nexts) 0 (getD (m .heads) (chainOf 0 w) 0), nexts-long);
       sources = omega (arith, length-part work sourcesAt linkRoom (omega (arith, fresh .long)));
       targets = omega (arith, length-part work targetsAt linkRoom (omega (arith, fresh .long)));
       pairs = omega arith;
       links = omega arith;
       held =
-          added-held p 0 0 w (m .olds) (m .vertices) (m .heads) (m .nexts) _ _ _ _
+          added-held 0 0 w (m .olds) (m .vertices) (m .heads) (m .nexts) _ _ _ _
           (record {
             chains = record {
-              head = λ i h. getD-part work headsAt positionLimit i (omega arith) ∙ fresh .unchained i h;
+              head = λ x h. getD-part work headsAt positionLimit x h ∙ fresh .unchained x h;
               next = λ k h. absurd (not-suc-le-zero h);
             };
+            old-lt = λ k h. absurd (not-suc-le-zero h);
             single = λ i j h l. absurd (not-suc-le-zero l);
           })
           (record { old = refl; vertex = refl; head = refl; next = refl })
-          some (omega (arith, olds-long)) (omega (arith, vertices-long)) (omega (arith, heads-long)) (omega (arith, nexts-long)) zero-le;
+          (omega arith) (omega (arith, olds-long)) (omega (arith, vertices-long)) (omega (arith, heads-long)) (omega (arith, nexts-long)) zero-le;
     };
     one = refl;
     none = refl;
@@ -66,4 +67,4 @@ module _ (p w : ℕ) (work : List ℕ) (some : 0 < p) (few : p ≤ positionLimit
   pub first-pair : (work′ : List ℕ) → work′ ≡ pairStored work 0 0 w → Started p w (memoryIn work′ onePair)
   first-pair work′ e =
       subst (λ (m : Memory). Started p w m)
-      (sym (ap (λ (l : List ℕ). memoryIn l onePair) e ∙ pair-stored work onePair 0 0 w (omega arith) (omega arith))) started
+      (sym (ap (λ (l : List ℕ). memoryIn l onePair) e ∙ pair-stored work onePair 0 0 w (omega arith))) started

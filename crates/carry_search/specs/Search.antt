@@ -1,9 +1,11 @@
 -- The search in work memory: how it starts, what the moves of a pair leave, and what it ends with.
 use mathlib.Core.Path.{_≡_}
 use mathlib.Core.Logic.{_⊎_}
+use mathlib.Core.Bool.{cond}
 use mathlib.Core.List.{List, [], _++_}
 use Prim.Native.Nat.{ℕ, _+_, _≤_, _<_}
-use lib.ListN.{length, getD, take}
+use lib.ListN.{length, getD}
+use Rattle.theory.specs.games.Game.{own}
 use Rattle.theory.specs.carry.Carry.{movesBelow, movesOf, foundFrom}
 use Rattle.theory.specs.carry.BreadthFirst.{Found}
 use Rattle.table.specs.Limits.{positionLimit, linkLimit}
@@ -29,9 +31,9 @@ module _ (game : List ℕ) (player : ℕ) (plan seats : List ℕ) where
 -- ---- in work memory
 
 -- no pair is chained yet, and there is room for all
-pub record Fresh (p : ℕ) (work : List ℕ) : Type 0 where
+pub record Fresh (work : List ℕ) : Type 0 where
   pub long : workLength ≤ length work
-  pub unchained : (i : ℕ) → i < p → getD work (headsAt + i) 0 ≡ 0
+  pub unchained : (h : ℕ) → h < positionLimit → getD work (headsAt + h) 0 ≡ 0
 
 -- one pair and no link, and that pair is (0, w)
 abbrev pub onePair : Counts
@@ -68,6 +70,11 @@ pub record Expanded (k : ℕ) (xs : List (ℕ × ℕ)) (p : ℕ) (m m′ : Memor
   pub moved : Moved k did p m m′
   pub why : (left ≡ []) ⊎ Over (m′ .pairs) (m′ .links)
 
+-- how many links there are at most before a move from vertex u of the search, where there were so many before its moves: the player makes one,
+-- the opponent all
+unfoldable pub mostLinks : List ℕ → ℕ → ℕ → ℕ → ℕ
+mostLinks game player u links = cond (own (gameOf game) (playerOf player) u) links linkLimit
+
 -- within the limits all is found; what passes them here passes them in the whole. The counts pass them by one at most.
 pub record SearchResult (whole : Found) (m : Memory) : Type 0 where
   pub right : Within (m .pairs) (m .links) → foundIn m ≡ whole
@@ -84,18 +91,7 @@ module _ (game : List ℕ) (player : ℕ) (plan seats : List ℕ) (k : ℕ) wher
       Moved k (moveTo game player plan seats i u w) (positionCount plan) (memoryIn work counts) (memoryIn work′ counts′)
 
   module _ (work : List ℕ) (counts : Counts) (work′ : List ℕ) (counts′ : Counts) where
-    abbrev MadeOf : List (ℕ × ℕ) → Type 0
-    MadeOf xs = Expanded k xs (positionCount plan) (memoryIn work counts) (memoryIn work′ counts′)
-
-    abbrev answered : List (ℕ × ℕ)
-    answered = tableMovesBelow game player plan seats (storedPair work k .0) (storedPair work k .1) (vertexCount game)
-
-    -- its moves; the one to the lowest vertex that is answered; those to all vertices that are
+    -- its moves
     abbrev pub PairExpanded : Type 0
-    PairExpanded = MadeOf (tableMoves game player plan seats (storedPair work k))
-
-    abbrev pub OwnExpanded : Type 0
-    OwnExpanded = MadeOf (take 1 answered)
-
-    abbrev pub AllExpanded : Type 0
-    AllExpanded = MadeOf answered
+    PairExpanded =
+        Expanded k (tableMoves game player plan seats (storedPair work k)) (positionCount plan) (memoryIn work counts) (memoryIn work′ counts′)

@@ -38,13 +38,13 @@ pub record SearchRoom (p : ℕ) (m : Memory) : Type 0 where
   pub few : p ≤ positionLimit
   pub olds : positionLimit + 1 ≤ length (m .olds)
   pub vertices : positionLimit + 1 ≤ length (m .vertices)
-  pub heads : p ≤ length (m .heads)
+  pub heads : positionLimit ≤ length (m .heads)
   pub nexts : positionLimit + 1 ≤ length (m .nexts)
   pub sources : linkLimit + 1 ≤ length (m .sources)
   pub targets : linkLimit + 1 ≤ length (m .targets)
   pub pairs : m .pairs ≤ positionLimit + 1
   pub links : m .links ≤ linkLimit + 1
-  pub held : Held p (m .olds) (m .vertices) (m .heads) (m .nexts) (m .pairs)
+  pub held : Held (m .olds) (m .vertices) (m .heads) (m .nexts) (m .pairs)
 
 -- within the limits of a plan
 pub record Within (pairs links : ℕ) : Type 0 where

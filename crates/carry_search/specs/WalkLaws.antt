@@ -8,11 +8,12 @@ use Rattle.theory.specs.carry.BreadthFirst.{numberOf}
 use Rattle.table.specs.Limits.{positionLimit}
 use Rattle.carry_search.specs.declared.Counts.{Counts}
 use Rattle.carry_search.specs.SearchMemory.{Memory, foundIn, SearchRoom}
-use Rattle.carry_search.specs.ChainsLaws.{Walked, walk-start, walk-next, walk-less, walk-hit, walk-end}
+use Rattle.carry_search.specs.Chains.{chainOf}
+use Rattle.carry_search.specs.ChainsLaws.{chain-lt, Walked, walk-start, walk-next, walk-less, walk-hit, walk-end}
 use Rattle.carry_search.specs.Work.{pairRoom, verticesAt, headsAt, nextsAt, memoryIn}
 use Rattle.carry_search.specs.WorkLaws.{getD-part}
 
--- c is a place of the chain of i, and the pair (i, u) isn't from c on
+-- c is a place of the chain of (i, u), and that pair isn't from c on
 abbrev pub Along : List ℕ → Counts → ℕ → ℕ → ℕ → Type 0
 Along work counts i u c = Walked (memoryIn work counts .olds) (memoryIn work counts .vertices) (counts .pairs) i u c
 
@@ -20,13 +21,13 @@ module _ (p : ℕ) (work : List ℕ) (counts : Counts) (ready : SearchRoom p (me
   abbrev m : Memory
   m = memoryIn work counts
 
-  pub along-start : i < p → Along work counts i u (getD work (headsAt + i) 0)
-  along-start h =
-      rw (← (getD-part work headsAt positionLimit i (omega (arith, ready .few))))
-      (walk-start p (m .olds) (m .vertices) (m .heads) (m .nexts) (m .pairs) (ready .held) i u h)
+  pub along-start : Along work counts i u (getD work (headsAt + chainOf i u) 0)
+  along-start =
+      rw (← (getD-part work headsAt positionLimit (chainOf i u) (chain-lt i u)))
+      (walk-start (m .olds) (m .vertices) (m .heads) (m .nexts) (m .pairs) (ready .held) i u)
 
   pub along-end : (c : ℕ) → c ≤ 0 → Along work counts i u c → counts .pairs ≡ numberOf (foundIn m .pairs) i u
-  along-end c h w = walk-end p (m .olds) (m .vertices) (m .heads) (m .nexts) (m .pairs) (ready .held) i u c h w
+  along-end c h w = walk-end (m .olds) (m .vertices) (m .heads) (m .nexts) (m .pairs) (ready .held) i u c h w
 
   module _ (c : ℕ) (h : 0 < c) (w : Along work counts i u c) where
     -- the pair that stands there
@@ -39,14 +40,15 @@ module _ (p : ℕ) (work : List ℕ) (counts : Counts) (ready : SearchRoom p (me
     next-is : getD (m .nexts) (c - 1) 0 ≡ getD work (nextsAt + (c - 1)) 0
     next-is = getD-part work nextsAt pairRoom (c - 1) along-room
 
-    pub along-hit : getD work (verticesAt + (c - 1)) 0 ≡ u → c - 1 ≡ numberOf (foundIn m .pairs) i u
-    along-hit e = walk-hit p (m .olds) (m .vertices) (m .heads) (m .nexts) (m .pairs) (ready .held) i u c h w (vertex-is ∙ e)
+    pub along-hit : i < p → getD work (verticesAt + (c - 1)) 0 ≡ u → c - 1 ≡ numberOf (foundIn m .pairs) i u
+    along-hit hi e =
+        walk-hit (m .olds) (m .vertices) (m .heads) (m .nexts) (m .pairs) (ready .held) i u c (omega (arith, ready .few)) h w (vertex-is ∙ e)
 
     pub along-less : getD work (nextsAt + (c - 1)) 0 < c
     along-less =
-        omega (arith, next-is, walk-less p (m .olds) (m .vertices) (m .heads) (m .nexts) (m .pairs) (ready .held) c h (w .within))
+        omega (arith, next-is, walk-less (m .olds) (m .vertices) (m .heads) (m .nexts) (m .pairs) (ready .held) c h (w .within))
 
     pub along-next : (getD work (verticesAt + (c - 1)) 0 ≡ u → ⊥) → Along work counts i u (getD work (nextsAt + (c - 1)) 0)
     along-next other =
         rw (← next-is)
-        (walk-next p (m .olds) (m .vertices) (m .heads) (m .nexts) (m .pairs) (ready .held) i u c h w (λ e. other (sym vertex-is ∙ e)))
+        (walk-next (m .olds) (m .vertices) (m .heads) (m .nexts) (m .pairs) (ready .held) i u c h w (λ e. other (sym vertex-is ∙ e)))

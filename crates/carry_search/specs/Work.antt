@@ -4,6 +4,7 @@ use Prim.Native.Nat.{ℕ, _+_}
 use lib.ListN.{getD, set, take, drop}
 use Rattle.table.specs.Limits.{positionLimit, linkLimit}
 use Rattle.carry_search.specs.declared.Counts.{Counts}
+use Rattle.carry_search.specs.Chains.{chainOf}
 use Rattle.carry_search.specs.SearchMemory.{Memory, memory}
 
 -- ---- places
@@ -62,7 +63,8 @@ linkStored work links k r = set (set work (sourcesAt + links) k) (targetsAt + li
 -- the pair (i, u), at the head of its chain
 abbrev pub pairStored : List ℕ → ℕ → ℕ → ℕ → List ℕ
 pairStored work pairs i u =
-    set (set (set (set work (oldsAt + pairs) i) (verticesAt + pairs) u) (nextsAt + pairs) (getD work (headsAt + i) 0)) (headsAt + i) (pairs + 1)
+    set (set (set (set work (oldsAt + pairs) i) (verticesAt + pairs) u) (nextsAt + pairs) (getD work (headsAt + chainOf i u) 0))
+    (headsAt + chainOf i u) (pairs + 1)
 
 -- the same in the memory of a search, without the counts
 abbrev pub withLink : Memory → ℕ → ℕ → ℕ → Memory
@@ -70,5 +72,5 @@ withLink m links k r = memory (m .olds) (m .vertices) (m .heads) (m .nexts) (set
 
 abbrev pub withPair : Memory → ℕ → ℕ → ℕ → Memory
 withPair m pairs i u =
-    memory (set (m .olds) pairs i) (set (m .vertices) pairs u) (set (m .heads) i (pairs + 1)) (set (m .nexts) pairs (getD (m .heads) i 0))
-    (m .sources) (m .targets) (m .pairs) (m .links)
+    memory (set (m .olds) pairs i) (set (m .vertices) pairs u) (set (m .heads) (chainOf i u) (pairs + 1))
+    (set (m .nexts) pairs (getD (m .heads) (chainOf i u) 0)) (m .sources) (m .targets) (m .pairs) (m .links)

@@ -9,6 +9,8 @@ use lib.Seq.{getD-take, getD-drop, take-set-le, take-set-lt, drop-set-lt, drop-s
 use Rattle.theory.specs.carry.BreadthFirst.{numberOf}
 use Rattle.table.specs.Limits.{positionLimit}
 use Rattle.carry_search.specs.declared.Counts.{Counts}
+use Rattle.carry_search.specs.Chains.{chainOf}
+use Rattle.carry_search.specs.ChainsLaws.{chain-lt}
 use Rattle.carry_search.specs.SearchMemory.{Memory, memory, foundIn, SearchRoom, Within, Moved}
 use Rattle.carry_search.specs.SearchMemoryLaws.{moved-found, moved-new}
 use Rattle.carry_search.specs.Work.{pairRoom, linkRoom, oldsAt, verticesAt, headsAt, nextsAt, sourcesAt, targetsAt, workLength}
@@ -103,16 +105,17 @@ module _ (work : List ℕ) (counts : Counts) where
       ∙ ap (λ (m : Memory). memory (m .olds) (m .vertices) (m .heads) (m .nexts) (m .sources) (set (m .targets) links r) (m .pairs) (m .links))
       (store-source work counts links k h)
 
-  pub pair-stored : (pairs i u : ℕ) → pairs < pairRoom → i < positionLimit
+  pub pair-stored : (pairs i u : ℕ) → pairs < pairRoom
       → memoryIn (pairStored work pairs i u) counts ≡ withPair (memoryIn work counts) pairs i u
-  pair-stored pairs i u hp hi =
-      let head = getD work (headsAt + i) 0 in
+  pair-stored pairs i u hp =
+      let hc = chain-lt i u in
+      let head = getD work (headsAt + chainOf i u) 0 in
       let w₁ = set work (oldsAt + pairs) i in
       let w₂ = set w₁ (verticesAt + pairs) u in
       let w₃ = set w₂ (nextsAt + pairs) head in
-      rw (getD-part work headsAt positionLimit i hi)
-      (store-head w₃ counts i (pairs + 1) hi
-      ∙ ap (λ (m : Memory). memory (m .olds) (m .vertices) (set (m .heads) i (pairs + 1)) (m .nexts) (m .sources) (m .targets) (m .pairs) (m .links))
+      rw (getD-part work headsAt positionLimit (chainOf i u) hc)
+      (store-head w₃ counts (chainOf i u) (pairs + 1) hc
+      ∙ ap (λ (m : Memory). memory (m .olds) (m .vertices) (set (m .heads) (chainOf i u) (pairs + 1)) (m .nexts) (m .sources) (m .targets) (m .pairs) (m .links))
       (store-next w₂ counts pairs head hp
       ∙ ap (λ (m : Memory). memory (m .olds) (m .vertices) (m .heads) (set (m .nexts) pairs head) (m .sources) (m .targets) (m .pairs) (m .links))
       (store-vertex w₁ counts pairs u hp
@@ -147,6 +150,6 @@ module _ (p : ℕ) (work : List ℕ) (counts : Counts) (ready : SearchRoom p (me
       let w₁ = linkStored work (counts .links) k r in
       subst (λ (m : Memory). Moved k ((j, w) ∷ []) p (memoryIn work counts) m)
       (sym (ap (λ (l : List ℕ). memoryIn l more) f
-      ∙ pair-stored w₁ more (counts .pairs) j w (omega (arith, within .few-pairs)) (omega (arith, ready .few))
+      ∙ pair-stored w₁ more (counts .pairs) j w (omega (arith, within .few-pairs))
       ∙ ap (λ (m : Memory). withPair m (counts .pairs) j w) (link-stored work more (counts .links) k r (omega (arith, within .few-links)))))
       (moved-new p (memoryIn work counts) ready within k j w hj r e h _ _ _ _ (record { old = refl; vertex = refl; head = refl; next = refl }))

@@ -6,22 +6,23 @@ use crate::found::add_pair;
 use crate::found::visit;
 use crate::places::OLDS_AT;
 use crate::places::VERTICES_AT;
-use carry_replies::lowest_reply;
 use carry_replies::next_successor;
 use carry_replies::owns;
 use carry_replies::reply;
 use table::limits::LINKS;
 use table::limits::POSITIONS;
+ghost use mathlib.Core.Path.{_≡_};
 ghost use Prim.Native.Nat.{_≤_, _<_};
 ghost use Rattle.table.specs.Lent.{old, new};
 ghost use Rattle.table.specs.Limits.{positionLimit};
 ghost use Rattle.table.specs.Table.{vertexCount};
+ghost use Rattle.table.specs.WellFormed.{WellFormed};
 ghost use Rattle.plan_links.specs.PlanTable.{positionCount};
 ghost use Rattle.carry_replies.specs.Replies.{Readable};
 ghost use Rattle.carry_search.specs.SearchMemory.{SearchRoom, Within};
 ghost use Rattle.carry_search.specs.Work.{memoryIn};
 ghost use Rattle.carry_search.specs.Search.{tableFound, Fresh, onePair, Started, Expandable, SearchResult};
-ghost use Rattle.carry_search.specs.Search.{PairExpanded, OwnExpanded, AllExpanded, MovedTo};
+ghost use Rattle.carry_search.specs.Search.{mostLinks, PairExpanded, MovedTo};
 
 // How many pairs and links are found.
 pub struct Counts {
@@ -43,7 +44,7 @@ pub fn find_pairs(
     w: usize,
 ) -> Counts
     requires { ⌜ Readable (now game) player (now plan) (now seats) (now marks) (now edges) (now firsts) (now follow) ⌝ }
-    requires { ⌜ (w < vertexCount (now game)) × Fresh (positionCount (now plan)) (now work) ⌝ }
+    requires { ⌜ (w < vertexCount (now game)) × Fresh (now work) ⌝ }
     ensures { λ r. ⌜ SearchResult (tableFound (old game) player (old plan) (old seats) w) (memoryIn (new work) r) ⌝ }
 {
     add_pair(work, 0, 0, w as u16);
@@ -108,7 +109,20 @@ fn run(
     Counts { pairs, links }
 }
 
-// The moves of pair k: where its vertex is the player's the one to the lowest vertex that is answered, else all.
+// How many links there are at most before a move from vertex u: where it is the player's, as many as before its moves, so that it has one; else
+// as many as a plan may have.
+fn most_links(game: &[u16], player: u32, u: usize, links: usize) -> usize
+    requires { ⌜ WellFormed (now game) × (player ≤ 1) × (u < vertexCount (now game)) ⌝ }
+    ensures { λ r. ⌜ r ≡ mostLinks (old game) player u links ⌝ }
+{
+    if owns(game, player, u) {
+        return links;
+    }
+    LINKS
+}
+
+// The moves of pair k to the vertices that are answered, ascending: where its vertex is the player's the first one, else all, until a plan could
+// hold no more.
 fn expand(
     game: &[u16],
     player: u32,
@@ -126,112 +140,10 @@ fn expand(
     requires { ⌜ Expandable (positionCount (now plan)) (vertexCount (now game)) k (now work) counts ⌝ }
     ensures { λ r. ⌜ PairExpanded (old game) player (old plan) (old seats) k (old work) counts (new work) r ⌝ }
 {
-    let u = work[VERTICES_AT + k] as usize;
-    if owns(game, player, u) {
-        return expand_own(
-            game,
-            player,
-            plan,
-            seats,
-            marks,
-            edges,
-            firsts,
-            follow,
-            work,
-            counts,
-            k,
-        );
-    }
-    expand_all(
-        game,
-        player,
-        plan,
-        seats,
-        marks,
-        edges,
-        firsts,
-        follow,
-        work,
-        counts,
-        k,
-    )
-}
-
-// The move of pair k to the lowest vertex that is answered.
-fn expand_own(
-    game: &[u16],
-    player: u32,
-    plan: &[u16],
-    seats: &[u16],
-    marks: &[u8],
-    edges: &[u64],
-    firsts: &[u16],
-    follow: &[u16],
-    work: &mut [u16],
-    counts: Counts,
-    k: usize,
-) -> Counts
-    requires { ⌜ Readable (now game) player (now plan) (now seats) (now marks) (now edges) (now firsts) (now follow) ⌝ }
-    requires { ⌜ Expandable (positionCount (now plan)) (vertexCount (now game)) k (now work) counts ⌝ }
-    ensures { λ r. ⌜ OwnExpanded (old game) player (old plan) (old seats) k (old work) counts (new work) r ⌝ }
-{
     let n = game[0] as usize;
     let i = work[OLDS_AT + k] as usize;
     let u = work[VERTICES_AT + k] as usize;
-    let w = lowest_reply(
-        game,
-        player,
-        plan,
-        seats,
-        marks,
-        edges,
-        firsts,
-        follow,
-        i,
-        u,
-    );
-    if w < n {
-        return step(
-            game,
-            player,
-            plan,
-            seats,
-            marks,
-            edges,
-            firsts,
-            follow,
-            work,
-            counts,
-            k,
-            i,
-            u,
-            w,
-        );
-    }
-    counts
-}
-
-// The moves of pair k to all vertices that are answered, ascending, until a plan could hold no more.
-fn expand_all(
-    game: &[u16],
-    player: u32,
-    plan: &[u16],
-    seats: &[u16],
-    marks: &[u8],
-    edges: &[u64],
-    firsts: &[u16],
-    follow: &[u16],
-    work: &mut [u16],
-    counts: Counts,
-    k: usize,
-) -> Counts
-    requires { ⌜ Readable (now game) player (now plan) (now seats) (now marks) (now edges) (now firsts) (now follow) ⌝ }
-    requires { ⌜ Expandable (positionCount (now plan)) (vertexCount (now game)) k (now work) counts ⌝ }
-    ensures { λ r. ⌜ AllExpanded (old game) player (old plan) (old seats) k (old work) counts (new work) r ⌝ }
-{
-    let n = game[0] as usize;
-    let i = work[OLDS_AT + k] as usize;
-    let u = work[VERTICES_AT + k] as usize;
+    let most = most_links(game, player, u, counts.links);
     let mut pairs = counts.pairs;
     let mut links = counts.links;
     let mut w = next_successor(edges, n, u, 0);
@@ -239,7 +151,7 @@ fn expand_all(
         if POSITIONS < pairs {
             return Counts { pairs, links };
         }
-        if LINKS < links {
+        if most < links {
             return Counts { pairs, links };
         }
         let more = step(

@@ -6,24 +6,29 @@ use edit_buffer::make_edit;
 use edit_rules::Edit;
 use edit_rules::buffer::read_in;
 use edit_rules::judge_edit;
+use edit_rules::listing::scan_edges;
 use reduction::TableCounts;
 use reduction::Tabulation;
 use table::Acceptance;
 use table::Filling;
 use table::refusal_of;
+ghost use mathlib.Core.Path.{_≡_};
+ghost use mathlib.Core.Bool.{true};
 ghost use lib.ListN.{length};
+ghost use Rattle.theory.specs.logic.Range.{first};
 ghost use Rattle.table.specs.Lent.{old, new};
 ghost use Rattle.table.specs.Table.{tableIn};
 ghost use Rattle.table.specs.Answers.{Clean};
 ghost use Rattle.classes.specs.ClassesRules.{ClassesFit};
 ghost use Rattle.edit_rules.specs.Edges.{editRows};
-ghost use Rattle.edit_rules.specs.EditParts.{Formed};
+ghost use Rattle.edit_rules.specs.EditParts.{Formed, leads};
 ghost use Rattle.edit_rules.specs.declared.Edit.the-variants.{Arrival, Leaving};
 ghost use Rattle.reduction.specs.TableCall.{tabulationAnswer};
 ghost use Rattle.edit.specs.EditCall.{EditCall};
 ghost use Rattle.edit.specs.EditedMemory.{EditDone};
 
 // Makes an edit that was judged, and writes the order and the classes of the new table.
+// `copy` is where a scan found the first copy of the edge.
 pub fn apply_edit(
     buffer: &mut [u16],
     n: usize,
@@ -31,15 +36,17 @@ pub fn apply_edit(
     edit: Edit,
     source: u32,
     target: u32,
+    copy: usize,
     marks: &mut [u8],
     spare: &mut [u8],
     classes: &mut [u16],
 ) -> TableCounts
     requires { ⌜ Formed (tableIn (now buffer)) n m × ClassesFit (tableIn (now buffer)) (now marks) (now spare) (now classes) ⌝ }
+    requires { ⌜ copy ≡ first (leads (tableIn (now buffer)) source target true) 0 m ⌝ }
     requires { ⌜ Clean (editRows edit (tableIn (now buffer)) (length (now buffer)) source target) ⌝ }
     ensures { λ r. ⌜ EditDone edit (old buffer) source target (old marks) (old spare) (old classes) r (new buffer) (new marks) (new spare) (new classes) ⌝ }
 {
-    let edges = make_edit(buffer, n, m, edit, source, target);
+    let edges = make_edit(buffer, n, m, edit, source, target, copy);
     let end = 2 + 2 * n + 2 * edges;
     let k = fill_memory(&buffer[..end], n, marks, spare, classes);
     TableCounts {
@@ -73,11 +80,26 @@ fn edit_table(
     }
     let len = buffer.len();
     let size = 2 + 2 * n + 2 * m;
-    let judged = judge_edit(&buffer[..size], n, m, len, edit, source, target);
+    let s = source as usize;
+    let t = target as usize;
+    let scan = scan_edges(&buffer[..size], n, m, s, t);
+    let copy = scan.copy;
+    let judged = judge_edit(n, m, len, edit, s, t, copy < m, scan.another);
     if let Acceptance::Refused(refusal) = judged {
         return Tabulation::Refused(refusal);
     }
-    let counts = apply_edit(buffer, n, m, edit, source, target, marks, spare, classes);
+    let counts = apply_edit(
+        buffer,
+        n,
+        m,
+        edit,
+        source,
+        target,
+        copy,
+        marks,
+        spare,
+        classes,
+    );
     Tabulation::Accepted(counts)
 }
 

@@ -5,6 +5,7 @@ use edit::apply_edit;
 use edit_rules::Edit;
 use edit_rules::buffer::read_in;
 use edit_rules::judge_edit;
+use edit_rules::listing::scan_edges;
 use reduction::Tabulation;
 use table::Acceptance;
 use table::Filling;
@@ -50,12 +51,27 @@ fn preview_table(
             place: size,
         });
     }
-    let judged = judge_edit(&game[..size], n, m, len, edit, source, target);
+    let s = source as usize;
+    let t = target as usize;
+    let scan = scan_edges(&game[..size], n, m, s, t);
+    let copy = scan.copy;
+    let judged = judge_edit(n, m, len, edit, s, t, copy < m, scan.another);
     if let Acceptance::Refused(refusal) = judged {
         return Tabulation::Refused(refusal);
     }
     slices::copy(table, 0, game, size);
-    let counts = apply_edit(table, n, m, edit, source, target, marks, spare, classes);
+    let counts = apply_edit(
+        table,
+        n,
+        m,
+        edit,
+        source,
+        target,
+        copy,
+        marks,
+        spare,
+        classes,
+    );
     Tabulation::Accepted(counts)
 }
 

@@ -6,6 +6,7 @@ pub mod EdgesLaws
 pub mod ListedPartLaws
 pub mod EditedLaws
 pub mod SearchLaws
+pub mod ScanLaws
 pub mod EditPartsLaws
 pub mod JudgeLaws
 pub mod EdgesRules

@@ -109,11 +109,6 @@ elsewhere-stays g s t = So-ext to from
               (any-fails (tableEdges g) elsewhere f j (l .inside))
         ]
 
--- none of no edges
-pub leads-none : (g : List ℕ) (s t : ℕ) (there : Bool) → anyBelow 0 (leads g s t there) ≡ false
-unfolding anyBelow
-leads-none g s t there = refl
-
 -- ---- the edges that stay, one by one
 
 -- the edges below j

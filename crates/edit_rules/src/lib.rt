@@ -3,22 +3,29 @@
 pub mod buffer;
 pub mod listing;
 
-use crate::listing::has_edge;
 use table::Acceptance;
 use table::NoCounts;
 use table::acceptor::refused;
 use table::limits::EDGES;
 ghost use mathlib.Core.Path.{_≡_};
 ghost use mathlib.Core.List.{[]};
-ghost use Rattle.table.specs.Lent.{old};
+ghost use Prim.Native.Nat.{_≤_};
+ghost use Rattle.table.specs.Limits.{vertexLimit, edgeLimit};
 ghost use Rattle.table.specs.Answers.{judge};
 ghost use Rattle.table.specs.Acceptance.{acceptanceAnswer};
-ghost use Rattle.edit_rules.specs.Edges.{misplaced, changeRows, editRows};
-ghost use Rattle.edit_rules.specs.EditParts.{Formed};
+ghost use Rattle.edit_rules.specs.Edges.{misplaced};
+ghost use Rattle.edit_rules.specs.EditParts.{changeFacts, editFacts};
 
 pub enum Edit {
     Arrival,
     Leaving,
+}
+
+// What a scan for the edges from s to t finds: the first of them, or as many as there are edges where there is none, and whether an edge leads
+// from s elsewhere.
+pub struct Scan {
+    pub copy: usize,
+    pub another: bool,
 }
 
 // Whether the edge is there already, for an arrival, or isn't there, for a leaving.
@@ -31,18 +38,10 @@ fn is_misplaced(edit: Edit, there: bool) -> bool
     }
 }
 
-// 38 for a leaving, 39 for an arrival into a buffer of `size` words.
-pub fn judge_change(
-    table: &[u16],
-    n: usize,
-    m: usize,
-    size: usize,
-    edit: Edit,
-    s: usize,
-    t: usize,
-) -> Acceptance
-    requires { ⌜ Formed (now table) n m ⌝ }
-    ensures { λ r. ⌜ acceptanceAnswer r ≡ judge (changeRows edit (old table) size s t) [] ⌝ }
+// 38 for a leaving, by whether another edge of the source is there; 39 for an arrival into a buffer of `size` words.
+fn judge_change(n: usize, m: usize, size: usize, edit: Edit, s: usize, another: bool) -> Acceptance
+    requires { ⌜ (n ≤ vertexLimit) × (m ≤ edgeLimit) ⌝ }
+    ensures { λ r. ⌜ acceptanceAnswer r ≡ judge (changeFacts edit n m size s another) [] ⌝ }
 {
     match edit {
         Edit::Arrival => {
@@ -55,7 +54,7 @@ pub fn judge_change(
             Acceptance::Accepted(NoCounts {})
         }
         Edit::Leaving => {
-            if has_edge(table, n, m, s, t, false) {
+            if another {
                 return Acceptance::Accepted(NoCounts {});
             }
             refused(38, s)
@@ -63,29 +62,29 @@ pub fn judge_change(
     }
 }
 
-// Judges an edit of a table that begins a buffer of `size` words: 37, then 38 or 39.
+// Judges an edit of a table of n vertices and m edges that begins a buffer of `size` words, by whether the edge and another edge of its source are
+// there: 37, then 38 or 39.
 pub fn judge_edit(
-    table: &[u16],
     n: usize,
     m: usize,
     size: usize,
     edit: Edit,
-    source: u32,
-    target: u32,
+    s: usize,
+    t: usize,
+    there: bool,
+    another: bool,
 ) -> Acceptance
-    requires { ⌜ Formed (now table) n m ⌝ }
-    ensures { λ r. ⌜ acceptanceAnswer r ≡ judge (editRows edit (old table) size source target) [] ⌝ }
+    requires { ⌜ (n ≤ vertexLimit) × (m ≤ edgeLimit) ⌝ }
+    ensures { λ r. ⌜ acceptanceAnswer r ≡ judge (editFacts edit n m size s t there another) [] ⌝ }
 {
-    let s = source as usize;
-    let t = target as usize;
     if n <= s {
         return refused(37, s);
     }
     if n <= t {
         return refused(37, s);
     }
-    if is_misplaced(edit, has_edge(table, n, m, s, t, true)) {
+    if is_misplaced(edit, there) {
         return refused(37, s);
     }
-    judge_change(table, n, m, size, edit, s, t)
+    judge_change(n, m, size, edit, s, another)
 }

@@ -1,14 +1,15 @@
 // Searches among a table's edges, and the edges that a leaving keeps.
+use crate::Scan;
 use table::slices;
 ghost use mathlib.Core.Path.{_≡_};
 ghost use Prim.Native.Nat.{_+_, _<_, _≤_};
 ghost use lib.ListN.{length};
 ghost use mathlib.Core.Bool.{true};
-ghost use Rattle.theory.specs.logic.Range.{anyBelow, first};
+ghost use Rattle.theory.specs.logic.Range.{first};
 ghost use Rattle.table.specs.Lent.{old, new};
 ghost use Rattle.table.specs.Listing.{Appended};
 ghost use Rattle.edit_rules.specs.Edges.{edgesIn, others};
-ghost use Rattle.edit_rules.specs.EditParts.{Formed, leads, edgesPart};
+ghost use Rattle.edit_rules.specs.EditParts.{Formed, leads, edgesPart, Scanned, Scanning};
 
 // Whether edge j leads from s to t or, where `there` is false, from s to another vertex.
 fn leads_so(table: &[u16], n: usize, m: usize, j: usize, s: usize, t: usize, there: bool) -> bool
@@ -22,18 +23,49 @@ fn leads_so(table: &[u16], n: usize, m: usize, j: usize, s: usize, t: usize, the
     if there { hit } else { !hit }
 }
 
-// Whether some edge leads from s to t or, where `there` is false, from s to another vertex.
-pub fn has_edge(table: &[u16], n: usize, m: usize, s: usize, t: usize, there: bool) -> bool
-    requires { ⌜ Formed (now table) n m ⌝ }
-    ensures { λ r. ⌜ r ≡ anyBelow m (leads (old table) s t there) ⌝ }
+// Takes edge j into a scan for the edges from s to t.
+fn scan_edge(table: &[u16], n: usize, m: usize, j: usize, s: usize, t: usize, scan: Scan) -> Scan
+    requires { ⌜ Formed (now table) n m × (j < m) ⌝ }
+    requires { ⌜ Scanning (now table) m s t j scan ⌝ }
+    ensures { λ r. ⌜ Scanning (old table) m s t (j + 1) r ⌝ }
 {
+    if leads_so(table, n, m, j, s, t, false) {
+        return Scan {
+            copy: scan.copy,
+            another: true,
+        };
+    }
+    if scan.copy < m {
+        return scan;
+    }
+    if leads_so(table, n, m, j, s, t, true) {
+        return Scan {
+            copy: j,
+            another: scan.another,
+        };
+    }
+    scan
+}
+
+// Finds the first edge from s to t, and whether an edge leads from s elsewhere, in one scan that ends once both are found.
+pub fn scan_edges(table: &[u16], n: usize, m: usize, s: usize, t: usize) -> Scan
+    requires { ⌜ Formed (now table) n m ⌝ }
+    ensures { λ r. ⌜ Scanned (old table) m s t r ⌝ }
+{
+    let mut scan = Scan {
+        copy: m,
+        another: false,
+    };
     let mut j = 0;
     let found = loop {
-        if j >= m {
-            break false;
+        if m <= j {
+            break scan;
         }
-        if leads_so(table, n, m, j, s, t, there) {
-            break true;
+        scan = scan_edge(table, n, m, j, s, t, scan);
+        if scan.another {
+            if scan.copy < m {
+                break scan;
+            }
         }
         j += 1;
     };
@@ -79,22 +111,24 @@ fn list_part(
     e + count
 }
 
-// Lists the edges other than those from s to t, in sequence, those between two copies at once. Returns how many there are.
+// Lists the edges other than those from s to t, in sequence, those between two copies at once, where the first copy was found. Returns how many
+// there are.
 pub fn list_others(
     table: &[u16],
     n: usize,
     m: usize,
     s: usize,
     t: usize,
+    copy: usize,
     sources: &mut [u16],
     ends: &mut [u16],
 ) -> usize
-    requires { ⌜ Formed (now table) n m ⌝ }
+    requires { ⌜ Formed (now table) n m × (copy ≡ first (leads (now table) s t true) 0 m) ⌝ }
     requires { ⌜ (m ≤ length (now sources)) × (m ≤ length (now ends)) ⌝ }
     ensures { λ r. ⌜ Appended (others s t (edgesIn (old table))) 0 (old sources) (new sources) (old ends) (new ends) r ⌝ }
 {
-    let mut e = 0;
-    let mut j = 0;
+    let mut e = list_part(table, n, m, 0, copy, sources, ends, 0);
+    let mut j = copy + 1;
     while j < m {
         let k = find_edge(table, n, m, s, t, j);
         e = list_part(table, n, m, j, k, sources, ends, e);

@@ -1,18 +1,13 @@
 -- Laws of a run: an entry's edit, and the run at each entry.
 use mathlib.Core.Path.{_≡_, refl, sym, ap, _∙_}
-use mathlib.Core.Bool.{Bool, true, false, not, cond, So}
+use mathlib.Core.Bool.{Bool, true, false, cond}
 use mathlib.Core.List.{List, [], _∷_}
 use Prim.Native.Nat.{ℕ, _+_, _≤_, max}
 use native.Mathlib.Omega.{arith}
 use lib.ListN.{length}
-use Rattle.theory.specs.logic.Range.{anyBelow}
 use Rattle.table.specs.Table.{gameOf}
 use Rattle.table.specs.Answers.{Row, Answer, accepted, refused, judge, Clean}
 use Rattle.table.specs.AnswersLaws.{judge-accepted, not-both}
-use Rattle.edit_rules.specs.Edges.{misplaced}
-use Rattle.edit_rules.specs.EditParts.{Formed, leads}
-use Rattle.edit_rules.specs.SearchLaws.{there-edge}
-use Rattle.edit_rules.specs.declared.Edit.{Edit}
 use Rattle.edit_rules.specs.declared.Edit.the-variants.{Arrival, Leaving}
 use Rattle.edit_trace.specs.Run.{passing, toggle, toggled, entryRows, Run, runFrom, runOver}
 
@@ -36,21 +31,9 @@ module _ {A : Type 0} (a b : A) where
 
 -- ---- an entry's edit
 
-found-edge : {g : List ℕ} {n m : ℕ} → Formed g n m → (s t : ℕ) → anyBelow m (leads g s t true) ≡ gameOf g .edge s t
-found-edge {g} f s t = rw (f .edges) (there-edge g s t)
-
-pub toggle-is : {g : List ℕ} {n m : ℕ} → Formed g n m → (s t : ℕ) {b : Bool} → b ≡ anyBelow m (leads g s t true) → cond b Leaving Arrival ≡ toggle g (s, t)
+pub toggle-is : (g : List ℕ) (e : ℕ × ℕ) {b : Bool} → b ≡ gameOf g .edge (e .0) (e .1) → cond b Leaving Arrival ≡ toggle g e
 unfolding toggle
-toggle-is f s t h = ap (λ (b : Bool). cond b Leaving Arrival) (h ∙ found-edge f s t)
-
--- it fits the table
-pub toggle-placed : {g : List ℕ} {n m : ℕ} → Formed g n m → (s t : ℕ) → misplaced (toggle g (s, t)) (anyBelow m (leads g s t true)) ≡ false
-unfolding toggle misplaced
-toggle-placed {g} f s t = rw (found-edge f s t) (go (gameOf g .edge s t))
-  where
-    go : (b : Bool) → misplaced (cond b Leaving Arrival) b ≡ false
-    go true = refl
-    go false = refl
+toggle-is g e h = ap (λ (b : Bool). cond b Leaving Arrival) h
 
 -- ---- a run, entry by entry
 

@@ -1,13 +1,14 @@
 // A recorded list of edits: refusal 40, and its entries made in a buffer one by one. Parts of the call; no host calls these.
 use edit_buffer::make_edit;
 use edit_rules::Edit;
-use edit_rules::judge_change;
-use edit_rules::listing::has_edge;
+use edit_rules::judge_edit;
+use edit_rules::listing::scan_edges;
 use table::Acceptance;
 use table::NoCounts;
 use table::Refusal;
 use table::acceptor::refused;
 ghost use mathlib.Core.Path.{_≡_};
+ghost use mathlib.Core.Bool.{cond};
 ghost use mathlib.Core.List.{[]};
 ghost use Prim.Native.Nat.{_+_, _*_, _≤_};
 ghost use lib.ListN.{length};
@@ -15,10 +16,9 @@ ghost use Rattle.table.specs.Lent.{old, new};
 ghost use Rattle.table.specs.Table.{tableIn};
 ghost use Rattle.table.specs.Answers.{judge, Clean};
 ghost use Rattle.table.specs.Acceptance.{acceptanceAnswer};
-ghost use Rattle.edit_rules.specs.Edges.{editRows};
 ghost use Rattle.edit_rules.specs.EditParts.{Formed};
+ghost use Rattle.edit_rules.specs.declared.Edit.the-variants.{Arrival, Leaving};
 ghost use Rattle.edit_trace.specs.Trace.{entryCount, traceRows};
-ghost use Rattle.edit_trace.specs.Run.{toggle};
 ghost use Rattle.edit_trace.specs.RunState.{Entered, RunResult};
 
 // The most entries of a trace.
@@ -60,37 +60,10 @@ pub fn judge_trace(trace: &[u16]) -> Acceptance
 }
 
 // An edge that is there leaves, any other arrives.
-fn find_edit(table: &[u16], n: usize, m: usize, s: usize, t: usize) -> Edit
-    requires { ⌜ Formed (now table) n m ⌝ }
-    ensures { λ r. ⌜ r ≡ toggle (old table) (s, t) ⌝ }
+fn find_edit(there: bool) -> Edit
+    ensures { λ r. ⌜ r ≡ cond there Leaving Arrival ⌝ }
 {
-    if has_edge(table, n, m, s, t, true) {
-        Edit::Leaving
-    } else {
-        Edit::Arrival
-    }
-}
-
-// Judges the edit of an entry: 37 for an end not below n, then 38 or 39.
-fn judge_entry(
-    table: &[u16],
-    n: usize,
-    m: usize,
-    size: usize,
-    edit: Edit,
-    s: usize,
-    t: usize,
-) -> Acceptance
-    requires { ⌜ Formed (now table) n m × (edit ≡ toggle (now table) (s, t)) ⌝ }
-    ensures { λ r. ⌜ acceptanceAnswer r ≡ judge (editRows edit (old table) size s t) [] ⌝ }
-{
-    if n <= s {
-        return refused(37, s);
-    }
-    if n <= t {
-        return refused(37, s);
-    }
-    judge_change(table, n, m, size, edit, s, t)
+    if there { Edit::Leaving } else { Edit::Arrival }
 }
 
 // Judges an entry, and makes its edit in the buffer.
@@ -102,12 +75,15 @@ fn enter(buffer: &mut [u16], n: usize, m: usize, source: u16, target: u16) -> En
     let t = target as usize;
     let len = buffer.len();
     let size = 2 + 2 * n + 2 * m;
-    let edit = find_edit(&buffer[..size], n, m, s, t);
-    let judged = judge_entry(&buffer[..size], n, m, len, edit, s, t);
+    let scan = scan_edges(&buffer[..size], n, m, s, t);
+    let copy = scan.copy;
+    let there = copy < m;
+    let edit = find_edit(there);
+    let judged = judge_edit(n, m, len, edit, s, t, there, scan.another);
     if let Acceptance::Refused(refusal) = judged {
         return Entry::Refused(refusal);
     }
-    let edges = make_edit(buffer, n, m, edit, source as u32, target as u32);
+    let edges = make_edit(buffer, n, m, edit, source as u32, target as u32, copy);
     Entry::Done(EdgeCount { edges })
 }
 

@@ -84,3 +84,32 @@ read-part b at count word h e = rw (power-is count (omega (arith, h)), and-mask 
       digit-mod (word / 2 ^ (at % 8)) count k l ∙ digit-shift word (at % 8) k ∙ e (at % 8 + k) (omega (arith, h, l)) ∙ ap (isMark b) s,
   λ k l. digit-high (word / 2 ^ (at % 8) % 2 ^ count) k count (mod-lt _ (pow-pos count)) l,
 )
+
+-- ---- a part behind a part
+
+module _ (b : List ℕ) (at i j low high : ℕ) (few : i + j ≤ wordBits) (first : BitsRead b at i low) (second : BitsRead b (at + i) j high) where
+  -- a digit of the second part in its place
+  moved-in : (k : ℕ) → i ≤ k → k < wordBits → digit (high * 2 ^ i % 2 ^ 64) k ≡ digit high (k - i)
+  moved-in k h l =
+      let e : k ≡ i + (k - i) = omega arith in
+      digit-mod (high * 2 ^ i) 64 k l ∙ ap (digit (high * 2 ^ i)) e ∙ digit-up high i (k - i)
+
+  moved-low : (k : ℕ) → k < i → digit (high * 2 ^ i % 2 ^ 64) k ≡ false
+  moved-low k h = digit-mod (high * 2 ^ i) 64 k (omega (arith, few)) ∙ digit-up-low high i k h
+
+  moved-high : (k : ℕ) → i + j ≤ k → digit (high * 2 ^ i % 2 ^ 64) k ≡ false
+  moved-high k h = elim (decLt k wordBits) [
+    | yes l ↦ moved-in k (omega arith) l ∙ second .1 (k - i) (omega arith)
+    | no l ↦ digit-high (high * 2 ^ i % 2 ^ 64) k 64 (mod-lt _ (pow-pos 64)) (omega (arith, l))
+  ]
+
+  pub read-join : BitsRead b at (i + j) (bitOr low (high * 2 ^ i % 2 ^ 64))
+  read-join = (
+    λ k h. elim (decLt k i) [
+      | yes l ↦ digit-or low _ k ∙ ap₂ (λ x y. x or y) (first .0 k l) (moved-low k l) ∙ or-false _
+      | no l ↦ (
+          let e : at + i + (k - i) ≡ at + k = omega arith in
+          digit-or low _ k ∙ or-first _ (first .1 k (omega arith)) ∙ moved-in k (omega arith) (omega (arith, few)) ∙ second .0 (k - i) (omega arith) ∙ ap (isMark b) e)
+    ],
+    λ k h. digit-or low _ k ∙ or-first _ (first .1 k (omega arith)) ∙ moved-high k h,
+  )

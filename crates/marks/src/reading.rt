@@ -43,3 +43,16 @@ pub fn read_bits(marks: &[u8], at: usize, count: usize) -> u64
     let word = read_word(marks, at / 8);
     (word >> (at % 8)) & ((1u64 << count) - 1)
 }
+
+// The `count` marks from mark `at` on, at most as many as a word has bits: in two parts, where one has no room for them.
+pub fn read_wide(marks: &[u8], at: usize, count: usize) -> u64
+    requires { ⌜ (count ≤ wordBits) × (at + count ≤ pairLimit) × (bytesFor (at + count) ≤ length (now marks)) ⌝ }
+    ensures { λ r. ⌜ BitsRead (old marks) at count r ⌝ }
+{
+    if count <= 56 {
+        return read_bits(marks, at, count);
+    }
+    let low = read_bits(marks, at, 56);
+    let high = read_bits(marks, at + 56, count - 56);
+    low | (high << 56)
+}

@@ -25,12 +25,12 @@ fn asked_fall(edges: &[u64], related: &[u64], out: Row, left: Row, a: usize, few
     requires { ⌜ (edgeWords ≤ length (now edges)) × (relationWords ≤ length (now related)) × (a < rowBits) ⌝ }
     ensures { λ r. ⌜ ((G : Game) → EdgeRows G (old edges) → FallAsked G (old related) a out left r) ⌝ }
 {
+    if few {
+        return fall_of(edges, out, left);
+    }
     let evens = without(row(edges, VERTICES + a), row(edges, 2 * VERTICES));
     if !is_some(evens) {
         return [0u64; WORDS];
-    }
-    if few {
-        return fall_of(edges, out, left);
     }
     fall_within(edges, unite(related, 0, evens), out, left)
 }
@@ -53,7 +53,11 @@ fn take_row(
     put(related, a, left);
     put(lost, a, out);
     let pairs = size(out);
-    put(falls, a, asked_fall(edges, related, out, left, a, pairs <= 2));
+    put(
+        falls,
+        a,
+        asked_fall(edges, related, out, left, a, pairs <= 2),
+    );
     pairs
 }
 

@@ -10,11 +10,6 @@ use lib.ListN.{getD, set}
 use Rattle.theory.specs.logic.Bools.{_&_, bit}
 use Rattle.theory.specs.logic.Range.{anyFrom, count}
 use Rattle.theory.specs.plans.Reach.{Reach}
-use Rattle.index.specs.Index.{among}
-
--- an indexed link leads from i to j
-unfoldable pub linkBy : List ℕ → List ℕ → ℕ → ℕ → Bool
-linkBy starts targets i j = among starts targets i (λ k. eqb k j)
 
 unfoldable pub stamped : ℕ → List ℕ → ℕ → Bool
 stamped stamp seen j = eqb (getD seen j 0) stamp

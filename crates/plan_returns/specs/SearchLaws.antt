@@ -21,7 +21,8 @@ use Rattle.theory.specs.plans.Plan.{Walk}
 use Rattle.theory.specs.plans.Reach.{Each, Reach, reaches}
 use Rattle.theory.specs.plans.ReachLaws.{reaches-in, reaches-out, reach-more}
 use Rattle.index.specs.Index.{among}
-use Rattle.plan_returns.specs.Search.{linkBy, stamped, fresh, Visited, Queued, Grown, followed, follows, Searched}
+use Rattle.plan_blocks.specs.Blocks.{linkBy}
+use Rattle.plan_returns.specs.Search.{stamped, fresh, Visited, Queued, Grown, followed, follows, Searched}
 
 -- ---- one visit
 

@@ -1,6 +1,6 @@
-pub mod LittleBrothers
 pub mod Rows
-pub mod RowsLaws
 pub mod PickedLaws
+pub mod LittleBrothers
 pub mod LittleBrothersLaws
+pub mod WordsLaws
 pub mod ListingLaws

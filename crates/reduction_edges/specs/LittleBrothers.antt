@@ -1,43 +1,38 @@
--- Little brothers as the code finds them, by marks and by a list of edges: document 004, definition 5.1 and table 4. Theory's `dropped`
+-- Little brothers as the code finds them, by marks and by a row of targets: document 004, definition 5.1 and table 4. Theory's `dropped`
 -- has the definition; no public promise cites these.
-use mathlib.Core.Bool.{Bool, not, cond}
+use mathlib.Core.Bool.{Bool, true, false, not}
 use mathlib.Core.List.{List}
-use Prim.Native.Nat.{ℕ, _≤_, _<_}
+use Prim.Native.Nat.{ℕ, _*_, _≤_}
 use lib.Dec.{eqb}
-use lib.ListN.{length, getD}
+use lib.ListN.{length}
 use Rattle.theory.specs.logic.Bools.{_&_}
 use Rattle.theory.specs.logic.Range.{anyBelow}
-use Rattle.theory.specs.order.Passes.{Rel}
-use Rattle.theory.specs.games.Game.{Player, even, odd, Game}
-use Rattle.theory.specs.order.Order.{order}
-use Rattle.theory.specs.classes.Reduction.{representative, noBetter}
-use Rattle.table.specs.Table.{gameOf}
-use Rattle.table.specs.WellFormed.{WellFormed}
-use Rattle.classes.specs.Numbering.{Ordered, classesIn, Represented}
+use Rattle.words.specs.Word.{wordBits}
+use Rattle.words.specs.Words.{has}
+use Rattle.table.specs.Limits.{vertexLimit}
+use Rattle.marks.specs.Marks.{marksLength, relation}
 
--- what a comparison asks: class c of a game whose order the marks hold, the representatives, and q edges, whose targets are classes
-pub record Compared (game marks reps edges : List ℕ) (q c : ℕ) : Type 0 where
-  pub well : WellFormed game
-  pub ordered : Ordered (gameOf game) marks
-  pub represented : Represented (gameOf game .n) (order (gameOf game)) reps
-  pub class : c < classesIn (gameOf game)
-  pub few : q ≤ length edges
-  pub inside : (j : ℕ) → j < q → getD edges j 0 < classesIn (gameOf game)
+-- the marks of n vertices are there
+abbrev pub Marked : ℕ → List ℕ → Type 0
+Marked n marks = (n ≤ vertexLimit) × (marksLength n ≤ length marks)
 
-abbrev pub playerBy : Bool → Player
-playerBy b = cond b even odd
+-- a row has a bit for each of n vertices
+abbrev pub RowFits : ℕ → List ℕ → Type 0
+RowFits n row = n ≤ wordBits * length row
 
--- the representative of class d is one of the n vertices
-abbrev pub HasVertex : ℕ → List ℕ → ℕ → Type 0
-HasVertex n reps d = (d < length reps) × (getD reps d 0 < n)
+-- x is another than d, and d is marked as below x
+unfoldable pub belowOther : ℕ → List ℕ → ℕ → ℕ → Bool
+belowOther n marks d x = not (eqb x d) & relation n marks d x
 
--- d is a little brother of e for a player: another class, and its representative is no better
-unfoldable pub littleBrother : Player → Rel → List ℕ → ℕ → ℕ → Bool
-littleBrother a le reps d e = not (eqb e d) & noBetter a le (getD reps d 0) (getD reps e 0)
+-- d is below another one in the row
+unfoldable pub beaten : ℕ → List ℕ → List ℕ → ℕ → Bool
+beaten n marks row d = anyBelow n (λ e. has row e & belowOther n marks d e)
 
--- d is a little brother of one of the first q targets of edges, for the owner of class c
-unfoldable pub droppedBy : Game → List ℕ → ℕ → ℕ → ℕ → Bool
-droppedBy G edges q c d =
-    anyBelow q (λ j.
-    not (eqb (getD edges j 0) d)
-    & noBetter (G .owner (representative (G .n) (order G) c)) (order G) (representative (G .n) (order G) d) (representative (G .n) (order G) (getD edges j 0)))
+-- x is dropped because of d, which is in the row: for Even d itself, where it is below another; for Odd all others that d is below
+unfoldable pub drops : Bool → ℕ → List ℕ → List ℕ → ℕ → ℕ → Bool
+drops true n marks row d x = eqb d x & beaten n marks row d
+drops false n marks row d x = belowOther n marks d x
+
+-- x is dropped because of one in the row
+unfoldable pub droppedBy : Bool → ℕ → List ℕ → List ℕ → ℕ → Bool
+droppedBy even n marks row x = anyBelow n (λ d. has row d & drops even n marks row d x)

@@ -1,135 +1,144 @@
--- Laws of little brothers: the search over marks is the definition's comparison, and compared with the quotient's row those edges are
--- dropped that the reduced game drops.
+-- Laws of little brothers: what is dropped because of one in the row after another, and that by the marks of the order and the row of a class's
+-- quotient edges those edges are dropped that the reduced game drops.
 use mathlib.Core.Path.{_≡_, refl, sym, ap, ap₂, _∙_}
-use mathlib.Core.Bool.{Bool, true, false, not, So}
-use mathlib.Core.List.{List}
-use Prim.Native.Nat.{ℕ, _+_, _≤_, _<_}
+use mathlib.Core.Bool.{Bool, true, false, not, So, cond}
+use mathlib.Core.List.{List, map}
+use Prim.Native.Nat.{ℕ, _+_, _-_, _/_, _%_, _≤_, _<_}
 use native.Mathlib.Omega.{arith}
 use lib.Dec.{eqb}
 use lib.ListN.{length, getD}
-use borrow.Author.Tests.{eqb-false, ne-eqb}
-use Rattle.theory.specs.logic.Bools.{_&_}
-use Rattle.theory.specs.logic.BoolsLaws.{So-ext, and-in, and-out, and-true, not-in, not-out}
-use Rattle.theory.specs.logic.Range.{anyBelow}
-use Rattle.theory.specs.logic.RangeLaws.{any-in, any-out, any-ext, any-same}
+use borrow.Author.Tests.{eqb-true, eq-eqb}
+use Rattle.theory.specs.logic.Bools.{_&_, _or_}
+use Rattle.theory.specs.logic.BoolsLaws.{So-ext, So-not, clash, eqb-flip, and-in, and-out, and-one, and-first, and-fails, and-assoc, and-true, or-false}
+use Rattle.theory.specs.logic.Range.{anyBelow, first}
+use Rattle.theory.specs.logic.RangeLaws.{any-in, any-out, any-ext, any-more, any-append, first-ge, first-before}
 use Rattle.theory.specs.order.Passes.{Rel}
 use Rattle.theory.specs.games.Game.{Player, even, odd, Game}
 use Rattle.theory.specs.order.Order.{order}
-use Rattle.theory.specs.classes.Reduction.{classNumber, representative, noBetter, quotientEdge, reducedEdge, classGame, quotient, reduced}
-use Rattle.theory.specs.classes.ClassLaws.{classNumber-lt, representative-at, representative-one, representative-of}
-use Rattle.theory.specs.classes.ClassEdges.{Better}
-use Rattle.theory.specs.classes.QuotientLaws.{order-preorder, rep-lt, dropped-in, dropped-out}
-use Rattle.table.specs.Answers.{written}
-use Rattle.table.specs.AnswersLaws.{getD-written}
+use Rattle.theory.specs.classes.Reduction.{isLowest, noBetter, quotientEdge, dropped, reducedEdge}
+use Rattle.words.specs.WordLaws.{digit-zero}
+use Rattle.words.specs.Words.{has}
+use Rattle.table.specs.Table.{playerOf}
 use Rattle.marks.specs.Marks.{relation}
-use Rattle.classes.specs.Numbering.{Ordered, classesIn, Represented}
-use Rattle.reduction_edges.specs.LittleBrothers.{littleBrother, droppedBy}
-use Rattle.reduction_edges.specs.Rows.{Counted, keeps, picked, gameBy}
-use Rattle.reduction_edges.specs.RowsLaws.{members-quotient}
-use Rattle.reduction_edges.specs.PickedLaws.{length-picked, picked-at, picked-find, picked-ext}
+use Rattle.reduction_edges.specs.LittleBrothers.{belowOther, beaten, drops, droppedBy}
+use Rattle.reduction_edges.specs.Rows.{keeps}
 
--- none so far, and one that isn't either
-pub none-start : (p : ℕ → Bool) → anyBelow 0 p ≡ false
-unfolding anyBelow
-none-start p = refl
+-- ---- one in the row after another
 
-pub none-more : (n : ℕ) (p : ℕ → Bool) → anyBelow n p ≡ false → p n ≡ false → anyBelow (n + 1) p ≡ false
-none-more n p e f = any-same n p f ∙ e
+pub any-skip : (a b : ℕ) (p : ℕ → Bool) → a ≤ b → ((i : ℕ) → a ≤ i → i < b → p i ≡ false) → anyBelow a p ≡ anyBelow b p
+any-skip a b p l none =
+    let e : b ≡ a + (b - a) = omega arith in
+    sym (ap (λ (i : ℕ). anyBelow i p) e ∙ any-append a (b - a) p
+    ∙ ap (λ c. anyBelow a p or c) (So-not (λ t. let r = any-out t in clash (r .2) (none (a + r .0) (omega arith) (omega (arith, r .1))))) ∙ or-false _)
 
-noBetter-ext : (a : Player) (le le′ : Rel) (v w : ℕ) → le v w ≡ le′ v w → le w v ≡ le′ w v → noBetter a le v w ≡ noBetter a le′ v w
-unfolding noBetter
-noBetter-ext even le le′ v w e f = e
-noBetter-ext odd le le′ v w e f = f
+module _ (side : Bool) (n : ℕ) (marks row : List ℕ) where
+  -- dropped because of those before d
+  abbrev pub DroppedTo : ℕ → List ℕ → Type 0
+  DroppedTo d words = (x : ℕ) → x < n → has words x ≡ anyBelow d (λ e. has row e & drops side n marks row e x)
 
--- by marks that hold the order, and by the representatives
-pub dropped-marks : (G : Game) (marks reps edges : List ℕ) → Ordered G marks → Represented (G .n) (order G) reps
-    → (a : Player) (q c d : ℕ) → d < classesIn G → ((j : ℕ) → j < q → getD edges j 0 < classesIn G) → a ≡ G .owner (representative (G .n) (order G) c)
-    → anyBelow q (λ j. littleBrother a (relation (G .n) marks) reps d (getD edges j 0)) ≡ droppedBy G edges q c d
-unfolding littleBrother droppedBy
-dropped-marks G marks reps edges ordered represented a q c d hd inside o =
-    any-ext q _ _ (λ j h.
-    let e = getD edges j 0 in
-    let v = rep-lt G d hd in
-    let w = rep-lt G e (inside j h) in
-    ap (λ (b : Bool). not (eqb e d) & b)
-    (rw (← o, represented .lowest d hd, represented .lowest e (inside j h))
-    (noBetter-ext a _ (order G) _ _ (ordered .marked _ _ v w) (ordered .marked _ _ w v))))
+  between : (a b x : ℕ) → ((i : ℕ) → a ≤ i → i < b → has row i ≡ false) → (i : ℕ) → a ≤ i → i < b → has row i & drops side n marks row i x ≡ false
+  between a b x none i l m = and-first (drops side n marks row i x) (none i l m)
 
--- ---- compared with none, the quotient's edges are kept; with the quotient edges of the class, the reduced game's
+  pub dropped-start : (words : List ℕ) → ((x : ℕ) → has words x ≡ false) → DroppedTo (first (has row) 0 n) words
+  unfolding anyBelow
+  dropped-start words z x h = z x ∙ any-skip 0 (first (has row) 0 n) _ (omega arith) (between 0 _ x (λ i. first-before (has row) 0 n i))
 
-module _ (G : Game) (c d : ℕ) (hc : c < classesIn G) (hd : d < classesIn G) (s : ℕ) (counts : List ℕ) (counted : Counted G c (G .n) s counts) where
-  abbrev at : ℕ → ℕ
-  at = representative (G .n) (order G)
+  pub dropped-next : (d : ℕ) (words words′ : List ℕ) → So (has row d) → DroppedTo d words
+      → ((x : ℕ) → x < n → has words′ x ≡ (has words x or drops side n marks row d x)) → DroppedTo (first (has row) (d + 1) n) words′
+  dropped-next d words words′ t p s x h =
+      s x h ∙ ap₂ _or_ (p x h) (sym (and-one (drops side n marks row d x) t)) ∙ sym (any-more d (λ e. has row e & drops side n marks row e x))
+      ∙ any-skip (d + 1) (first (has row) (d + 1) n) _ (first-ge (has row) (d + 1) n) (between (d + 1) _ x (λ i. first-before (has row) (d + 1) n i))
 
-  -- the counts say where quotient edges are
-  counts-edge : eqb (getD counts d 0) s ≡ quotientEdge G (order G) (at c) (at d)
-  counts-edge = counted .all d ∙ members-quotient G c d hc hd
+  pub dropped-end : (d : ℕ) (words : List ℕ) → d ≡ n → DroppedTo d words → (x : ℕ) → x < n → has words x ≡ droppedBy side n marks row x
+  unfolding droppedBy
+  dropped-end d words e p x h = p x h ∙ ap (λ (i : ℕ). anyBelow i (λ e. has row e & drops side n marks row e x)) e
 
-  keeps-all : (edges : List ℕ) → keeps G counts s edges 0 c d ≡ quotient G .edge c d
-  unfolding keeps droppedBy quotient classGame
-  keeps-all edges = rw (none-start _, counts-edge) (and-true (quotientEdge G (order G) (at c) (at d)))
+-- nothing is in zeros
+pub nothing : (words : List ℕ) → ((i : ℕ) → getD words i 0 ≡ 0) → (x : ℕ) → has words x ≡ false
+unfolding has
+nothing words z x = rw (z (x / 64)) (digit-zero (x % 64))
 
-  module _ (edges : List ℕ) (q : ℕ) (e : q ≡ length (picked (classesIn G) (quotient G .edge c)))
-      (row : (j : ℕ) → j < q → getD edges j 0 ≡ getD (picked (classesIn G) (quotient G .edge c)) j 0) where
-    better-in : So (droppedBy G edges q c d) → Better G (at c) (at d)
-    unfolding droppedBy quotient classGame
-    better-in t =
-        let r = any-out t in
-        let b = and-out (r .2) in
-        let x = picked-at (quotient G .edge c) (classesIn G) (r .0) (omega (arith, e, r .1)) in
-        let y = rw (← row (r .0) (r .1)) at x in
-        let p = representative-at (G .n) (order G) (order-preorder G) (getD edges (r .0) 0) (y .0) in record {
-          to = at (getD edges (r .0) 0);
-          inside = p .inside;
-          is-lowest = p .passes;
-          apart = λ f. eqb-false (getD edges (r .0) 0) d (not-out (b .0)) (representative-one (G .n) (order G) (order-preorder G) _ d (y .0) hd f);
-          edge = y .1;
-          above = b .1;
-        }
+-- what one in the row drops: for Odd the others that it is below; for Even nothing, or itself
+module _ (n : ℕ) (marks row : List ℕ) (d x : ℕ) where
+  pub drops-odd : (side : Bool) → So (not side) → drops side n marks row d x ≡ belowOther n marks d x
+  unfolding drops
+  drops-odd true t = clash t refl
+  drops-odd false t = refl
 
-    better-out : Better G (at c) (at d) → So (droppedBy G edges q c d)
-    unfolding droppedBy quotient classGame
-    better-out b =
-        let x = classNumber (G .n) (order G) (b .to) in
-        let hx = classNumber-lt (G .n) (order G) (order-preorder G) (b .to) (b .inside) in
-        let back : at x ≡ b .to = representative-of (G .n) (order G) (order-preorder G) (b .to) (b .inside) (b .is-lowest) in
-        let f = picked-find (quotient G .edge c) (classesIn G) x hx (rw back (b .edge)) in
-        let l : f .0 < q = omega (arith, e, f .1) in
-        let r : getD edges (f .0) 0 ≡ x = row (f .0) l ∙ f .2 in
-        any-in q _ (f .0) l
-        (and-in (not-in (ne-eqb (getD edges (f .0) 0) d (λ g. b .apart (sym back ∙ ap at (sym r ∙ g))))) (rw (r, back) (b .above)))
+  pub drops-none : (side b : Bool) → not side ≡ false → So (not b) → b ≡ beaten n marks row d → drops side n marks row d x ≡ false
+  unfolding drops
+  drops-none true true s t e = clash t refl
+  drops-none true false s t e = rw (← e) (and-fails (eqb d x) false refl)
+  drops-none false b s t e = clash refl s
 
-    keeps-best : keeps G counts s edges q c d ≡ reduced G .edge c d
-    unfolding keeps reduced reducedEdge classGame
-    keeps-best =
-        ap₂ (λ (x y : Bool). x & not y) counts-edge
-        (So-ext (λ t. dropped-in G (at c) (at d) (better-in t)) (λ t. better-out (dropped-out G (at c) (at d) t)))
+  pub drops-self : (side b : Bool) → not side ≡ false → not b ≡ false → b ≡ beaten n marks row d → drops side n marks row d x ≡ eqb d x
+  unfolding drops
+  drops-self true true s t e = rw (← e) (and-true (eqb d x))
+  drops-self true false s t e = clash refl t
+  drops-self false b s t e = clash refl s
 
--- ---- the row of class c: first the quotient's, compared with none, and then the row of either game
+-- with `drop` alone something is dropped
+pub drop-none : (drop b : Bool) → So (not drop) → false ≡ drop & b
+drop-none true b t = clash t refl
+drop-none false b t = sym (and-first b refl)
 
-module _ (G : Game) (c k s : ℕ) (counts : List ℕ) (hc : c < k) (e : k ≡ classesIn G) (counted : Counted G c (G .n) s counts) where
-  quotient-row : (edges : List ℕ) → picked k (keeps G counts s edges 0 c) ≡ picked k (quotient G .edge c)
-  quotient-row edges = picked-ext k _ _ (λ d h. keeps-all G c d (omega arith) (omega arith) s counts counted edges)
+pub drop-some : (drop b : Bool) → not drop ≡ false → b ≡ drop & b
+drop-some true b t = sym (and-one b refl)
+drop-some false b t = clash refl t
 
-  pub row-all : (edges : List ℕ) (q : ℕ) (drop : Bool) → q ≡ 0 → drop ≡ false → picked k (keeps G counts s edges q c) ≡ picked k (gameBy drop G .edge c)
-  unfolding gameBy
-  row-all edges q drop x y = rw (x, y) (quotient-row edges)
+-- ---- by the order and the quotient edges
 
-  -- q edges, the quotient's row
-  module _ (none edges old : List ℕ) (q : ℕ) (count : q ≡ length (picked k (keeps G counts s none 0 c)))
-      (row : edges ≡ written (picked k (keeps G counts s none 0 c)) old) where
-    edge-at : (j : ℕ) → j < q → getD edges j 0 ≡ getD (picked k (quotient G .edge c)) j 0
-    edge-at j h = rw (row, ← quotient-row none) (getD-written _ old j 0 (omega arith))
+-- for Even a member drops itself
+dropped-even : (n : ℕ) (marks row : List ℕ) (x : ℕ) → x < n → So (has row x) → droppedBy true n marks row x ≡ beaten n marks row x
+unfolding droppedBy drops
+dropped-even n marks row x h t =
+    So-ext
+    (λ s. let r = any-out s in
+    let c = and-out (and-out (r .2) .1) in
+    rw (← eqb-true (r .0) x (c .0)) (c .1))
+    (λ s. any-in n _ x h (and-in t (and-in (eq-eqb x x refl) s)))
 
-    pub row-few : q ≤ k
-    row-few = omega (arith, count, length-picked (keeps G counts s none 0 c) k)
+shuffle : (a b c d : Bool) → (a & c) & (b & d) ≡ a & b & c & d
+unfolding _&_
+shuffle true true c d = refl
+shuffle true false true d = refl
+shuffle true false false d = refl
+shuffle false b c d = refl
 
-    pub row-inside : (j : ℕ) → j < q → getD edges j 0 < k
-    row-inside j h = rw (edge-at j h) (picked-at (quotient G .edge c) k j (rw (count, quotient-row none) at h) .0)
+module _ (G : Game) (marks row : List ℕ) (u : ℕ) (marked : (v w : ℕ) → v < G .n → w < G .n → relation (G .n) marks v w ≡ order G v w)
+    (targets : (x : ℕ) → x < G .n → has row x ≡ isLowest (G .n) (order G) x & quotientEdge G (order G) u x) where
+  even-is : (x : ℕ) → x < G .n → beaten (G .n) marks row x
+      ≡ anyBelow (G .n) (λ e. isLowest (G .n) (order G) e & not (eqb e x) & quotientEdge G (order G) u e & order G x e)
+  unfolding beaten belowOther
+  even-is x h = any-ext (G .n) _ _ (λ e l. rw (targets e l, marked x e h l) (shuffle (isLowest (G .n) (order G) e) (not (eqb e x)) (quotientEdge G (order G) u e) (order G x e)))
 
-    pub row-best : (q′ : ℕ) (drop : Bool) → q′ ≡ q → drop ≡ true → picked k (keeps G counts s edges q′ c) ≡ picked k (gameBy drop G .edge c)
-    unfolding gameBy
-    row-best q′ drop x y =
-        rw (x, y)
-        (picked-ext k _ _ (λ d h.
-        keeps-best G c d (omega arith) (omega arith) s counts counted edges q (rw (← e) (count ∙ ap length (quotient-row none))) (rw (← e) edge-at)))
+  odd-is : (x : ℕ) → x < G .n → droppedBy false (G .n) marks row x
+      ≡ anyBelow (G .n) (λ e. isLowest (G .n) (order G) e & not (eqb e x) & quotientEdge G (order G) u e & order G e x)
+  unfolding droppedBy drops belowOther
+  odd-is x h = any-ext (G .n) _ _ (λ e l.
+      rw (targets e l, marked e x l h, eqb-flip x e) (shuffle (isLowest (G .n) (order G) e) (not (eqb e x)) (quotientEdge G (order G) u e) (order G e x)))
+
+  dropped-is : (side : Bool) (x : ℕ) → x < G .n → So (has row x) → G .owner u ≡ cond side even odd
+      → droppedBy side (G .n) marks row x ≡ dropped G (order G) u x
+  unfolding dropped noBetter
+  dropped-is true x h t o = rw o (dropped-even (G .n) marks row x h t ∙ even-is x h)
+  dropped-is false x h t o = rw o (odd-is x h)
+
+  -- what is kept
+  module _ (side : Bool) (owner : G .owner u ≡ cond side even odd) (words : List ℕ) where
+    pub kept-all : ((x : ℕ) → x < G .n → has words x ≡ false & droppedBy side (G .n) marks row x) → (x : ℕ) → x < G .n
+        → keeps row words x ≡ isLowest (G .n) (order G) x & quotientEdge G (order G) u x
+    unfolding keeps _&_
+    kept-all d x h = rw (d x h, and-true (has row x)) (targets x h)
+
+    pub kept-best : ((x : ℕ) → x < G .n → has words x ≡ true & droppedBy side (G .n) marks row x) → (x : ℕ) → x < G .n
+        → keeps row words x ≡ isLowest (G .n) (order G) x & reducedEdge G (order G) u x
+    unfolding keeps reducedEdge
+    kept-best d x h = go (has row x) refl (targets x h)
+      where
+        go : (b : Bool) → has row x ≡ b → b ≡ isLowest (G .n) (order G) x & quotientEdge G (order G) u x
+            → has row x & not (has words x) ≡ isLowest (G .n) (order G) x & (quotientEdge G (order G) u x & not (dropped G (order G) u x))
+        go true t e =
+            ap₂ (λ a b. a & not b) (t ∙ e) (d x h ∙ and-one _ refl ∙ dropped-is side x h t owner) ∙ and-assoc (isLowest (G .n) (order G) x) _ _
+        go false t e =
+            rw t (and-first (not (has words x)) refl) ∙ sym (sym (and-assoc (isLowest (G .n) (order G) x) (quotientEdge G (order G) u x) _) ∙ and-first _ (sym e))

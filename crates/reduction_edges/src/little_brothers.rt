@@ -1,80 +1,104 @@
 // Which quotient edges the reduced game drops: those of a class c to a little brother, a class d that is no better for c's owner than the
-// target e of another quotient edge of c. Document 004's table 4 decides; the prose beside it says the reverse.
-use marks::packed::is_marked;
+// target e of another quotient edge of c. Document 004's table 4 decides; the prose beside it says the reverse. The targets of c are a row of
+// bits, in which a class stands as its lowest member, so that a row of marks is compared with it word by word.
+use marks::reading::read_wide;
+use order_rows::row::end_of;
+use table::flags::raise;
+use words::members::next_member;
 ghost use mathlib.Core.Path.{_≡_};
-ghost use Prim.Native.Nat.{ℕ, _<_, _≤_};
+ghost use Prim.Native.Nat.{ℕ, _+_, _*_, _%_, _<_, _≤_};
+ghost use lib.Dec.{eqb, ltb};
 ghost use lib.ListN.{length, getD};
-ghost use Rattle.theory.specs.logic.Range.{anyBelow};
-ghost use Rattle.table.specs.Lent.{old};
-ghost use Rattle.table.specs.Limits.{vertexLimit};
-ghost use Rattle.table.specs.Table.{gameOf};
-ghost use Rattle.marks.specs.Marks.{marksLength, relation};
-ghost use Rattle.classes.specs.Numbering.{classesIn};
-ghost use Rattle.reduction_edges.specs.LittleBrothers.{Compared, playerBy, HasVertex, littleBrother, droppedBy};
+ghost use Rattle.theory.specs.logic.Bools.{_&_, _or_};
+ghost use Rattle.table.specs.Lent.{old, new};
+ghost use Rattle.table.specs.Table.{vertexCount, ownerAt};
+ghost use Rattle.table.specs.WellFormed.{WellFormed};
+ghost use Rattle.words.specs.Word.{wordBits, digit};
+ghost use Rattle.words.specs.Words.{has};
+ghost use Rattle.marks.specs.Marks.{marksLength};
+ghost use Rattle.reduction_edges.specs.LittleBrothers.{belowOther, beaten, drops, droppedBy, Marked, RowFits};
 
-// Whether d is a little brother of e for a player: another class, and by the marks its representative is no better than that of e. Below
-// is worse for Even, and better for Odd.
-fn is_little_brother(marks: &[u8], n: usize, reps: &[u16], even: bool, d: usize, e: usize) -> bool
-    requires { ⌜ (n ≤ vertexLimit) × (marksLength n ≤ length (now marks)) ⌝ }
-    requires { ⌜ HasVertex n (now reps) d × HasVertex n (now reps) e ⌝ }
-    ensures { λ r. ⌜ r ≡ littleBrother (playerBy even) (relation n (old marks)) (old reps) d e ⌝ }
+// The marks of d's row from w on, as many as a word has bits, without the mark of d itself.
+fn word_of(marks: &[u8], n: usize, d: usize, w: usize) -> u64
+    requires { ⌜ Marked n (now marks) × (d < n) × (w < n) × (w % wordBits ≡ 0) ⌝ }
+    ensures { λ r. ⌜ ((k : ℕ) → k < wordBits → digit r k ≡ ltb (w + k) n & belowOther n (old marks) d (w + k)) ⌝ }
 {
-    if e == d {
-        return false;
-    }
-    let v = reps[d] as usize;
-    let w = reps[e] as usize;
-    if even {
-        return is_marked(marks, n, v, w);
-    }
-    is_marked(marks, n, w, v)
+    let end = end_of(w, n);
+    let word = read_wide(marks, d * n + w, end - w);
+    let own = words::with(0, d % 64, d / 64 == w / 64);
+    word ^ (word & own)
 }
 
-// Whether d is a little brother of one of the first q targets of `edges`.
-fn is_little_brother_of_some(
-    marks: &[u8],
-    n: usize,
-    reps: &[u16],
-    even: bool,
-    edges: &[u16],
-    q: usize,
-    d: usize,
-) -> bool
-    requires { ⌜ (n ≤ vertexLimit) × (marksLength n ≤ length (now marks)) ⌝ }
-    requires { ⌜ HasVertex n (now reps) d ⌝ }
-    requires { ⌜ (q ≤ length (now edges)) × ((j : ℕ) → j < q → HasVertex n (now reps) (getD (now edges) j 0)) ⌝ }
-    ensures { λ r. ⌜ r ≡ anyBelow q (λ j. littleBrother (playerBy even) (relation n (old marks)) (old reps) d (getD (old edges) j 0)) ⌝ }
+// Whether d is below another one in the row.
+fn is_beaten(marks: &[u8], n: usize, row: &[u64], d: usize) -> bool
+    requires { ⌜ Marked n (now marks) × RowFits n (now row) × (d < n) ⌝ }
+    ensures { λ r. ⌜ r ≡ beaten n (old marks) (old row) d ⌝ }
 {
-    let mut j = 0;
-    let found = loop {
-        if j >= q {
-            break false;
+    let mut w = 0;
+    while w < n {
+        if words::is_some(word_of(marks, n, d, w) & row[w / 64]) {
+            return true;
         }
-        let e = edges[j] as usize;
-        if is_little_brother(marks, n, reps, even, d, e) {
-            break true;
-        }
-        j += 1;
-    };
-    found
+        w += 64;
+    }
+    false
 }
 
-// Whether the edge from class c to class d is dropped: d is a little brother, for c's owner, of one of the first q targets of `edges`,
-// those of class c.
-pub fn is_dropped(
-    game: &[u16],
-    marks: &[u8],
-    reps: &[u16],
-    edges: &[u16],
-    q: usize,
-    c: usize,
-    d: usize,
-) -> bool
-    requires { ⌜ Compared (now game) (now marks) (now reps) (now edges) q c ⌝ }
-    requires { ⌜ d < classesIn (gameOf (now game)) ⌝ }
-    ensures { λ r. ⌜ r ≡ droppedBy (gameOf (old game)) (old edges) q c d ⌝ }
+// Puts all others that d is below into the row.
+fn unite_others(marks: &[u8], n: usize, d: usize, dropped: &mut [u64])
+    requires { ⌜ Marked n (now marks) × RowFits n (now dropped) × (d < n) ⌝ }
+    ensures { λ r. ⌜ ((x : ℕ) → x < n → has (new dropped) x ≡ (has (old dropped) x or belowOther n (old marks) d x)) ⌝ }
 {
+    let mut w = 0;
+    while w < n {
+        let more = word_of(marks, n, d, w);
+        dropped[w / 64] = dropped[w / 64] | more;
+        w += 64;
+    }
+}
+
+// Puts what is dropped because of d, one of the row, into `dropped`: for Even d itself, where it is below another, and for Odd the others that
+// d is below.
+fn drop_by(marks: &[u8], n: usize, even: bool, row: &[u64], d: usize, dropped: &mut [u64])
+    requires { ⌜ Marked n (now marks) × RowFits n (now row) × RowFits n (now dropped) × (d < n) ⌝ }
+    ensures { λ r. ⌜ ((x : ℕ) → x < n → has (new dropped) x ≡ (has (old dropped) x or drops even n (old marks) (old row) d x)) ⌝ }
+{
+    if !even {
+        unite_others(marks, n, d, dropped);
+        return;
+    }
+    if !is_beaten(marks, n, row, d) {
+        return;
+    }
+    raise(dropped, d);
+}
+
+// Over zeros: puts what is dropped because of any of the row into `dropped`.
+fn drop_all(marks: &[u8], n: usize, even: bool, row: &[u64], dropped: &mut [u64])
+    requires { ⌜ Marked n (now marks) × RowFits n (now row) × RowFits n (now dropped) ⌝ }
+    requires { ⌜ ((i : ℕ) → getD (now dropped) i 0 ≡ 0) ⌝ }
+    ensures { λ r. ⌜ ((x : ℕ) → x < n → has (new dropped) x ≡ droppedBy even n (old marks) (old row) x) ⌝ }
+{
+    let mut d = next_member(row, 0, n);
+    while d < n {
+        drop_by(marks, n, even, row, d, dropped);
+        d = next_member(row, d + 1, n);
+    }
+}
+
+// Over zeros: with `drop`, puts the targets that the class of r drops into `dropped`, where the row has all its targets.
+pub fn drop_row(game: &[u16], marks: &[u8], r: usize, row: &[u64], drop: bool, dropped: &mut [u64])
+    requires { ⌜ WellFormed (now game) × (r < vertexCount (now game)) × Marked (vertexCount (now game)) (now marks) ⌝ }
+    requires { ⌜ RowFits (vertexCount (now game)) (now row) × RowFits (vertexCount (now game)) (now dropped) ⌝ }
+    requires { ⌜ ((i : ℕ) → getD (now dropped) i 0 ≡ 0) ⌝ }
+    ensures { λ s. ⌜
+        ((x : ℕ) → x < vertexCount (old game)
+        → has (new dropped) x ≡ drop & droppedBy (eqb (ownerAt (old game) r) 0) (vertexCount (old game)) (old marks) (old row) x)
+        ⌝ }
+{
+    if !drop {
+        return;
+    }
     let n = game[0] as usize;
-    let even = game[2 + n + reps[c] as usize] == 0;
-    is_little_brother_of_some(marks, n, reps, even, edges, q, d)
+    drop_all(marks, n, game[2 + n + r] == 0, row, dropped);
 }

@@ -1,14 +1,14 @@
 -- Laws of edges listed in two parallel arrays: edges behind edges, and the arrays read back.
-use mathlib.Core.Path.{_≡_, sym, _∙_}
-use mathlib.Core.List.{List, [], _++_, map, map-append}
-use Prim.Native.Nat.{ℕ, _+_, _≤_}
+use mathlib.Core.Path.{_≡_, refl, sym, _∙_}
+use mathlib.Core.List.{List, [], _∷_, _++_, map, map-append}
+use Prim.Native.Nat.{ℕ, _+_, _≤_, _<_}
 use native.Mathlib.Omega.{arith}
-use lib.ListN.{length, getD, length-append, length-map}
+use lib.ListN.{length, getD, set, length-append, length-map}
 use Rattle.theory.specs.logic.Range.{tabulate}
 use Rattle.theory.specs.logic.ListLaws.{tabulate-by}
 use Rattle.table.specs.AnswersLaws.{getD-written}
 use Rattle.table.specs.Placing.{placed}
-use Rattle.table.specs.PlacingLaws.{placed-written, placed-start, placed-join}
+use Rattle.table.specs.PlacingLaws.{placed-written, placed-start, placed-one, placed-join}
 use Rattle.table.specs.Listing.{sourcesOf, targetsOf, Appended}
 
 pub appended-none : (e : ℕ) (sources targets : List ℕ) → Appended [] e sources sources targets targets e
@@ -16,20 +16,24 @@ unfolding tabulate
 appended-none e sources targets =
     record { count = omega arith; sources-after = placed-start e (λ i. i) sources; targets-after = placed-start e (λ i. i) targets }
 
-pub appended-join : (xs ys : List (ℕ × ℕ)) (e r : ℕ) (s₀ s₁ s₂ t₀ t₁ t₂ : List ℕ) → length xs ≤ length s₀ → length xs ≤ length t₀
-    → Appended xs 0 s₀ s₁ t₀ t₁ e → Appended ys e s₁ s₂ t₁ t₂ r → Appended (xs ++ ys) 0 s₀ s₂ t₀ t₂ r
-appended-join xs ys e r s₀ s₁ s₂ t₀ t₁ t₂ hs ht a b = record {
-  count = omega (arith, a .count, b .count, length-append xs ys);
-  sources-after = part (λ p. p .0) s₀ s₁ s₂ hs (a .sources-after) (b .sources-after);
-  targets-after = part (λ p. p .1) t₀ t₁ t₂ ht (a .targets-after) (b .targets-after);
+pub appended-join : (xs ys : List (ℕ × ℕ)) (a e r : ℕ) (s₀ s₁ s₂ t₀ t₁ t₂ : List ℕ) → a + length xs ≤ length s₀ → a + length xs ≤ length t₀
+    → Appended xs a s₀ s₁ t₀ t₁ e → Appended ys e s₁ s₂ t₁ t₂ r → Appended (xs ++ ys) a s₀ s₂ t₀ t₂ r
+appended-join xs ys a e r s₀ s₁ s₂ t₀ t₁ t₂ hs ht p q = record {
+  count = omega (arith, p .count, q .count, length-append xs ys);
+  sources-after = part (λ p. p .0) s₀ s₁ s₂ hs (p .sources-after) (q .sources-after);
+  targets-after = part (λ p. p .1) t₀ t₁ t₂ ht (p .targets-after) (q .targets-after);
 }
   where
-    part : (f : ℕ × ℕ → ℕ) (o m n : List ℕ) → length xs ≤ length o → m ≡ placed 0 (map f xs) o → n ≡ placed e (map f ys) m
-        → n ≡ placed 0 (map f (xs ++ ys)) o
-    part f o m n h p q =
+    part : (f : ℕ × ℕ → ℕ) (o m n : List ℕ) → a + length xs ≤ length o → m ≡ placed a (map f xs) o → n ≡ placed e (map f ys) m
+        → n ≡ placed a (map f (xs ++ ys)) o
+    part f o m n h u v =
         let l = length-map xs f in
-        let at : e ≡ 0 + length (map f xs) = omega (arith, a .count) in
-        q ∙ rw (p, at, map-append f xs ys) (placed-join 0 (map f xs) (map f ys) o (omega arith))
+        let at : e ≡ a + length (map f xs) = omega (arith, p .count) in
+        v ∙ rw (u, at, map-append f xs ys) (placed-join a (map f xs) (map f ys) o (omega arith))
+
+-- one edge is put
+pub appended-one : (c d e : ℕ) (s t : List ℕ) → e < length s → e < length t → Appended ((c, d) ∷ []) e s (set s e c) t (set t e d) (e + 1)
+appended-one c d e s t hs ht = record { count = refl; sources-after = placed-one e c s hs; targets-after = placed-one e d t ht }
 
 -- the first words of a buffer, read back
 pub read-back : (e : ℕ) (words old new : List ℕ) → e ≡ length words → new ≡ placed 0 words old → tabulate e (λ i. getD new i 0) ≡ words

@@ -65,6 +65,13 @@ placed-more at f i old h =
     let s = placed-snoc at (tabulate i f) old (f i) (omega arith) in
     rw (add-one i, tabulate-snoc i f) (rw l at s)
 
+-- one word alone
+pub placed-one : (at x : ℕ) (old : List ℕ) → at < length old → set old at x ≡ placed at (x ∷ []) old
+unfolding tabulate
+placed-one at x old h =
+    let m = placed-more at (λ i. x) 0 old (omega arith) in
+    rw (← placed-start at (λ i. x) old, add-zero at) at m
+
 pub written-join : (at : ℕ) (new more old : List ℕ) → at ≡ length new → length new ≤ length old → placed at more (written new old) ≡ written (new ++ more) old
 written-join at new more old e h =
     let m = placed-join 0 new more old (omega arith) in

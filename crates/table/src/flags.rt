@@ -12,7 +12,7 @@ ghost use Rattle.table.specs.Table.{gameOf};
 ghost use Rattle.table.specs.Flags.{Sized, EndsInside, edgeNumber, Filled, flagged, Raised, EdgeFlags};
 
 // Whether flag i is set.
-fn is_flagged(flags: &[u64], i: usize) -> bool
+pub fn is_flagged(flags: &[u64], i: usize) -> bool
     requires { ⌜ i / wordBits < length (now flags) ⌝ }
     ensures { λ r. ⌜ r ≡ has (old flags) i ⌝ }
 {
@@ -20,7 +20,7 @@ fn is_flagged(flags: &[u64], i: usize) -> bool
 }
 
 // Sets flag i.
-fn raise(flags: &mut [u64], i: usize)
+pub fn raise(flags: &mut [u64], i: usize)
     requires { ⌜ i / wordBits < length (now flags) ⌝ }
     ensures { λ r. ⌜ Raised (old flags) (new flags) i ⌝ }
 {

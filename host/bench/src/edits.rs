@@ -2,7 +2,8 @@
 //! fresh copy of the table, whose making counts for both sides; a preview makes its own.
 
 use crate::baseline::edit::{self, Ways};
-use crate::{baseline, best, Figures, LIBRARY};
+use crate::calls::{LIBRARY, SIDES};
+use crate::{baseline, best, Figures};
 use raskjomi::exports::{self, RaskjomiAnswer};
 use raskjomi::mark_bytes;
 
@@ -28,7 +29,8 @@ pub struct Change {
 /// A call that replays a trace.
 type Replay = fn(&mut [u16], &[u16], &mut [u8], &mut [u8], &mut [u16]) -> RaskjomiAnswer;
 
-const REPLAY: [Replay; 2] = [exports::replay, baseline::replay];
+const REPLAY: [Replay; SIDES] =
+    [exports::replay, baseline::replay, best::replay::<false>, best::replay::<true>];
 
 /// The memory that a side works in.
 #[derive(Clone, PartialEq, Eq)]
@@ -65,6 +67,12 @@ impl Memory {
         let ways = &WAYS[side - 1];
         edit::preview(ways, game, source, target, table, marks, spare, classes, add)
     }
+
+    pub fn replay(&mut self, side: usize, game: &[u16], trace: &[u16]) -> RaskjomiAnswer {
+        let Memory { table, marks, spare, classes } = self;
+        table[..game.len()].copy_from_slice(game);
+        REPLAY[side](table, trace, marks, spare, classes)
+    }
 }
 
 /// What the row of an edit shows.
@@ -86,11 +94,7 @@ pub fn preview_figures(game: &[u16], change: Change) -> Figures {
 /// What the row of a replay shows. The baseline writes the order before the first entry and after the last, and
 /// goes over all edges once for each entry.
 pub fn replay_figures(game: &[u16], trace: &[u16]) -> Figures {
-    let call = |side: usize, memory: &mut Memory| {
-        let Memory { table, marks, spare, classes } = memory;
-        table[..game.len()].copy_from_slice(game);
-        REPLAY[side](table, trace, marks, spare, classes)
-    };
+    let call = |side: usize, memory: &mut Memory| memory.replay(side, game, trace);
     let (figures, answer) = crate::figures(Memory::for_game(game), call);
     assert_eq!((answer.number, answer.entries), (0, trace[0] as u32), "every entry is accepted");
     figures

@@ -1,11 +1,13 @@
 //! The library beside a baseline: safe Rust of the same algorithms, in one run, on buffers of the same
 //! lengths, which neither clears first. Up to 256 vertices the order stands beside plain passes, too. The checks of
 //! solutions and of reductions have rows of their own, which the argument `large` asks for, and so have all winners of
-//! a game, by the argument `winners`. The argument `best` asks for the order's calls beside the best program known.
+//! a game, by the argument `winners`. The argument `best` asks for the order's calls beside the best program known, `plans`
+//! for the calls on plans and traces beside the best.
 #![forbid(unsafe_code)]
 
 mod baseline;
 mod best;
+mod calls;
 mod edits;
 mod families;
 mod governed;
@@ -14,9 +16,14 @@ mod large_reduction;
 mod measure;
 mod order_calls;
 mod packing;
+mod plan_calls;
+mod plan_families;
+#[cfg(test)]
+mod plan_tests;
 mod rows;
 mod winners;
 
+use calls::{Given, Memory, ACCEPT_PLAN, CONVERT, LIBRARY, SEED};
 use measure::First;
 use raskjomi::exports::{self, RaskjomiAnswer};
 use rows::{Row, Work, WATCHED};
@@ -24,93 +31,6 @@ use std::array::from_fn;
 use std::collections::BTreeMap;
 use std::process::ExitCode;
 use std::time::Duration;
-
-/// The memory that a side works in.
-#[derive(Clone, PartialEq, Eq)]
-struct Memory {
-    marks: Vec<u8>,
-    spare: Vec<u8>,
-    classes: Vec<u16>,
-    /// The reduced game.
-    output: Vec<u16>,
-    /// The plan that is carried.
-    plan: Vec<u16>,
-}
-
-/// A call that writes the reduced game.
-type Reduce = fn(&[u16], &mut [u8], &mut [u8], &mut [u16], &mut [u16]) -> RaskjomiAnswer;
-/// A call that judges a plan.
-type AcceptPlan = fn(&[u16], u32, &[u16]) -> RaskjomiAnswer;
-/// A call that carries a plan.
-type Carry = fn(&[u16], u32, &[u16], u32, &mut [u8], &mut [u8], &mut [u16]) -> RaskjomiAnswer;
-/// A call that carries a plan from the reduced game.
-type CarryClass = fn(
-    &[u16],
-    u32,
-    &[u16],
-    u32,
-    &mut [u8],
-    &mut [u8],
-    &mut [u16],
-    &mut [u16],
-    &mut [u16],
-) -> RaskjomiAnswer;
-
-impl Memory {
-    fn for_game(game: &[u16]) -> Memory {
-        let n = game[0] as usize;
-        let (marks, classes) = (vec![7; raskjomi::mark_bytes(n)], vec![7; n]);
-        let (output, plan) = (vec![7; game.len()], vec![7; raskjomi::MOST_PLAN_WORDS]);
-        Memory { spare: marks.clone(), marks, classes, output, plan }
-    }
-
-    fn reduce(&mut self, side: usize, game: &[u16]) -> RaskjomiAnswer {
-        REDUCE[side](game, &mut self.marks, &mut self.spare, &mut self.classes, &mut self.output)
-    }
-
-    /// Whether Even's plan on the reduced game shows that Even wins at vertex 0.
-    fn verdict(&mut self, side: usize, game: &[u16], plan: &[u16]) -> RaskjomiAnswer {
-        let Memory { marks, spare, classes, output, .. } = self;
-        VERDICT[side](game, 0, raskjomi::EVEN, plan, marks, spare, classes, output)
-    }
-
-    /// Carries Even's plan to vertex 0, from the reduced game or within the game.
-    fn carry(&mut self, side: usize, game: &[u16], plan: &[u16], class: bool) -> RaskjomiAnswer {
-        let Memory { marks, spare, classes, output, plan: carried } = self;
-        if class {
-            CARRY_CLASS[side](game, raskjomi::EVEN, plan, 0, marks, spare, classes, output, carried)
-        } else {
-            CARRY[side](game, raskjomi::EVEN, plan, 0, marks, spare, carried)
-        }
-    }
-}
-
-/// A call that gives a verdict.
-type Verdict =
-    fn(&[u16], u32, u32, &[u16], &mut [u8], &mut [u8], &mut [u16], &mut [u16]) -> RaskjomiAnswer;
-/// A call that draws a game.
-type Seed = fn(u32, u32, u32, u32, &mut [u16]) -> RaskjomiAnswer;
-/// A call that converts a game.
-type Convert = fn(&[u16], &mut [u16]) -> RaskjomiAnswer;
-
-/// The first side of a comparison. The second is the baseline, and the reduction has a third, whose order
-/// goes by plain passes.
-const LIBRARY: usize = 0;
-const REDUCE: [Reduce; 3] = [
-    exports::reduce,
-    |game, marks, spare, classes, output| {
-        baseline::reduce(baseline::by_rows, game, marks, spare, classes, output)
-    },
-    |game, marks, spare, classes, output| {
-        baseline::reduce(baseline::by_passes, game, marks, spare, classes, output)
-    },
-];
-const ACCEPT_PLAN: [AcceptPlan; 2] = [exports::accept_plan, baseline::accept_plan];
-const CARRY: [Carry; 2] = [exports::carry, baseline::carry];
-const CARRY_CLASS: [CarryClass; 2] = [exports::carry_class, baseline::carry_class];
-const VERDICT: [Verdict; 2] = [exports::verdict, baseline::verdict];
-const SEED: [Seed; 2] = [exports::seed, baseline::seed];
-const CONVERT: [Convert; 2] = [exports::convert, baseline::convert];
 
 /// What all sides answer, their best times, and the library's stack.
 struct Sides<const N: usize> {
@@ -186,15 +106,23 @@ fn plan_figures(game: &[u16], plan: &[u16]) -> Figures {
     figures((), |side, _| ACCEPT_PLAN[side](game, raskjomi::EVEN, plan)).0
 }
 
+/// Even's plan for vertex 0.
+fn given(plan: &[u16]) -> Given<'_> {
+    Given { player: raskjomi::EVEN, plan, vertex: 0 }
+}
+
 fn carry_figures(game: &[u16], plan: &[u16], class: bool) -> Figures {
-    let call = |side: usize, memory: &mut Memory| memory.carry(side, game, plan, class);
+    let call = |side: usize, memory: &mut Memory| match class {
+        true => memory.carry_class(side, game, given(plan)),
+        false => memory.carry(side, game, given(plan)),
+    };
     let (figures, answer) = figures(Memory::for_game(game), call);
     assert_eq!((answer.number, answer.links), (0, 16_384), "as many links as there may be");
     figures
 }
 
 fn verdict_figures(game: &[u16], plan: &[u16]) -> Figures {
-    let call = |side: usize, memory: &mut Memory| memory.verdict(side, game, plan);
+    let call = |side: usize, memory: &mut Memory| memory.verdict(side, game, given(plan));
     let (figures, answer) = figures(Memory::for_game(game), call);
     assert_eq!((answer.number, answer.shown), (0, 1), "Even wins");
     figures
@@ -305,7 +233,8 @@ fn show_calls() {
 
 /// Shows the rows of the calls that have limits; with the argument `large`, those of the checks of solutions and of
 /// reductions, with `reductions` the latter alone; with `winners` those of all winners of a game; with `best` those of the
-/// order's calls beside the best program known; with `read` or `reduce` and a file, the memory that this takes.
+/// order's calls beside the best program known, with `plans` those of the calls on plans and traces; with `read` or `reduce`
+/// and a file, the memory that this takes.
 fn main() -> ExitCode {
     let arguments: Vec<String> = std::env::args().skip(1).collect();
     let words: Vec<&str> = arguments.iter().map(String::as_str).collect();
@@ -325,10 +254,14 @@ fn main() -> ExitCode {
             order_calls::show();
             Ok(())
         }
+        ["plans"] => {
+            plan_calls::show();
+            Ok(())
+        }
         ["read", file] => large::tell_memory(file).map_err(of_file),
         ["reduce", file] => large_reduction::tell_memory(file).map_err(of_file),
         _ => {
-            Err("give no argument, `best`, `large`, `reductions`, `winners`, `read FILE` or `reduce FILE`"
+            Err("give no argument, `best`, `large`, `plans`, `reductions`, `winners`, `read FILE` or `reduce FILE`"
                 .into())
         }
     };

@@ -12,6 +12,8 @@ const A_SIDE: Duration = Duration::from_millis(500);
 
 /// How long a batch of calls takes, about. A longer call is a batch.
 const A_BATCH: Duration = Duration::from_micros(50);
+/// A batch that takes longer counts by the time on the processor, so that other work beside it doesn't count.
+const LONG: Duration = Duration::from_millis(20);
 /// The least number of batches.
 const BATCHES: u32 = 12;
 
@@ -63,9 +65,12 @@ pub fn best_of_batches<const N: usize>(
     let (mut best, mut spent, mut turns) = (once, [Duration::ZERO; N], 0);
     while turns < BATCHES || spent.iter().any(|&spent| spent < span) {
         for side in 0..N {
-            let start = Instant::now();
+            let (busy, start) = (on_processor(), Instant::now());
             (0..calls[side]).for_each(|_| _ = black_box(call(side)));
-            let time = start.elapsed();
+            let mut time = start.elapsed();
+            if let (true, Some(before), Some(now)) = (time > LONG, busy, on_processor()) {
+                time = time.min(now - before);
+            }
             best[side] = best[side].min(time / calls[side]);
             spent[side] += time;
         }
@@ -79,6 +84,12 @@ pub fn timed(call: impl FnOnce() -> RaskjomiAnswer) -> (RaskjomiAnswer, Duration
     let start = Instant::now();
     let answer = black_box(call());
     (answer, start.elapsed())
+}
+
+/// How long this thread was on a processor, as Linux tells, to a few milliseconds.
+fn on_processor() -> Option<Duration> {
+    let told = fs::read_to_string("/proc/thread-self/schedstat").ok()?;
+    told.split(' ').next()?.parse().ok().map(Duration::from_nanos)
 }
 
 /// The KiB of this thread's stack that are in memory, as Linux tells.

@@ -1,19 +1,15 @@
 //! The order's calls, by family and size: the library beside the best program known, and beside the same algorithm.
 
+use crate::calls::{self, Reduce, BEST, LIBRARY, SAME, SIDES};
 use crate::edits::{Change, Memory};
 use crate::families::{FAMILIES, SIZES};
-use crate::{baseline, best, first_calls, measure, Reduce, LIBRARY};
+use crate::{baseline, best, first_calls, measure};
 use generator::Table;
 use raskjomi::exports::{self, RaskjomiAnswer};
 use std::time::Duration;
 
 /// How long the calls of a side take in all, at the least, for each game.
-const A_SIDE: Duration = Duration::from_millis(20);
-
-/// The sides: the library, the same algorithm in safe Rust, and the two best programs.
-pub const SIDES: usize = 4;
-const SAME: usize = 1;
-const BEST: [usize; 2] = [2, 3];
+pub const A_SIDE: Duration = Duration::from_millis(20);
 
 /// A call that writes a relation.
 type Relate = fn(&[u16], &mut [u8], &mut [u8]) -> RaskjomiAnswer;
@@ -31,7 +27,7 @@ const GOVERNED: [Relate; SIDES] = [
 const CLASSES: [Classes; SIDES] =
     [exports::classes, baseline::classes, best::classes::<false>, best::classes::<true>];
 const REDUCE: [Reduce; SIDES] =
-    [crate::REDUCE[LIBRARY], crate::REDUCE[SAME], best::reduce::<false>, best::reduce::<true>];
+    [calls::REDUCE[LIBRARY], calls::REDUCE[SAME], best::reduce::<false>, best::reduce::<true>];
 
 /// A call's name, and the call by a side, which may make a change.
 pub type Call = (&'static str, fn(usize, &[u16], Change, &mut Memory) -> RaskjomiAnswer);
@@ -74,7 +70,7 @@ fn times((_, call): &Call, game: &Table) -> [Duration; SIDES] {
 }
 
 /// The library's time over that of the better of the best programs, and over that of the same algorithm.
-fn ratios(times: [Duration; SIDES]) -> [f64; 2] {
+pub fn ratios(times: [Duration; SIDES]) -> [f64; 2] {
     let best = times[BEST[0]].min(times[BEST[1]]);
     [best, times[SAME]].map(|time| times[LIBRARY].as_secs_f64() / time.as_secs_f64())
 }

@@ -22,26 +22,26 @@ few : (c : tie.After-make-edit) → (c .make-edit .result ≤ edgeLimit) × (sta
 few c =
     let s = start c in
     let a = s .args in
-    let w = made-well (a .edit) (a .buffer .now) (a .source) (a .target) (s .pre .0 .0) (s .pre .1) in
+    let w = made-well (a .edit) (a .buffer .now) (a .source) (a .target) (s .pre .0 .0) (s .pre .1 .1) in
     (omega (arith, c .make-edit .ensures .count, w .edges), omega (arith, s .pre .0 .0 .vertices, s .pre .0 .0 .well .vertices))
 
 room : (c : tie.After-make-edit) → tableLength (start c .args .n) (c .make-edit .result) ≤ length (c .make-edit .last .0)
-room c = let s = start c in made-room (s .args .edit) _ _ _ (s .pre .0 .0) (s .pre .1) (c .make-edit .ensures)
+room c = let s = start c in made-room (s .args .edit) _ _ _ (s .pre .0 .0) (s .pre .1 .1) (c .make-edit .ensures)
 
 part : (c : tie.After-make-edit)
     → let a = start c .args in
     take (tableLength (a .n) (c .make-edit .result)) (c .make-edit .last .0) ≡ edited (a .edit) (tableIn (a .buffer .now)) (a .source) (a .target)
-part c = let s = start c in made-part (s .args .edit) _ _ _ (s .pre .0 .0) (s .pre .1) (c .make-edit .ensures)
+part c = let s = start c in made-part (s .args .edit) _ _ _ (s .pre .0 .0) (s .pre .1 .1) (c .make-edit .ensures)
 
 vertices : (c : tie.After-make-edit)
     → let a = start c .args in a .n ≡ vertexCount (edited (a .edit) (tableIn (a .buffer .now)) (a .source) (a .target))
 vertices c =
     let s = start c in
     let a = s .args in
-    made-vertices (a .edit) (a .buffer .now) (a .source) (a .target) (s .pre .0 .0) (s .pre .1)
+    made-vertices (a .edit) (a .buffer .now) (a .source) (a .target) (s .pre .0 .0) (s .pre .1 .1)
 
 make-edit-requires : tie.Need-make-edit-requires
-make-edit-requires c κs = let p = c .before .before .before .before .before .pre in (p .0 .0, p .1)
+make-edit-requires c κs = let p = c .before .before .before .before .before .pre in ((p .0 .0, p .1 .0), p .1 .1)
 
 mul-end : tie.Need-mul-end
 mul-end c = search needs
@@ -67,7 +67,7 @@ fill-memory-requires c κs =
     let s = start x in
     let a = s .args in
     subst (λ (g : List ℕ). ClassesFit g (a .marks .now) (a .spare .now) (a .classes .now) × (a .n ≡ vertexCount g)) (sym (part x))
-    (made-fits (a .edit) (a .buffer .now) (a .source) (a .target) (s .pre .0 .0) (s .pre .1) (s .pre .0 .1), vertices x)
+    (made-fits (a .edit) (a .buffer .now) (a .source) (a .target) (s .pre .0 .0) (s .pre .1 .1) (s .pre .0 .1), vertices x)
 
 same-length : tie.Need-same-length
 same-length c = search needs

@@ -6,12 +6,13 @@ use native.Mathlib.Omega.{arith}
 use lib.ListN.{length, take}
 use lib.Seq.{length-take-le}
 use Rattle.table.specs.Table.{tableLength, tableIn}
-use Rattle.table.specs.Answers.{accepted, judge}
+use Rattle.table.specs.Answers.{Row, accepted, judge}
 use Rattle.table.specs.Acceptance.{acceptanceAnswer}
 use Rattle.classes.specs.ClassesCall.{memoryRows, memoryAnswer}
 use Rattle.classes.specs.declared.Memory.the-variants.{Enough}
 use Rattle.edit_rules.specs.Edges.{editRows}
-use Rattle.edit_rules.specs.EditParts.{Formed}
+use Rattle.edit_rules.specs.EditParts.{Formed, Scanned}
+use Rattle.edit_rules.specs.JudgeLaws.{scanned-rows}
 use Rattle.edit_rules.specs.EditPartsLaws.{formed-room, formed-part}
 use Rattle.edit.specs.EditCallLaws.{passed-clean, call-short, call-judged, call-fits, call-done}
 use borrow.Author.Needs.{needs}
@@ -37,13 +38,21 @@ part : (s : tie.Start) → let a = s .args in take (tableLength (a .n) (a .m)) (
 part s = let a = s .args in formed-part (a .buffer .now) (a .n) (a .m) (s .pre)
 
 abbrev told-at : tie.After-judge-edit → tie.After-enum-told
-told-at c = c .before .before
+told-at c = search
+
+-- what the scan found, in the table that begins the buffer
+scanned : (c : tie.After-scan-edges)
+    → let a = entry (c .before .before) .args in Scanned (tableIn (a .buffer .now)) (a .m) (a .source) (a .target) (c .scan-edges .result)
+scanned c = rw (part (entry (c .before .before))) at (c .scan-edges .ensures)
 
 -- what the judge said of the edit
 judged : (c : tie.After-judge-edit)
     → let a = entry (told-at c) .args in
     acceptanceAnswer (c .judge-edit .result) ≡ judge (editRows (a .edit) (tableIn (a .buffer .now)) (length (a .buffer .now)) (a .source) (a .target)) []
-judged c = rw (part (entry (told-at c))) at (c .judge-edit .ensures)
+judged c =
+    let x = c .before in
+    let s = entry (x .before .before) in
+    c .judge-edit .ensures ∙ ap (λ (rs : List Row). judge rs []) (scanned-rows (s .pre) _ _ (scanned x) (length (s .args .buffer .now)) (s .args .edit))
 
 passed : (c : tie.After-enum-told2)
     → let a = entry (told-at (c .before .before)) .args in
@@ -76,17 +85,22 @@ mul-size-2 c = search needs
 add-size-2 : tie.Need-add-size-2
 add-size-2 c = search needs
 
-slice-reshare-prefix-judge-edit : tie.Need-slice-reshare-prefix-judge-edit
-slice-reshare-prefix-judge-edit c = omega (arith, room (entry c))
+slice-reshare-prefix-scan-edges : tie.Need-slice-reshare-prefix-scan-edges
+slice-reshare-prefix-scan-edges c = omega (arith, room (entry c))
 
-slice-aggregate-judge-edit : tie.Need-slice-aggregate-judge-edit
-slice-aggregate-judge-edit c = sym (length-take-le _ _ (room (entry (c .before))))
+slice-aggregate-scan-edges : tie.Need-slice-aggregate-scan-edges
+slice-aggregate-scan-edges c = sym (length-take-le _ _ (room (entry (c .before))))
 
-judge-edit-requires : tie.Need-judge-edit-requires
-judge-edit-requires c κs =
+scan-edges-requires : tie.Need-scan-edges-requires
+scan-edges-requires c κs =
     let s = entry (c .before) in
     let a = s .args in
     subst (λ (g : List ℕ). Formed g (a .n) (a .m)) (sym (part s)) (s .pre)
+
+judge-edit-requires : tie.Need-judge-edit-requires
+judge-edit-requires c κs =
+    let p = entry (c .before .before) .pre in
+    (omega (arith, p .vertices, p .well .vertices), omega (arith, p .edges, p .well .edges))
 
 enum-known-judged : tie.Need-enum-known-judged
 enum-known-judged c = search needs
@@ -109,7 +123,7 @@ apply-edit-requires c κs =
     let t = told-at (u .before .before) in
     let s = entry t in
     let a = s .args in
-    ((s .pre, call-fits (tableIn (a .buffer .now)) _ _ _ (s .pre) (enough t)), passed-clean _ (passed u))
+    ((s .pre, call-fits (tableIn (a .buffer .now)) _ _ _ (s .pre) (enough t)), (scanned (u .before .before .before) .found, passed-clean _ (passed u)))
 
 same-length-2 : tie.Need-same-length-2
 same-length-2 c = search needs
@@ -145,8 +159,9 @@ edit-table-spec =
     add-size
     mul-size-2
     add-size-2
-    slice-reshare-prefix-judge-edit
-    slice-aggregate-judge-edit
+    slice-reshare-prefix-scan-edges
+    slice-aggregate-scan-edges
+    scan-edges-requires
     judge-edit-requires
     enum-known-judged
     same-length

@@ -1,12 +1,15 @@
 -- The table's words up to its owners stay; the sources and the targets that stay are put behind them, and zeros behind these.
 use mathlib.Core.Path.{_≡_, refl, sym, _∙_, subst}
+use mathlib.Core.Bool.{true}
 use mathlib.Core.List.{List}
 use Prim.Native.Nat.{ℕ, _≤_}
 use native.Mathlib.Omega.{arith}
 use lib.ListN.{length, take, length-set}
 use lib.Seq.{length-take-le}
+use Rattle.theory.specs.logic.Range.{first}
+use Rattle.table.specs.Limits.{edgeLimit}
 use Rattle.table.specs.Table.{tableLength, tableIn}
-use Rattle.edit_rules.specs.EditParts.{Formed}
+use Rattle.edit_rules.specs.EditParts.{Formed, leads}
 use Rattle.edit_rules.specs.EditPartsLaws.{formed-room, formed-part, leaving-few, leaving-made}
 use borrow.Author.Needs.{needs}
 use Rattle.edit_buffer.proofs.leave.Statement.{statement}
@@ -14,10 +17,10 @@ use Rattle.edit_buffer.proofs.leave.Tie as tie
 
 -- the table is there whole, and is the part that is lent
 room : (s : tie.Start) → let a = s .args in tableLength (a .n) (a .m) ≤ length (a .buffer .now)
-room s = let a = s .args in formed-room (a .buffer .now) (a .n) (a .m) (s .pre)
+room s = let a = s .args in formed-room (a .buffer .now) (a .n) (a .m) (s .pre .0)
 
 part : (s : tie.Start) → let a = s .args in take (tableLength (a .n) (a .m)) (a .buffer .now) ≡ tableIn (a .buffer .now)
-part s = let a = s .args in formed-part (a .buffer .now) (a .n) (a .m) (s .pre)
+part s = let a = s .args in formed-part (a .buffer .now) (a .n) (a .m) (s .pre .0)
 
 -- the entry, from behind the listing, the sources and the targets
 abbrev start : tie.After-list-others → tie.Start
@@ -31,7 +34,7 @@ sources-at c = c .before .before .before .before .before
 
 -- no more edges than before
 few : (c : tie.After-list-others) → c .list-others .result ≤ start c .args .m
-few c = let s = start c in let a = s .args in leaving-few (a .buffer .now) (a .n) (a .m) (s .pre) (a .s) (a .t) (rw (part s) at (c .list-others .ensures))
+few c = let s = start c in let a = s .args in leaving-few (a .buffer .now) (a .n) (a .m) (s .pre .0) (a .s) (a .t) (rw (part s) at (c .list-others .ensures))
 
 -- the buffer keeps its length
 kept1 : (c : tie.After-copy) → length (c .copy .last .0) ≡ length (start (listed-at c) .args .buffer .now)
@@ -67,10 +70,12 @@ slice-aggregate-list-others-3 c = search needs
 list-others-requires : tie.Need-list-others-requires
 list-others-requires c κs =
     let s = c .before .before .before .before in
-    (subst (λ (g : List ℕ). Formed g (s .args .n) (s .args .m)) (sym (part s)) (s .pre), (omega (arith, s .pre .edges, s .pre .well .edges), omega (arith, s .pre .edges, s .pre .well .edges)))
+    let a = s .args in
+    let few : a .m ≤ edgeLimit = omega (arith, s .pre .0 .edges, s .pre .0 .well .edges) in
+    (subst (λ (g : List ℕ). Formed g (a .n) (a .m) × (a .copy ≡ first (leads g (a .s) (a .t) true) 0 (a .m))) (sym (part s)) (s .pre), (omega arith, omega arith))
 
 cast-buffer : tie.Need-cast-buffer
-cast-buffer c = let l = c .before .before in omega (arith, few l, start l .pre .edges, start l .pre .well .edges)
+cast-buffer c = let l = c .before .before in omega (arith, few l, start l .pre .0 .edges, start l .pre .0 .well .edges)
 
 slice-write-buffer : tie.Need-slice-write-buffer
 slice-write-buffer c = omega (arith, room (start (c .before .before)))
@@ -87,7 +92,7 @@ slice-aggregate-copy c = search needs
 copy-requires : tie.Need-copy-requires
 copy-requires c κs =
     let l = c .before .before .before .before in
-    (simp length-set (omega (arith, few l, room (start l))), omega (arith, l .list-others .kept, few l, start l .pre .edges, start l .pre .well .edges))
+    (simp length-set (omega (arith, few l, room (start l))), omega (arith, l .list-others .kept, few l, start l .pre .0 .edges, start l .pre .0 .well .edges))
 
 mul-copy-2 : tie.Need-mul-copy-2
 mul-copy-2 c = search needs
@@ -105,7 +110,7 @@ copy-requires-2 : tie.Need-copy-requires-2
 copy-requires-2 c κs =
     let x = c .before .before .before .before in
     let l = listed-at x in
-    (omega (arith, kept1 x, few l, room (start l)), omega (arith, l .list-others .kept, few l, start l .pre .edges, start l .pre .well .edges))
+    (omega (arith, kept1 x, few l, room (start l)), omega (arith, l .list-others .kept, few l, start l .pre .0 .edges, start l .pre .0 .well .edges))
 
 mul-fill : tie.Need-mul-fill
 mul-fill c = search needs
@@ -114,12 +119,12 @@ add-fill : tie.Need-add-fill
 add-fill c = search needs
 
 mul-fill-2 : tie.Need-mul-fill-2
-mul-fill-2 c = let l = listed-at (sources-at (c .before .before .before)) in omega (arith, few l, start l .pre .edges, start l .pre .well .edges)
+mul-fill-2 c = let l = listed-at (sources-at (c .before .before .before)) in omega (arith, few l, start l .pre .0 .edges, start l .pre .0 .well .edges)
 
 add-fill-2 : tie.Need-add-fill-2
 add-fill-2 c =
     let l = listed-at (sources-at (c .before .before .before)) in
-    omega (arith, few l, start l .pre .vertices, start l .pre .well .vertices, start l .pre .edges, start l .pre .well .edges)
+    omega (arith, few l, start l .pre .0 .vertices, start l .pre .0 .well .vertices, start l .pre .0 .edges, start l .pre .0 .well .edges)
 
 sub-fill : tie.Need-sub-fill
 sub-fill c = few (listed-at (sources-at (c .before .before .before)))
@@ -143,7 +148,7 @@ returns c =
     let x = sources-at y in
     let l = listed-at x in
     let s = start l in
-    leaving-made _ _ _ (s .pre) _ _ _ _ _ _ _ _ _ _ _ (rw (part s) at (l .list-others .ensures)) refl (x .copy .ensures) (y .copy2 .ensures) (z .fill .ensures)
+    leaving-made _ _ _ (s .pre .0) _ _ _ _ _ _ _ _ _ _ _ (rw (part s) at (l .list-others .ensures)) refl (x .copy .ensures) (y .copy2 .ensures) (z .fill .ensures)
 
 pub leave-spec : {M : Type 1} → statement M
 leave-spec =

@@ -28,15 +28,15 @@ enum-told : tie.Need-enum-told
 enum-told c = search needs
 
 cast-arrive : tie.Need-cast-arrive
-cast-arrive c = let t = c .before in omega (arith, placed t .source, t .before .before .before .pre .0 .well .vertices)
+cast-arrive c = let t = c .before in omega (arith, placed t .source, t .before .before .before .pre .0 .0 .well .vertices)
 
 cast-arrive-2 : tie.Need-cast-arrive-2
-cast-arrive-2 c = let t = c .before in omega (arith, placed t .target, t .before .before .before .pre .0 .well .vertices)
+cast-arrive-2 c = let t = c .before in omega (arith, placed t .target, t .before .before .before .pre .0 .0 .well .vertices)
 
 arrive-requires : tie.Need-arrive-requires
 arrive-requires c κs =
     let t = c .before in
-    let p = t .before .before .before .pre .0 in
+    let p = t .before .before .before .pre .0 .0 in
     let f = arrival-fits _ _ _ _ (passed t) in
     ((p, omega (arith, f .0, p .edges)), omega (arith, f .1, p .vertices, p .edges))
 

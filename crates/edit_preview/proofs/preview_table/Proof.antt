@@ -6,13 +6,14 @@ use native.Mathlib.Omega.{arith}
 use lib.ListN.{length, take}
 use lib.Seq.{length-take-le}
 use Rattle.table.specs.Table.{tableLength, tableIn}
-use Rattle.table.specs.Answers.{judge, Clean}
+use Rattle.table.specs.Answers.{Row, judge, Clean}
 use Rattle.table.specs.Acceptance.{acceptanceAnswer}
 use Rattle.classes.specs.ClassesCall.{memoryRows, memoryAnswer}
 use Rattle.classes.specs.ClassesRules.{ClassesFit}
 use Rattle.classes.specs.declared.Memory.the-variants.{Enough}
 use Rattle.edit_rules.specs.Edges.{editRows}
-use Rattle.edit_rules.specs.EditParts.{Formed}
+use Rattle.edit_rules.specs.EditParts.{Formed, leads, Scanned}
+use Rattle.edit_rules.specs.JudgeLaws.{scanned-rows}
 use Rattle.edit_rules.specs.EditPartsLaws.{formed-room, formed-part}
 use Rattle.edit.specs.EditCallLaws.{passed-clean, call-fits, call-short, call-judged, call-done}
 use Rattle.edit_preview.specs.PreviewCallLaws.{table-short, table-long, table-clean, copied-in, copied-length, copied-over}
@@ -42,14 +43,26 @@ part s = let a = s .args in formed-part (a .game .now) (a .n) (a .m) (s .pre)
 long : (c : tie.Else1) → let a = entry (c .before) .args in tableLength (a .n) (a .m) ≤ length (a .table .now)
 long c = search needs
 
+abbrev scan-at : tie.After-scan-edges → tie.Else1
+scan-at c = c .before .before
+
 abbrev else-at : tie.After-judge-edit → tie.Else1
-else-at c = c .before .before
+else-at c = scan-at (c .before)
+
+-- what the scan found, in the table that begins the first buffer
+scanned : (c : tie.After-scan-edges)
+    → let a = entry (scan-at c .before) .args in Scanned (tableIn (a .game .now)) (a .m) (a .source) (a .target) (c .scan-edges .result)
+scanned c = rw (part (entry (scan-at c .before))) at (c .scan-edges .ensures)
 
 -- what the judge said of the edit
 judged : (c : tie.After-judge-edit)
     → let a = entry (else-at c .before) .args in
     acceptanceAnswer (c .judge-edit .result) ≡ judge (editRows (a .edit) (tableIn (a .game .now)) (length (a .table .now)) (a .source) (a .target)) []
-judged c = rw (part (entry (else-at c .before))) at (c .judge-edit .ensures)
+judged c =
+    let s = entry (else-at c .before) in
+    let a = s .args in
+    c .judge-edit .ensures
+    ∙ ap (λ (rs : List Row). judge rs []) (scanned-rows (s .pre) _ _ (scanned (c .before)) (length (a .table .now)) (a .edit))
 
 clean : (c : tie.After-enum-told2)
     → let a = entry (else-at (c .before .before) .before) .args in
@@ -106,14 +119,19 @@ returns-2 c =
     call-judged _ (a .edit) _ _ _ _ _ _ _ (s .pre) (enough t) (record { number = 24; place = tableLength (a .n) (a .m) })
     (table-short (a .game .now) (a .table .now) (s .pre) _ (search needs))
 
-slice-aggregate-judge-edit : tie.Need-slice-aggregate-judge-edit
-slice-aggregate-judge-edit c = sym (length-take-le _ _ (room (entry (c .before .before))))
+slice-aggregate-scan-edges : tie.Need-slice-aggregate-scan-edges
+slice-aggregate-scan-edges c = sym (length-take-le _ _ (room (entry (c .before .before))))
 
-judge-edit-requires : tie.Need-judge-edit-requires
-judge-edit-requires c κs =
+scan-edges-requires : tie.Need-scan-edges-requires
+scan-edges-requires c κs =
     let s = entry (c .before .before) in
     let a = s .args in
     subst (λ (g : List ℕ). Formed g (a .n) (a .m)) (sym (part s)) (s .pre)
+
+judge-edit-requires : tie.Need-judge-edit-requires
+judge-edit-requires c κs =
+    let p = entry (scan-at c .before) .pre in
+    (omega (arith, p .vertices, p .well .vertices), omega (arith, p .edges, p .well .edges))
 
 enum-known-judged : tie.Need-enum-known-judged
 enum-known-judged c = search needs
@@ -143,7 +161,7 @@ apply-edit-requires c κs =
     let a = s .args in
     let fits = call-fits (tableIn (a .game .now)) (a .marks .now) (a .spare .now) (a .classes .now) (s .pre) (enough (long-at x .before)) in (
       subst (λ (g : List ℕ). Formed g (a .n) (a .m) × ClassesFit g (a .marks .now) (a .spare .now) (a .classes .now)) (sym (same x)) (s .pre, fits),
-      rw (same x, same-size x) (clean (told-at x)),
+      (rw (same x) (scanned (told-at x .before .before .before) .found), rw (same x, same-size x) (clean (told-at x))),
     )
 
 same-length : tie.Need-same-length
@@ -186,7 +204,8 @@ preview-table-spec =
     mul-size-2
     add-size-2
     returns-2
-    slice-aggregate-judge-edit
+    slice-aggregate-scan-edges
+    scan-edges-requires
     judge-edit-requires
     enum-known-judged
     returns-3

@@ -1,5 +1,5 @@
 -- Each way out is the edit's row, or its passing.
-use mathlib.Core.Path.{sym, _∙_}
+use mathlib.Core.Bool.{false}
 use Rattle.edit_rules.specs.JudgeLaws.{arrival-full, arrival-short, arrival-accepted, leaving-refused, leaving-accepted}
 use borrow.Author.Needs.{needs}
 use Rattle.edit_rules.proofs.judge_change.Statement.{statement}
@@ -14,7 +14,7 @@ refused-requires c κs = search needs
 returns : tie.Need-returns
 returns c =
     let t = c .before .before in
-    rw (c .refused .ensures, t .enum-told .given .1) (arrival-full (t .before .before .before .pre) _ _ _ (c .before .if1 .taken))
+    rw (c .refused .ensures, t .enum-told .given .1) (arrival-full _ _ _ _ 0 false _ (c .before .if1 .taken))
 
 mul-if2 : tie.Need-mul-if2
 mul-if2 c = search needs
@@ -37,19 +37,13 @@ refused-requires-2 c κs = search needs
 returns-2 : tie.Need-returns-2
 returns-2 c =
     let t = c .before .before .before in
-    rw (c .refused2 .ensures, t .enum-told .given .1) (arrival-short (t .before .before .before .pre) _ _ _ (c .before .if2 .taken))
+    rw (c .refused2 .ensures, t .enum-told .given .1) (arrival-short _ _ _ _ 0 false _ (c .before .if2 .taken))
 
 enum-told-2 : tie.Need-enum-told-2
 enum-told-2 c = search needs
 
-has-edge-requires : tie.Need-has-edge-requires
-has-edge-requires c κs = search needs
-
 returns-3 : tie.Need-returns-3
-returns-3 c =
-    let h = c .before in
-    let t = h .before in
-    rw (t .enum-told2 .given .1) (leaving-accepted (t .before .before .before .pre) _ _ _ (sym (h .has-edge .ensures) ∙ c .if3 .taken))
+returns-3 c = rw (c .before .enum-told2 .given .1) (leaving-accepted _ _ _ _ 0 false _ (c .if3 .taken))
 
 refused-requires-3 : tie.Need-refused-requires-3
 refused-requires-3 c κs = search needs
@@ -57,13 +51,12 @@ refused-requires-3 c κs = search needs
 returns-4 : tie.Need-returns-4
 returns-4 c =
     let t = c .before .before in
-    rw (t .enum-told .given .1) (arrival-accepted (t .before .before .before .pre) _ _ _ (c .before .if1 .left) (c .if2 .left))
+    rw (t .enum-told .given .1) (arrival-accepted _ _ _ _ 0 false _ (c .before .if1 .left) (c .if2 .left))
 
 returns-5 : tie.Need-returns-5
 returns-5 c =
-    let h = c .before .before in
-    let t = h .before in
-    rw (c .refused3 .ensures, t .enum-told2 .given .1) (leaving-refused (t .before .before .before .pre) _ _ _ (sym (h .has-edge .ensures) ∙ c .before .if3 .left))
+    let t = c .before .before in
+    rw (c .refused3 .ensures, t .enum-told2 .given .1) (leaving-refused _ _ _ _ 0 false _ (c .before .if3 .left))
 
 pub judge-change-spec : {M : Type 1} → statement M
 judge-change-spec =
@@ -80,7 +73,6 @@ judge-change-spec =
     refused-requires-2
     returns-2
     enum-told-2
-    has-edge-requires
     returns-3
     refused-requires-3
     returns-4

@@ -6,14 +6,16 @@ use native.Mathlib.Omega.{arith}
 use lib.ListN.{length, take}
 use lib.Seq.{length-take-le}
 use Rattle.table.specs.Table.{tableLength, tableIn}
-use Rattle.table.specs.Answers.{accepted, judge, Clean}
+use Rattle.table.specs.Answers.{Row, judge, Clean}
 use Rattle.table.specs.AnswersLaws.{judge-accepted}
 use Rattle.table.specs.Acceptance.{acceptanceAnswer}
 use Rattle.edit_rules.specs.Edges.{editRows}
-use Rattle.edit_rules.specs.EditParts.{Formed, Made}
+use Rattle.edit_rules.specs.EditParts.{Formed, Scanned, Made}
+use Rattle.edit_rules.specs.JudgeLaws.{scanned-there, scanned-rows}
 use Rattle.edit_rules.specs.EditPartsLaws.{formed-room, formed-part}
 use Rattle.edit_rules.specs.declared.Edit.{Edit}
 use Rattle.edit_trace.specs.Run.{toggle, entryRows}
+use Rattle.edit_trace.specs.RunLaws.{toggle-is}
 use borrow.Author.Needs.{needs}
 use Rattle.edit_trace.proofs.enter.Statement.{statement}
 use Rattle.edit_trace.proofs.enter.Tie as tie
@@ -28,20 +30,33 @@ part s = let a = s .args in formed-part (a .buffer .now) (a .n) (a .m) (s .pre)
 formed : (s : tie.Start) → let a = s .args in Formed (take (tableLength (a .n) (a .m)) (a .buffer .now)) (a .n) (a .m)
 formed s = let a = s .args in subst (λ (g : List ℕ). Formed g (a .n) (a .m)) (sym (part s)) (s .pre)
 
-abbrev entry : tie.After-judge-entry → tie.Start
-entry c = c .before .before .before .before .before
+abbrev scan-at : tie.After-judge-edit → tie.After-scan-edges
+scan-at c = search
+
+abbrev begin : tie.After-scan-edges → tie.Start
+begin c = search
+
+abbrev entry : tie.After-judge-edit → tie.Start
+entry c = begin (scan-at c)
+
+-- what the scan found, in the table that begins the buffer
+scanned : (c : tie.After-scan-edges)
+    → let a = begin c .args in Scanned (tableIn (a .buffer .now)) (a .m) (a .source) (a .target) (c .scan-edges .result)
+scanned c = rw (part (begin c)) at (c .scan-edges .ensures)
 
 -- the edit is that of the entry
-edit-is : (c : tie.After-judge-entry) → let a = entry c .args in c .before .before .find-edit .result ≡ toggle (tableIn (a .buffer .now)) (a .source, a .target)
-edit-is c = rw (part (entry c)) at (c .before .before .find-edit .ensures)
+edit-is : (c : tie.After-judge-edit) → let a = entry c .args in c .before .find-edit .result ≡ toggle (tableIn (a .buffer .now)) (a .source, a .target)
+edit-is c = let s = entry c in c .before .find-edit .ensures ∙ toggle-is _ _ (scanned-there (s .pre) _ _ (scanned (scan-at c)))
 
 -- what the judge said of the entry
-judged : (c : tie.After-judge-entry)
+judged : (c : tie.After-judge-edit)
     → let a = entry c .args in
-    acceptanceAnswer (c .judge-entry .result) ≡ judge (entryRows (tableIn (a .buffer .now)) (length (a .buffer .now)) (a .source, a .target)) []
+    acceptanceAnswer (c .judge-edit .result) ≡ judge (entryRows (tableIn (a .buffer .now)) (length (a .buffer .now)) (a .source, a .target)) []
 judged c =
-    let a = entry c .args in
-    (rw (part (entry c)) at (c .judge-entry .ensures))
+    let s = entry c in
+    let a = s .args in
+    c .judge-edit .ensures
+    ∙ ap (λ (rs : List Row). judge rs []) (scanned-rows (s .pre) _ _ (scanned (scan-at c)) (length (a .buffer .now)) (c .before .find-edit .result))
     ∙ ap (λ (e : Edit). judge (editRows e (tableIn (a .buffer .now)) (length (a .buffer .now)) (a .source) (a .target)) []) (edit-is c)
 
 passed : (c : tie.After-enum-told)
@@ -60,23 +75,22 @@ mul-size-2 c = search needs
 add-size-2 : tie.Need-add-size-2
 add-size-2 c = search needs
 
-slice-reshare-prefix-find-edit : tie.Need-slice-reshare-prefix-find-edit
-slice-reshare-prefix-find-edit c = omega (arith, room (c .before))
+slice-reshare-prefix-scan-edges : tie.Need-slice-reshare-prefix-scan-edges
+slice-reshare-prefix-scan-edges c = omega (arith, room (c .before))
 
-slice-aggregate-find-edit : tie.Need-slice-aggregate-find-edit
-slice-aggregate-find-edit c = sym (length-take-le _ _ (room (c .before .before)))
+slice-aggregate-scan-edges : tie.Need-slice-aggregate-scan-edges
+slice-aggregate-scan-edges c = sym (length-take-le _ _ (room (c .before .before)))
+
+scan-edges-requires : tie.Need-scan-edges-requires
+scan-edges-requires c κs = formed (c .before .before)
 
 find-edit-requires : tie.Need-find-edit-requires
-find-edit-requires c κs = formed (c .before .before)
+find-edit-requires c κs = search needs
 
-slice-reshare-prefix-judge-entry : tie.Need-slice-reshare-prefix-judge-entry
-slice-reshare-prefix-judge-entry c = omega (arith, room (c .before .before .before))
-
-slice-aggregate-judge-entry : tie.Need-slice-aggregate-judge-entry
-slice-aggregate-judge-entry c = sym (length-take-le _ _ (room (c .before .before .before .before)))
-
-judge-entry-requires : tie.Need-judge-entry-requires
-judge-entry-requires c κs = (formed (c .before .before .before .before), c .before .find-edit .ensures)
+judge-edit-requires : tie.Need-judge-edit-requires
+judge-edit-requires c κs =
+    let p = begin (c .before) .pre in
+    (omega (arith, p .vertices, p .well .vertices), omega (arith, p .edges, p .well .edges))
 
 enum-known-judged : tie.Need-enum-known-judged
 enum-known-judged c = search needs
@@ -95,7 +109,7 @@ make-edit-requires c κs =
     let e = c .before in
     let j = e .before .before in
     let a = entry j .args in (
-      entry j .pre,
+      (entry j .pre, scanned (scan-at j) .found),
       subst (λ (d : Edit). Clean (editRows d (tableIn (a .buffer .now)) (length (a .buffer .now)) (a .source) (a .target))) (sym (edit-is j)) (passed e),
     )
 
@@ -120,12 +134,11 @@ enter-spec =
     add-size
     mul-size-2
     add-size-2
-    slice-reshare-prefix-find-edit
-    slice-aggregate-find-edit
+    slice-reshare-prefix-scan-edges
+    slice-aggregate-scan-edges
+    scan-edges-requires
     find-edit-requires
-    slice-reshare-prefix-judge-entry
-    slice-aggregate-judge-entry
-    judge-entry-requires
+    judge-edit-requires
     enum-known-judged
     same-length
     returns

@@ -1,192 +1,74 @@
--- Whatever is stamped is reached, and the links of i and of the first `head` positions in the queue were followed.
+-- The search begins with the links of i: whatever is stamped then is reached.
 use borrow.Author.Needs.{needs}
 use native.Mathlib.Omega.{arith}
-use Prim.Native.Nat.{ℕ, _≤_, _<_, _-_, _+_}
-use mathlib.Core.Path.{_≡_, refl, sym, _∙_}
-use mathlib.Core.List.{List}
-use lib.ListN.{length, getD}
-use borrow.Author.Tests.{eq-eqb}
-use Rattle.plan_returns.specs.Search.{linkBy, stamped, Searched}
-use Rattle.plan_returns.specs.SearchLaws.{queued-le, queued-none, searched-none, searched-more, searched-found, searched-all}
-use Rattle.plan_returns.specs.ReturnSearch.{Workspace, notBelow}
-use Rattle.plan_returns.specs.ReturnSearchLaws.{workspace-kept, own-passes, reaches-returns}
+use mathlib.Core.Path.{refl}
+use Rattle.index.specs.IndexLaws.{indexed-size}
+use Rattle.plan_returns.specs.SearchLaws.{queued-none, searched-none}
+use Rattle.plan_returns.specs.ReturnSearchLaws.{workspace-kept}
 use Rattle.plan_returns.proofs.returns.Statement.{statement}
 use Rattle.plan_returns.proofs.returns.Tie as tie
 
-record Inv (starts targets priorities : List ℕ) (i : ℕ) (seen₀ queue₀ : List ℕ) (p : ℕ) (seen queue : List ℕ) (head tail : ℕ) : Type 0 where
-  order : head ≤ tail
-  stamps : length seen ≡ length seen₀
-  entries : length queue ≡ length queue₀
-  searched : Searched p (linkBy starts targets) (notBelow priorities (getD priorities i 0)) i (i + 1) seen queue head tail
-
-abbrev Inv-loop : tie.InvT-loop
-Inv-loop starts targets priorities seen₀ queue₀ p i least stamp tail₀ head₀ seen queue tail head =
-    Inv starts targets priorities i seen₀ queue₀ p seen queue head tail
-
-abbrev μ-loop : tie.MeasureT-loop
-μ-loop starts targets priorities seen₀ queue₀ p i least stamp tail₀ head₀ seen queue tail head = p - head
-
-abbrev start : tie.After-expand Inv-loop μ-loop → tie.Start Inv-loop μ-loop
-start c = search
-
--- the first step of the search: the links of i
-abbrev begun : tie.At-loop Inv-loop μ-loop → tie.After-expand Inv-loop μ-loop
-begun c = c .before .before .before .before .before
-
-abbrev at : tie.Else1 Inv-loop μ-loop → tie.At-loop Inv-loop μ-loop
-at c = c .before .before .before
-
--- the work memory keeps its lengths
-space : (c : tie.At-loop Inv-loop μ-loop) → let e = start (begun c) .args in Workspace (e .p) (e .starts .now) (e .targets .now) (e .priorities .now) (c .loop .seen) (c .loop .queue)
-space c =
-    let first = begun c .expand in
-    workspace-kept (start (begun c) .pre .0 .0) (c .loop .inv .stamps ∙ first .kept .1 .1 .1 .0) (c .loop .inv .entries ∙ first .kept .1 .1 .1 .1 .0)
-
--- the next position in the queue
-record Next (queue : List ℕ) (p head : ℕ) : Type 0 where
-  few : head < p
-  below : getD queue head 0 < p
-
-next : (c : tie.Else1 Inv-loop μ-loop) → Next (at c .loop .queue) (start (begun (at c)) .args .p) (at c .loop .head)
-next c =
-    let l = at c .loop in
-    let test = c .before .before .loop-test in
-    record {
-      few = omega (arith, queued-le _ _ _ _ _ (l .inv .searched .queued), test .taken);
-      below = l .inv .searched .queued .inside (l .head) (test .taken);
-    }
-
-mul-least : tie.Need-mul-least Inv-loop μ-loop
+mul-least : tie.Need-mul-least
 mul-least c = search needs
 
-shared-slice-read-least : tie.Need-shared-slice-read-least Inv-loop μ-loop
+shared-slice-read-least : tie.Need-shared-slice-read-least
 shared-slice-read-least c = search needs
 
-add-stamp : tie.Need-add-stamp Inv-loop μ-loop
+mul-block : tie.Need-mul-block
+mul-block c = search needs
+
+shared-slice-read-block : tie.Need-shared-slice-read-block
+shared-slice-read-block c = search needs
+
+add-stamp : tie.Need-add-stamp
 add-stamp c = search needs
 
-cast-stamp : tie.Need-cast-stamp Inv-loop μ-loop
+cast-stamp : tie.Need-cast-stamp
 cast-stamp c = search needs
 
-abbrev at-start : tie.After-expand-arg2 Inv-loop μ-loop → tie.Start Inv-loop μ-loop
-at-start c = search
-
-expand-requires : tie.Need-expand-requires Inv-loop μ-loop
+expand-requires : tie.Need-expand-requires
 expand-requires c κs =
-    let e = at-start c in
+    let e : tie.Start = search in
     (e .pre .0, queued-none _ _ _ _ (λ j. omega (arith, e .pre .1 j)))
 
-loop-holds : tie.Need-loop-holds Inv-loop μ-loop
-loop-holds c =
-    let first = c .before .before .before .before in
-    let e = start first in
-    record {
-      order = omega arith;
-      stamps = refl;
-      entries = refl;
-      searched = searched-none _ _ _ _ _ (e .args .seen .now) (e .args .queue .now) (λ j. omega (arith, e .pre .1 j)) _ _ _ (first .expand .ensures);
-    }
+spend-requires : tie.Need-spend-requires
+spend-requires c κs =
+    let e : tie.Start = search in
+    omega (arith, indexed-size (e .pre .0 .0 .index), e .pre .0 .1)
 
-mul-if1 : tie.Need-mul-if1 Inv-loop μ-loop
-mul-if1 c = let a = c .before in omega (arith, space a .few, start (begun a) .pre .0 .1)
+search-queue-requires : tie.Need-search-queue-requires
+search-queue-requires c κs =
+    let e : tie.Start = search in
+    let x : tie.After-expand = search in
+    let k = x .expand .kept in (
+      (workspace-kept (e .pre .0 .0) refl (k .1 .1 .1 .1 .0) (k .1 .1 .1 .1 .1 .0), e .pre .0 .1),
+      searched-none _ _ _ _ _ (e .args .seen .now) (e .args .queue .now) (λ j. omega (arith, e .pre .1 j)) _ _ _ (x .expand .ensures),
+    )
 
-slice-read-if1 : tie.Need-slice-read-if1 Inv-loop μ-loop
-slice-read-if1 c = let a = c .before .before in omega (arith, space a .stamps, start (begun a) .pre .0 .1)
-
-same-length : tie.Need-same-length Inv-loop μ-loop
+same-length : tie.Need-same-length
 same-length c = search needs
 
-same-length-2 : tie.Need-same-length-2 Inv-loop μ-loop
+same-length-2 : tie.Need-same-length-2
 same-length-2 c = search needs
 
-returns : tie.Need-returns Inv-loop μ-loop
-unfolding stamped
+returns : tie.Need-returns
 returns c =
-    let i = c .before .before .before .loop .inv in
-    (sym (sym (reaches-returns _ _ _ _ _) ∙ searched-found _ _ _ _ _ _ _ _ _ (i .searched) (eq-eqb _ _ (c .if1 .taken))), i .searched .queued .latest)
-
-mul-j : tie.Need-mul-j Inv-loop μ-loop
-mul-j c = omega (arith, next c .few, space (at c) .entries)
-
-slice-read-j : tie.Need-slice-read-j Inv-loop μ-loop
-slice-read-j c = omega (arith, next (c .before) .few, space (at (c .before)) .entries)
-
-cast-j : tie.Need-cast-j Inv-loop μ-loop
-cast-j c = omega (arith, next (c .before) .below, space (at (c .before)) .few)
-
-expand-requires-2 : tie.Need-expand-requires-2 Inv-loop μ-loop
-expand-requires-2 c κs =
-    let t = c .before .before .before in
-    ((space (at t), next t .below), at t .loop .inv .searched .queued)
-
-abbrev at-else1 : tie.After-slice-known8 Inv-loop μ-loop → tie.Else1 Inv-loop μ-loop
-at-else1 c = search
-
-add-head : tie.Need-add-head Inv-loop μ-loop
-add-head c = let t = at-else1 c in omega (arith, next t .few, space (at t) .few)
-
-loop-less : tie.Need-loop-less Inv-loop μ-loop
-loop-less c = omega (arith, next (at-else1 c) .few)
-
-loop-again : tie.Need-loop-again Inv-loop μ-loop
-loop-again c =
-    let t = at-else1 c in
-    let i = at t .loop .inv in
-    let test = t .before .before .loop-test in
-    let step = c .before .before .before .before .expand2 in
-    record {
-      order = omega (arith, step .ensures .longer, test .taken);
-      stamps = step .kept .1 .1 .1 .0 ∙ i .stamps;
-      entries = step .kept .1 .1 .1 .1 .0 ∙ i .entries;
-      searched = searched-more _ _ _ _ _ _ _ _ _ (i .searched) (test .taken) _ _ _ (step .ensures);
-    }
-
-mul-result : tie.Need-mul-result Inv-loop μ-loop
-mul-result c = let a = c .before in omega (arith, space a .few, start (begun a) .pre .0 .1)
-
-slice-read-result : tie.Need-slice-read-result Inv-loop μ-loop
-slice-read-result c = let a = c .before .before in omega (arith, space a .stamps, start (begun a) .pre .0 .1)
-
-same-length-3 : tie.Need-same-length-3 Inv-loop μ-loop
-same-length-3 c = search needs
-
-same-length-4 : tie.Need-same-length-4 Inv-loop μ-loop
-same-length-4 c = search needs
-
-returns-2 : tie.Need-returns-2 Inv-loop μ-loop
-unfolding stamped
-returns-2 c =
-    let a = c .before .before in
-    let i = a .loop .inv in
-    let e = start (begun a) .args in
-    (searched-all _ _ _ _ _ _ _ _ _ (i .searched) (own-passes (e .priorities .now) (e .i)) (omega (arith, i .order, c .before .loop-test .left)) ∙ reaches-returns _ _ _ _ _, i .searched .queued .latest)
+    let s : tie.After-search-queue = search in
+    s .search-queue .ensures
 
 pub returns-spec : {M : Type 1} → statement M
 returns-spec =
     tie.close
     (tie.spec
-    Inv-loop
-    μ-loop
     mul-least
     shared-slice-read-least
+    mul-block
+    shared-slice-read-block
     add-stamp
     cast-stamp
     expand-requires
-    loop-holds
-    mul-if1
-    slice-read-if1
+    spend-requires
+    search-queue-requires
     same-length
     same-length-2
-    returns
-    mul-j
-    slice-read-j
-    cast-j
-    expand-requires-2
-    add-head
-    loop-less
-    loop-again
-    mul-result
-    slice-read-result
-    same-length-3
-    same-length-4
-    returns-2)
+    returns)

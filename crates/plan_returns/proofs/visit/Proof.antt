@@ -1,7 +1,7 @@
--- The three ways out, by the two tests.
+-- The four ways out, by the three tests.
 use borrow.Author.Needs.{needs}
 use Rattle.plan_returns.specs.SearchLaws.{visited-out, visited-seen, visited-new}
-use Rattle.plan_returns.specs.ReturnSearchLaws.{below-fails, above-passes}
+use Rattle.plan_returns.specs.ReturnSearchLaws.{below-fails, elsewhere-fails, passes-in}
 use Rattle.plan_returns.proofs.visit.Statement.{statement}
 use Rattle.plan_returns.proofs.visit.Tie as tie
 
@@ -12,16 +12,25 @@ shared-slice-read-if1 : tie.Need-shared-slice-read-if1
 shared-slice-read-if1 c = search needs
 
 returns : tie.Need-returns
-returns c = visited-out _ _ _ _ _ _ (below-fails _ _ _ (c .if1 .taken))
+returns c = visited-out _ _ _ _ _ _ (below-fails _ _ _ _ _ (c .if1 .taken))
 
 mul-if2 : tie.Need-mul-if2
 mul-if2 c = search needs
 
-slice-read-if2 : tie.Need-slice-read-if2
-slice-read-if2 c = search needs
+shared-slice-read-if2 : tie.Need-shared-slice-read-if2
+shared-slice-read-if2 c = search needs
 
 returns-2 : tie.Need-returns-2
-returns-2 c = visited-seen _ _ _ _ _ _ (c .if2 .taken)
+returns-2 c = visited-out _ _ _ _ _ _ (elsewhere-fails _ _ _ _ _ (c .if2 .taken))
+
+mul-if3 : tie.Need-mul-if3
+mul-if3 c = search needs
+
+slice-read-if3 : tie.Need-slice-read-if3
+slice-read-if3 c = search needs
+
+returns-3 : tie.Need-returns-3
+returns-3 c = visited-seen _ _ _ _ _ _ (c .if3 .taken)
 
 mul-seen : tie.Need-mul-seen
 mul-seen c = search needs
@@ -47,8 +56,11 @@ same-length c = search needs
 same-length-2 : tie.Need-same-length-2
 same-length-2 c = search needs
 
-returns-3 : tie.Need-returns-3
-returns-3 c = visited-new _ _ _ _ _ _ (above-passes _ _ _ (c .before .before .if1 .left)) (c .if2 .left)
+returns-4 : tie.Need-returns-4
+returns-4 c =
+    let first : tie.Else1 = search in
+    let second : tie.Else2 = search in
+    visited-new _ _ _ _ _ _ (passes-in _ _ _ _ _ (first .if1 .left) (second .if2 .left)) (c .if3 .left)
 
 pub visit-spec : {M : Type 1} → statement M
 visit-spec =
@@ -58,8 +70,11 @@ visit-spec =
     shared-slice-read-if1
     returns
     mul-if2
-    slice-read-if2
+    shared-slice-read-if2
     returns-2
+    mul-if3
+    slice-read-if3
+    returns-3
     mul-seen
     slice-write-seen
     cast-queue
@@ -68,4 +83,4 @@ visit-spec =
     add-result
     same-length
     same-length-2
-    returns-3)
+    returns-4)

@@ -8,7 +8,7 @@ use raskjomi::exports::RaskjomiAnswer;
 use raskjomi::mark_bytes;
 
 /// Reads a table: its sizes, or its refusal.
-type Read = fn(&[u16]) -> Result<(usize, usize), RaskjomiAnswer>;
+pub type Read = fn(&[u16]) -> Result<(usize, usize), RaskjomiAnswer>;
 /// Writes the order and the classes of a table; the number of classes.
 type Fill = fn(&[u16], &mut [u8], &mut [u8], &mut [u16]) -> usize;
 
@@ -79,7 +79,7 @@ pub fn preview(
 }
 
 /// The table that begins a buffer, as far as it is there.
-fn begun(buffer: &[u16]) -> &[u16] {
+pub fn begun(buffer: &[u16]) -> &[u16] {
     let needed = match buffer {
         &[n, m, ..] => 2 + 2 * n as usize + 2 * m as usize,
         _ => 0,
@@ -112,38 +112,58 @@ pub fn replay(
     spare: &mut [u8],
     classes: &mut [u16],
 ) -> RaskjomiAnswer {
-    let (n, mut m) = match reader::read(begun(table)) {
-        Ok(sizes) => sizes,
+    let lent = [marks.len(), spare.len(), classes.len()];
+    let ((n, mut m), [sources, targets]) = match to_replay(reader::read, table, trace, lent) {
+        Ok(read) => read,
         Err(refusal) => return refusal,
     };
-    let lent = [marks.len(), spare.len(), classes.len()];
-    if let Err(refusal) = lengths(&lent, &[mark_bytes(n), mark_bytes(n), n]) {
-        return refusal;
-    }
+    fill(begun(table), marks, spare, classes);
+    let mut done = 0;
+    let mut entries = sources.iter().zip(targets);
+    let refusal =
+        entries.find_map(|(&source, &target)| match enter(table, n, m, (source, target)) {
+            Ok(edges) => {
+                (m, done) = (edges, done + 1);
+                None
+            }
+            Err(refusal) => Some(refusal),
+        });
+    let k = fill(begun(table), marks, spare, classes);
+    replayed(table, k, done, refusal)
+}
+
+/// The sizes of a table, and the sources and the targets of a trace.
+type ToReplay<'a> = ((usize, usize), [&'a [u16]; 2]);
+
+/// What is replayed, for buffers of these lengths; or a refusal.
+pub fn to_replay<'a>(
+    read: Read,
+    table: &[u16],
+    trace: &'a [u16],
+    lent: [usize; 3],
+) -> Result<ToReplay<'a>, RaskjomiAnswer> {
+    let (n, m) = read(begun(table))?;
+    lengths(&lent, &[mark_bytes(n), mark_bytes(n), n])?;
     let count = trace.first().map_or(0, |&count| count as usize);
     if trace.len() != 1 + 2 * count || count > 4096 {
-        return refused(40, 0);
+        return Err(refused(40, 0));
     }
-    fill(begun(table), marks, spare, classes);
-    let mut verdict = RaskjomiAnswer::default();
-    let mut done = 0;
-    while done < count {
-        match enter(table, n, m, (trace[1 + done], trace[1 + count + done])) {
-            Ok(edges) => m = edges,
-            Err(refusal) => {
-                verdict = refusal;
-                break;
-            }
-        }
-        done += 1;
+    let (sources, targets) = trace[1..].split_at(count);
+    Ok(((n, m), [sources, targets]))
+}
+
+/// What a replay tells, which left this table of so many classes, after so many entries and at this refusal, if any.
+pub fn replayed(
+    table: &[u16],
+    k: usize,
+    done: u32,
+    refusal: Option<RaskjomiAnswer>,
+) -> RaskjomiAnswer {
+    if let Some(refusal) = refusal {
+        return RaskjomiAnswer { entries: done, ..refusal };
     }
-    let k = fill(begun(table), marks, spare, classes);
-    let entries = done as u32;
-    if verdict.number != 0 {
-        return RaskjomiAnswer { entries, ..verdict };
-    }
-    let (classes, vertices, edges) = (k as u32, n as u32, m as u32);
-    RaskjomiAnswer { classes, vertices, edges, entries, ..RaskjomiAnswer::default() }
+    let (vertices, edges) = (table[0].into(), table[1].into());
+    RaskjomiAnswer { classes: k as u32, vertices, edges, entries: done, ..Default::default() }
 }
 
 /// Writes the order and the classes of a table; the number of classes.

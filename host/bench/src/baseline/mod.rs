@@ -2,25 +2,25 @@
 //! order by plain passes as well.
 
 pub mod bits;
-mod carry;
+pub mod carry;
 mod convert;
 pub mod edges;
 pub mod edit;
+mod found;
 mod game;
-mod index;
+pub mod index;
 mod large;
 mod large_reduction;
 mod packing;
 mod passes;
-mod plan;
+pub mod plan;
 pub mod reader;
 pub mod reduction;
 mod relations;
 mod rounds;
 mod seed;
-mod verdict;
+pub mod verdict;
 
-pub use carry::{carry, carry_class};
 pub use convert::convert;
 pub use edit::replay;
 pub use large::{large_read, large_solution};
@@ -36,9 +36,9 @@ pub use verdict::verdict;
 use raskjomi::exports::RaskjomiAnswer;
 
 /// The limits of a game, and the places of an index of its edges.
-const VERTICES: usize = 512;
+pub const VERTICES: usize = 512;
 pub const EDGES: usize = 4096;
-const STARTS: usize = VERTICES + 1;
+pub const STARTS: usize = VERTICES + 1;
 
 /// A refusal as an answer.
 pub fn refused(number: u32, place: usize) -> RaskjomiAnswer {

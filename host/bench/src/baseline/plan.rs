@@ -13,15 +13,14 @@ struct Plan<'a> {
 
 /// The plan acceptor, as the library's call of this name.
 pub fn accept_plan(game: &[u16], player: u32, plan: &[u16]) -> RaskjomiAnswer {
-    let judged = reader::read(game).and_then(|(n, m)| judge(game, n, m, player, plan));
+    let judged = reader::read(game).and_then(|sizes| judge(game, sizes, player, plan));
     judged.err().unwrap_or_default()
 }
 
 /// Refusals 11 to 16, on a game that the reader accepts.
 pub fn judge(
     game: &[u16],
-    n: usize,
-    m: usize,
+    (n, m): (usize, usize),
     player: u32,
     plan: &[u16],
 ) -> Result<(), RaskjomiAnswer> {
@@ -40,7 +39,8 @@ pub fn judge(
     no_bad_walk(&game[2..2 + n], player, &plan)
 }
 
-fn sizes(plan: &[u16]) -> Result<(usize, usize), RaskjomiAnswer> {
+/// The numbers of positions and links, or refusal 12.
+pub fn sizes(plan: &[u16]) -> Result<(usize, usize), RaskjomiAnswer> {
     let (p, l) = match plan {
         [p, l, ..] => (*p as usize, *l as usize),
         _ => return Err(refused(12, 0)),

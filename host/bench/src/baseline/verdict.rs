@@ -22,13 +22,28 @@ pub fn verdict(
         Ok(_) => {}
     }
     let counts = reduce(by_rows, game, marks, spare, classes, output);
+    shown(plan::judge, counts, output, player, words, classes, vertex as usize)
+}
+
+/// Judges a plan.
+pub type Judge = fn(&[u16], (usize, usize), u32, &[u16]) -> Result<(), RaskjomiAnswer>;
+
+/// What the plan shows for a vertex, once the game is reduced and its classes are numbered.
+pub fn shown(
+    judge: Judge,
+    counts: RaskjomiAnswer,
+    reduced: &[u16],
+    player: u32,
+    words: &[u16],
+    classes: &[u16],
+    vertex: usize,
+) -> RaskjomiAnswer {
     if counts.number != 0 {
         return counts;
     }
     let (k, e) = (counts.vertices as usize, counts.edges as usize);
-    if let Err(refusal) = plan::judge(&output[..2 + 2 * k + 2 * e], k, e, player, words) {
+    if let Err(refusal) = judge(&reduced[..2 + 2 * k + 2 * e], (k, e), player, words) {
         return refusal;
     }
-    let shown = (words[2] == classes[vertex as usize]) as u32;
-    RaskjomiAnswer { passes: 0, shown, ..counts }
+    RaskjomiAnswer { passes: 0, shown: (words[2] == classes[vertex]) as u32, ..counts }
 }

@@ -1,5 +1,6 @@
 //! The reader: a word that is too large is looked for only where the largest is.
 
+use crate::baseline::bits::Row;
 use crate::baseline::edges::Edges;
 use crate::baseline::reader::{sizes, without_edge};
 use crate::baseline::refused;
@@ -42,18 +43,29 @@ pub fn read_edges<const WORDS: usize, const ROWS: usize>(
     }
 }
 
+/// The successors of each vertex, in a game that has no refusal below 8.
+pub fn successors<const WORDS: usize, const ROWS: usize>(game: &[u16]) -> [Row<WORDS>; ROWS] {
+    let mut successors = [Row::EMPTY; ROWS];
+    let (n, m) = (game[0] as usize, game[1] as usize);
+    let (sources, targets) = game[2 + 2 * n..].split_at(m);
+    for (&source, &target) in sources.iter().zip(targets) {
+        successors[source as usize].insert(target as usize);
+    }
+    successors
+}
+
 /// Whether all words of a part are below a limit; else the refusal of this number.
-fn below(
-    game: &[u16],
+pub fn below(
+    words: &[u16],
     part: Range<usize>,
     limit: usize,
     number: u32,
 ) -> Result<(), RaskjomiAnswer> {
-    let words = &game[part.clone()];
+    let (first, words) = (part.start, &words[part]);
     let largest = words.iter().fold(0, |largest, &word| word.max(largest));
     if (largest as usize) < limit {
         return Ok(());
     }
     let place = words.iter().position(|&word| word as usize >= limit);
-    Err(refused(number, part.start + place.unwrap_or(0)))
+    Err(refused(number, first + place.unwrap_or(0)))
 }

@@ -1,9 +1,10 @@
 //! The best programs and the baseline beside the library.
 
+use crate::calls::{LIBRARY, SIDES};
 use crate::edits::{Change, Memory};
 use crate::families::FAMILIES;
-use crate::order_calls::{Call, CALLS, SIDES};
-use crate::{first_calls, LIBRARY};
+use crate::first_calls;
+use crate::order_calls::{Call, CALLS};
 use generator::{any_game, damaged_often, edge_to_edit, Lcg};
 use raskjomi::exports::RaskjomiAnswer;
 

@@ -1,9 +1,13 @@
 -- Each store is within the work memory, which keeps its length.
+use mathlib.Core.Path.{refl}
 use native.Mathlib.Omega.{arith}
 use lib.ListN.{length-set}
 use borrow.Author.Needs.{needs}
 use Rattle.carry_search.proofs.found.add_pair.Statement.{statement}
 use Rattle.carry_search.proofs.found.add_pair.Tie as tie
+
+chain-of-requires : tie.Need-chain-of-requires
+chain-of-requires c κs = search needs
 
 add-head : tie.Need-add-head
 add-head c = search needs
@@ -63,12 +67,15 @@ same-length : tie.Need-same-length
 same-length c = simp length-set
 
 returns : tie.Need-returns
-returns c = search needs
+returns c =
+    let h : tie.After-chain-of = search in
+    rw (← (h .chain-of .ensures .0)) refl
 
 pub add-pair-spec : {M : Type 1} → statement M
 add-pair-spec =
     tie.close
     (tie.spec
+    chain-of-requires
     add-head
     mul-head
     slice-read-head

@@ -1,4 +1,4 @@
--- Without a predecessor of Even's nothing is asked, and all of the fall is enough. Else the mask is the union of the rows of these predecessors,
+-- All of the fall is enough, and without a predecessor of Even's nothing is asked. Else the mask is the union of the rows of these predecessors,
 -- which holds all that they ask for.
 use mathlib.Core.Path.{sym, ap₂, _∙_}
 use mathlib.Core.Bool.{not}
@@ -23,6 +23,12 @@ evens : (c : tie.After-without) → let a = start c .args in
     RowIs (c .without .result) (λ v. cell (a .edges .now) (rowBits + a .a) v & not (cell (a .edges .now) (2 * rowBits) v))
 evens c v h = c .without .ensures v h ∙ ap₂ (λ b d. b & not d) (at-row c .row .ensures v h) (c .before .row2 .ensures v h)
 
+fall-of-requires : tie.Need-fall-of-requires
+fall-of-requires c κs = search needs
+
+returns : tie.Need-returns
+returns c = λ G s v w hv h t o r. c .fall-of .ensures G s w h
+
 add-row : tie.Need-add-row
 add-row c = search needs
 
@@ -41,18 +47,12 @@ without-requires c κs = search needs
 is-some-requires : tie.Need-is-some-requires
 is-some-requires c κs = search needs
 
-returns : tie.Need-returns
-returns c = let u = c .before .before in
+returns-2 : tie.Need-returns-2
+returns-2 c = let u = c .before .before in
     let a = start u .args in
     λ G s.
     none-asked rowBits G (cell (a .edges .now)) (cell (a .related .now)) (has _) (has (a .out)) (has (a .left)) (has _) (a .a) (start u .pre .2) s (evens u)
-    (sym (c .before .is-some .ensures) ∙ not-out (c .if1 .taken))
-
-fall-of-requires : tie.Need-fall-of-requires
-fall-of-requires c κs = search needs
-
-returns-2 : tie.Need-returns-2
-returns-2 c = λ G s v w hv h t o r. c .fall-of .ensures G s w h
+    (sym (c .before .is-some .ensures) ∙ not-out (c .if2 .taken))
 
 unite-requires : tie.Need-unite-requires
 unite-requires c κs = search needs
@@ -75,14 +75,14 @@ pub asked-fall-spec : {M : Type 1} → statement M
 asked-fall-spec =
     tie.close
     (tie.spec
+    fall-of-requires
+    returns
     add-row
     row-requires
     mul-row
     row-requires-2
     without-requires
     is-some-requires
-    returns
-    fall-of-requires
     returns-2
     unite-requires
     fall-within-requires

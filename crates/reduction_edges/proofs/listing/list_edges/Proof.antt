@@ -1,87 +1,66 @@
--- Invariant: the edges of the classes before c are listed. They are at most the game's, so each row has room.
-use Rattle.reduction_edges.specs.Rows.{picked, gameBy}
-use mathlib.Core.Path.{_≡_}
-use Prim.Native.Nat.{_+_, _-_, _*_, _≤_}
+-- The rows hold what every member of a class reaches, and the classes are listed by them.
+use mathlib.Core.Path.{_≡_, ap}
+use Prim.Native.Nat.{ℕ, _*_, _≤_}
 use native.Mathlib.Omega.{arith}
 use lib.ListN.{length}
-use Rattle.theory.specs.logic.Range.{pairsBelow, pairsOf}
-use Rattle.table.specs.Table.{gameOf, tableEdges}
-use Rattle.table.specs.Listing.{Appended}
-use Rattle.table.specs.ListingLaws.{appended-join}
-use Rattle.reduction_edges.specs.PickedLaws.{pairs-row}
-use Rattle.reduction_edges.specs.ListingLaws.{rows-none, rows-few}
+use Rattle.table.specs.Table.{vertexCount}
+use Rattle.reduction_rows.specs.Reached.{RowsFit}
 use borrow.Author.Needs.{needs}
 use Rattle.reduction_edges.proofs.listing.list_edges.Statement.{statement}
 use Rattle.reduction_edges.proofs.listing.list_edges.Tie as tie
 
-abbrev Inv-loop : tie.InvT-loop
-Inv-loop game marks classes reps starts targets k drop sources₀ ends₀ e₀ c₀ sources ends e c =
-    (c ≤ k) × (length sources ≡ length sources₀) × (length ends ≡ length ends₀) × Appended (pairsBelow k (gameBy drop (gameOf game) .edge) (c * k)) 0 sources₀ sources ends₀ ends e
+shared-slice-read-words-for : tie.Need-shared-slice-read-words-for
+shared-slice-read-words-for c = let s : tie.Start = search in omega (arith, s .pre .0 .grouped .well .size)
 
-abbrev μ-loop : tie.MeasureT-loop
-μ-loop game marks classes reps starts targets k drop sources₀ ends₀ e₀ c₀ sources ends e c = k - c
+cast-words-for : tie.Need-cast-words-for
+cast-words-for c = search needs
 
-abbrev start : tie.In-loop Inv-loop μ-loop → tie.Start Inv-loop μ-loop
+words-for-requires : tie.Need-words-for-requires
+words-for-requires c κs = let s : tie.Start = search in s .pre .0 .grouped .well .vertices
+
+abbrev start : tie.After-words-for → tie.Start
 start c = search
 
--- this row has room
-room : (c : tie.In-loop Inv-loop μ-loop)
-    → let a = start c .args in c .before .loop .e + length (picked (a .k) (gameBy (a .drop) (gameOf (a .game .now)) .edge (c .before .loop .c))) ≤ tableEdges (a .game .now)
-room c = let s = start c in omega (arith, c .before .loop .inv .3 .count, rows-few (s .args .game .now) (s .args .drop) (s .args .k) (s .pre .1 .0) (c .before .loop .c) (c .loop-test .taken))
+fits : (c : tie.After-words-for) → let a = start c .args in RowsFit (a .game .now) (c .words-for .result) (a .words .now)
+fits c =
+    let s = start c in
+    let w = c .words-for .ensures in
+    record { wide = w; long = omega (arith, ap (λ (x : ℕ). vertexCount (s .args .game .now) * x) w, s .pre .1 .1 .0 .0) }
 
-loop-holds : tie.Need-loop-holds Inv-loop μ-loop
-loop-holds c = (search needs, search needs, search needs, rows-none _ _ _ _)
+reach-rows-requires : tie.Need-reach-rows-requires
+reach-rows-requires c κs = let w : tie.After-words-for = search in
+    let s = start w in
+    ((s .pre .0 .grouped, fits w), s .pre .1 .1 .0 .1)
 
-append-class-requires : tie.Need-append-class-requires Inv-loop μ-loop
-append-class-requires c κs =
-    let i = c .before .before in
-    let s = start i in
-    let l = i .before .loop in
-    (s .pre .0, ((i .loop-test .taken, s .pre .1 .0), (omega (arith, room i, l .inv .1, s .pre .1 .1), omega (arith, room i, l .inv .2, s .pre .1 .1))))
+list-classes-requires : tie.Need-list-classes-requires
+list-classes-requires c κs = let w : tie.After-words-for = search in
+    let r : tie.After-reach-rows = search in
+    let s = start w in
+    let f = fits w in
+    ((s .pre .0, s .pre .1 .0), ((record { wide = f .wide; long = omega (arith, r .reach-rows .kept, f .long) }, r .reach-rows .ensures), s .pre .1 .1 .1))
 
-add-c : tie.Need-add-c Inv-loop μ-loop
-add-c c = search needs
-
-loop-less : tie.Need-loop-less Inv-loop μ-loop
-loop-less c = search needs
-
-loop-again : tie.Need-loop-again Inv-loop μ-loop
-loop-again c =
-    let a = c .before .before .before .before in
-    let i = a .before .before .before in
-    let s = start i in
-    let l = i .before .loop in (
-      search needs,
-      omega (arith, a .append-class .kept, l .inv .1),
-      omega (arith, a .append-class .kept, l .inv .2),
-      rw (pairs-row (s .args .k) (gameBy (s .args .drop) (gameOf (s .args .game .now)) .edge) (l .c))
-          (appended-join _ _ _ _ _ _ _ _ _ _ (omega (arith, room i, l .inv .3 .count, s .pre .1 .1)) (omega (arith, room i, l .inv .3 .count, s .pre .1 .1)) (l .inv .3) (a .append-class .ensures)),
-    )
-
-same-length : tie.Need-same-length Inv-loop μ-loop
+same-length : tie.Need-same-length
 same-length c = search needs
 
-same-length-2 : tie.Need-same-length-2 Inv-loop μ-loop
+same-length-2 : tie.Need-same-length-2
 same-length-2 c = search needs
 
-returns : tie.Need-returns Inv-loop μ-loop
-unfolding pairsOf
-returns c = let at-start : tie.Start Inv-loop μ-loop = search in
-    let l = c .before .loop in
-    let e : l .c ≡ at-start .args .k = omega arith in
-    rw e at (l .inv .3)
+same-length-3 : tie.Need-same-length-3
+same-length-3 c = search needs
+
+returns : tie.Need-returns
+returns c = search needs
 
 pub list-edges-spec : {M : Type 1} → statement M
 list-edges-spec =
     tie.close
     (tie.spec
-    Inv-loop
-    μ-loop
-    loop-holds
-    append-class-requires
-    add-c
-    loop-less
-    loop-again
+    shared-slice-read-words-for
+    cast-words-for
+    words-for-requires
+    reach-rows-requires
+    list-classes-requires
     same-length
     same-length-2
+    same-length-3
     returns)

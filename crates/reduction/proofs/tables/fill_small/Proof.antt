@@ -1,0 +1,50 @@
+-- The arrays hold the representatives, the rows and the edges of any small game.
+use Prim.Native.Nat.{_≤_}
+use native.Mathlib.Nat.{mul-le-mul}
+use native.Mathlib.Omega.{arith}
+use Rattle.theory.specs.logic.ListLaws.{zeros}
+use Rattle.table.specs.Table.{vertexCount}
+use Rattle.reduction_rows.specs.Reached.{wordsFor}
+use borrow.Author.Needs.{needs}
+use Rattle.reduction.proofs.tables.fill_small.Statement.{statement}
+use Rattle.reduction.proofs.tables.fill_small.Tie as tie
+
+slice-aggregate-fill-within : tie.Need-slice-aggregate-fill-within
+slice-aggregate-fill-within c = search needs
+
+slice-aggregate-fill-within-2 : tie.Need-slice-aggregate-fill-within-2
+slice-aggregate-fill-within-2 c = search needs
+
+slice-aggregate-fill-within-3 : tie.Need-slice-aggregate-fill-within-3
+slice-aggregate-fill-within-3 c = search needs
+
+slice-aggregate-fill-within-4 : tie.Need-slice-aggregate-fill-within-4
+slice-aggregate-fill-within-4 c = search needs
+
+fill-within-requires : tie.Need-fill-within-requires
+fill-within-requires c κs = let s : tie.Start = search in
+    let n = s .pre .1 .1 .0 in
+    let w : wordsFor (vertexCount (s .args .game .now)) ≤ 1 = omega (arith, n) in
+    (s .pre .0, (s .pre .1 .0, record { vertices-fit = n; rows-fit = mul-le-mul n w; zeros = zeros 64; sources-fit = s .pre .1 .1 .1; ends-fit = s .pre .1 .1 .1 }))
+
+same-length : tie.Need-same-length
+same-length c = search needs
+
+same-length-2 : tie.Need-same-length-2
+same-length-2 c = search needs
+
+returns : tie.Need-returns
+returns c = search needs
+
+pub fill-small-spec : {M : Type 1} → statement M
+fill-small-spec =
+    tie.close
+    (tie.spec
+    slice-aggregate-fill-within
+    slice-aggregate-fill-within-2
+    slice-aggregate-fill-within-3
+    slice-aggregate-fill-within-4
+    fill-within-requires
+    same-length
+    same-length-2
+    returns)
