@@ -27,8 +27,8 @@ use Rattle.edit_rules.specs.EditPartsLaws.{formed-room, formed-part}
 use Rattle.edit_trace.specs.Trace.{traceRows}
 use Rattle.edit_trace.specs.Run.{padded}
 use Rattle.edit_trace.specs.RunLaws.{passing-clean, passing-refused}
-use Rattle.edit_trace.specs.RunState.{RunResult}
-use Rattle.edit_trace.specs.declared.Entries.{Entries}
+use Rattle.edit_run.specs.RunResult.{RunResult}
+use Rattle.edit_run.specs.declared.Entries.{Entries}
 use Rattle.edit.specs.EditCall.{callCounts}
 use Rattle.edit_replay.specs.ReplayCall.{startRows, replayed, ReplayCall}
 use Rattle.edit_replay.specs.ReplayedMemory.{Replayed}

@@ -1,10 +1,8 @@
 pub mod Trace
 pub mod Run
-pub mod RunState
 pub mod TraceLaws
 pub mod PaddedLaws
 pub mod RunLaws
-pub mod RunStateLaws
 pub mod TraceRules
 pub mod TraceRulesLaws
 pub mod ParityLaws

@@ -2,7 +2,7 @@
 -- sources and targets."
 use mathlib.Core.Bool.{Bool, not, cond}
 use mathlib.Core.List.{List, [], _∷_}
-use Prim.Native.Nat.{ℕ, _+_, _*_}
+use Prim.Native.Nat.{ℕ, _+_, _-_, _*_}
 use lib.Dec.{eqb, ltb}
 use lib.ListN.{length, getD}
 use Rattle.theory.specs.logic.Bools.{_&_, _or_, bit}
@@ -23,6 +23,10 @@ entryAt trace i = (getD trace (1 + i) 0, getD trace (1 + entryCount trace + i) 0
 
 unfoldable pub entriesIn : List ℕ → List (ℕ × ℕ)
 entriesIn trace = tabulate (entryCount trace) (entryAt trace)
+
+-- the entries from i on
+abbrev pub entriesFrom : List ℕ → ℕ → List (ℕ × ℕ)
+entriesFrom trace i = tabulate (entryCount trace - i) (λ k. entryAt trace (i + k))
 
 -- how many of these entries are of the edge from v to w
 unfoldable pub entriesOf : ℕ → ℕ → List (ℕ × ℕ) → ℕ

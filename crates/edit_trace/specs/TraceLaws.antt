@@ -13,8 +13,7 @@ use Rattle.theory.specs.logic.Range.{tabulate}
 use Rattle.theory.specs.logic.ListLaws.{tabulate-ext}
 use Rattle.table.specs.Answers.{row, accepted, refused, judge, Clean}
 use Rattle.table.specs.AnswersLaws.{judge-hit, judge-clean}
-use Rattle.edit_trace.specs.Trace.{entryLimit, entryCount, entryAt, entriesIn, traceRows}
-use Rattle.edit_trace.specs.RunState.{entriesFrom}
+use Rattle.edit_trace.specs.Trace.{entryLimit, entryCount, entryAt, entriesIn, entriesFrom, traceRows}
 
 -- ---- 40
 

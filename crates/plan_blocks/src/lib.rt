@@ -110,6 +110,7 @@ fn taken(block: u16, number: u16) -> u16
     number
 }
 
+// Each of the p positions that is in a block gets its number as its block.
 fn take_numbers(blocks: &mut [u16], numbers: &[u16], p: usize)
     requires { ⌜ (p ≤ positionLimit) × (p ≤ length (now blocks)) ⌝ }
     ensures { λ r. ⌜ Taken p (old blocks) (old numbers) (new blocks) ⌝ }
@@ -152,7 +153,7 @@ fn leaves(
     !leads_to(starts, targets, blocks, blocks, v, 0)
 }
 
-// Takes position v out of its block, if so.
+// Takes position v out of its block, if it lies on no closed walk of the wrong parity.
 fn leave(
     starts: &[u16],
     targets: &[u16],
@@ -175,6 +176,7 @@ fn leave(
     }
 }
 
+// The same for each of the p positions.
 fn remove(
     starts: &[u16],
     targets: &[u16],
@@ -217,7 +219,7 @@ fn split(
     }
 }
 
-// Refines the blocks of p positions by the strongly connected components inside them.
+// Refines the blocks of p positions by the strongly connected components inside them, in at most `steps` steps of the search for these.
 pub fn refine(
     starts: &[u16],
     targets: &[u16],

@@ -46,10 +46,12 @@ fn store(words: &mut [u16], i: usize, value: u16) {
     }
 }
 
+// The cast of a word, in a function of its own: that it keeps the value is shown here once.
 fn wide(word: u16) -> usize {
     word as usize
 }
 
+// One more, or one fewer, as far as the range goes.
 fn next(count: u16) -> u16 {
     if count < 65535 { count + 1 } else { count }
 }
@@ -58,6 +60,7 @@ fn previous(count: u16) -> u16 {
     if 0 < count { count - 1 } else { count }
 }
 
+// Word i of a part.
 fn cell(part: u16, i: u16) -> usize {
     part as usize + i as usize
 }
@@ -186,6 +189,7 @@ fn leave(
     }
 }
 
+// One step: the search begins at the next root, follows the next link of the path's end, or leaves that position.
 fn step(
     starts: &[u16],
     targets: &[u16],

@@ -257,7 +257,8 @@ fn returns_wrong(
     returns(starts, targets, priorities, blocks, seen, queue, p, i, left)
 }
 
-// Refines the blocks once no links are left to look at. Returns how many links may be looked at before the next time.
+// Refines the blocks once no links are left to look at: twice, since what leaves a block can part what stays. Returns how many links may be
+// looked at before the next time.
 fn renew(
     starts: &[u16],
     targets: &[u16],
@@ -276,10 +277,12 @@ fn renew(
         return left;
     }
     refine(starts, targets, priorities, blocks, p, player, budget);
+    refine(starts, targets, priorities, blocks, p, player, budget);
     budget
 }
 
-// The lowest position of the wrong parity that returns; p where there is none. No more than p × l links are looked at.
+// The lowest position of the wrong parity that returns; p where there is none. Whenever the searches have looked at about `budget` links, the
+// blocks are refined. No more than p × l links are looked at in searches.
 fn first_returning(
     starts: &[u16],
     targets: &[u16],

@@ -2,8 +2,8 @@
 -- has the definition; no public promise cites these.
 use mathlib.Core.Bool.{Bool, true, false, not}
 use mathlib.Core.List.{List}
-use Prim.Native.Nat.{ℕ, _*_, _≤_}
-use lib.Dec.{eqb}
+use Prim.Native.Nat.{ℕ, _+_, _*_, _≤_}
+use lib.Dec.{eqb, ltb}
 use lib.ListN.{length}
 use Rattle.theory.specs.logic.Bools.{_&_}
 use Rattle.theory.specs.logic.Range.{anyBelow}
@@ -24,14 +24,19 @@ RowFits n row = n ≤ wordBits * length row
 unfoldable pub belowOther : ℕ → List ℕ → ℕ → ℕ → Bool
 belowOther n marks d x = not (eqb x d) & relation n marks d x
 
+-- w + k is in the row, and d is below it, another
+unfoldable pub beatenAt : ℕ → List ℕ → List ℕ → ℕ → ℕ → ℕ → Bool
+beatenAt n marks row d w k = (ltb (w + k) n & belowOther n marks d (w + k)) & has row (w + k)
+
 -- d is below another one in the row
 unfoldable pub beaten : ℕ → List ℕ → List ℕ → ℕ → Bool
 beaten n marks row d = anyBelow n (λ e. has row e & belowOther n marks d e)
 
--- x is dropped because of d, which is in the row: for Even d itself, where it is below another; for Odd all others that d is below
+-- x is dropped because of d, which is in the row: for Even d itself, where it is below another; for Odd all others in it that d is
+-- below
 unfoldable pub drops : Bool → ℕ → List ℕ → List ℕ → ℕ → ℕ → Bool
 drops true n marks row d x = eqb d x & beaten n marks row d
-drops false n marks row d x = belowOther n marks d x
+drops false n marks row d x = has row x & belowOther n marks d x
 
 -- x is dropped because of one in the row
 unfoldable pub droppedBy : Bool → ℕ → List ℕ → List ℕ → ℕ → Bool

@@ -60,7 +60,7 @@ nothing words z x = rw (z (x / 64)) (digit-zero (x % 64))
 
 -- what one in the row drops: for Odd the others that it is below; for Even nothing, or itself
 module _ (n : ℕ) (marks row : List ℕ) (d x : ℕ) where
-  pub drops-odd : (side : Bool) → So (not side) → drops side n marks row d x ≡ belowOther n marks d x
+  pub drops-odd : (side : Bool) → So (not side) → drops side n marks row d x ≡ has row x & belowOther n marks d x
   unfolding drops
   drops-odd true t = clash t refl
   drops-odd false t = refl
@@ -112,17 +112,18 @@ module _ (G : Game) (marks row : List ℕ) (u : ℕ) (marked : (v w : ℕ) → v
   unfolding beaten belowOther
   even-is x h = any-ext (G .n) _ _ (λ e l. rw (targets e l, marked x e h l) (shuffle (isLowest (G .n) (order G) e) (not (eqb e x)) (quotientEdge G (order G) u e) (order G x e)))
 
-  odd-is : (x : ℕ) → x < G .n → droppedBy false (G .n) marks row x
+  odd-is : (x : ℕ) → x < G .n → So (has row x) → droppedBy false (G .n) marks row x
       ≡ anyBelow (G .n) (λ e. isLowest (G .n) (order G) e & not (eqb e x) & quotientEdge G (order G) u e & order G e x)
   unfolding droppedBy drops belowOther
-  odd-is x h = any-ext (G .n) _ _ (λ e l.
-      rw (targets e l, marked e x l h, eqb-flip x e) (shuffle (isLowest (G .n) (order G) e) (not (eqb e x)) (quotientEdge G (order G) u e) (order G e x)))
+  odd-is x h t = any-ext (G .n) _ _ (λ e l.
+      ap (λ (b : Bool). has row e & b) (and-one (not (eqb x e) & relation (G .n) marks e x) t)
+      ∙ rw (targets e l, marked e x l h, eqb-flip x e) (shuffle (isLowest (G .n) (order G) e) (not (eqb e x)) (quotientEdge G (order G) u e) (order G e x)))
 
   dropped-is : (side : Bool) (x : ℕ) → x < G .n → So (has row x) → G .owner u ≡ cond side even odd
       → droppedBy side (G .n) marks row x ≡ dropped G (order G) u x
   unfolding dropped noBetter
   dropped-is true x h t o = rw o (dropped-even (G .n) marks row x h t ∙ even-is x h)
-  dropped-is false x h t o = rw o (odd-is x h)
+  dropped-is false x h t o = rw o (odd-is x h t)
 
   -- what is kept
   module _ (side : Bool) (owner : G .owner u ≡ cond side even odd) (words : List ℕ) where

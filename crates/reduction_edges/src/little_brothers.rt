@@ -16,7 +16,7 @@ ghost use Rattle.table.specs.WellFormed.{WellFormed};
 ghost use Rattle.words.specs.Word.{wordBits, digit};
 ghost use Rattle.words.specs.Words.{has};
 ghost use Rattle.marks.specs.Marks.{marksLength};
-ghost use Rattle.reduction_edges.specs.LittleBrothers.{belowOther, beaten, drops, droppedBy, Marked, RowFits};
+ghost use Rattle.reduction_edges.specs.LittleBrothers.{belowOther, beatenAt, beaten, drops, droppedBy, Marked, RowFits};
 
 // The marks of d's row from w on, as many as a word has bits, without the mark of d itself.
 fn word_of(marks: &[u8], n: usize, d: usize, w: usize) -> u64
@@ -29,6 +29,18 @@ fn word_of(marks: &[u8], n: usize, d: usize, w: usize) -> u64
     word ^ (word & own)
 }
 
+// Those of the row's word from w on that d is below, without d itself. Most words of a row are empty where a class has few targets.
+fn beaten_word(marks: &[u8], n: usize, row: &[u64], d: usize, w: usize) -> u64
+    requires { ⌜ Marked n (now marks) × RowFits n (now row) × (d < n) × (w < n) × (w % wordBits ≡ 0) ⌝ }
+    ensures { λ r. ⌜ ((k : ℕ) → k < wordBits → digit r k ≡ beatenAt n (old marks) (old row) d w k) ⌝ }
+{
+    let here = row[w / 64];
+    if here == 0 {
+        return 0;
+    }
+    word_of(marks, n, d, w) & here
+}
+
 // Whether d is below another one in the row.
 fn is_beaten(marks: &[u8], n: usize, row: &[u64], d: usize) -> bool
     requires { ⌜ Marked n (now marks) × RowFits n (now row) × (d < n) ⌝ }
@@ -36,7 +48,7 @@ fn is_beaten(marks: &[u8], n: usize, row: &[u64], d: usize) -> bool
 {
     let mut w = 0;
     while w < n {
-        if words::is_some(word_of(marks, n, d, w) & row[w / 64]) {
+        if words::is_some(beaten_word(marks, n, row, d, w)) {
             return true;
         }
         w += 64;
@@ -44,14 +56,14 @@ fn is_beaten(marks: &[u8], n: usize, row: &[u64], d: usize) -> bool
     false
 }
 
-// Puts all others that d is below into the row.
-fn unite_others(marks: &[u8], n: usize, d: usize, dropped: &mut [u64])
-    requires { ⌜ Marked n (now marks) × RowFits n (now dropped) × (d < n) ⌝ }
-    ensures { λ r. ⌜ ((x : ℕ) → x < n → has (new dropped) x ≡ (has (old dropped) x or belowOther n (old marks) d x)) ⌝ }
+// Puts all others of the row that d is below into `dropped`.
+fn unite_others(marks: &[u8], n: usize, row: &[u64], d: usize, dropped: &mut [u64])
+    requires { ⌜ Marked n (now marks) × RowFits n (now row) × RowFits n (now dropped) × (d < n) ⌝ }
+    ensures { λ r. ⌜ ((x : ℕ) → x < n → has (new dropped) x ≡ (has (old dropped) x or (has (old row) x & belowOther n (old marks) d x))) ⌝ }
 {
     let mut w = 0;
     while w < n {
-        let more = word_of(marks, n, d, w);
+        let more = beaten_word(marks, n, row, d, w);
         dropped[w / 64] = dropped[w / 64] | more;
         w += 64;
     }
@@ -64,7 +76,7 @@ fn drop_by(marks: &[u8], n: usize, even: bool, row: &[u64], d: usize, dropped: &
     ensures { λ r. ⌜ ((x : ℕ) → x < n → has (new dropped) x ≡ (has (old dropped) x or drops even n (old marks) (old row) d x)) ⌝ }
 {
     if !even {
-        unite_others(marks, n, d, dropped);
+        unite_others(marks, n, row, d, dropped);
         return;
     }
     if !is_beaten(marks, n, row, d) {

@@ -1,0 +1,12 @@
+pub mod RunResult
+pub mod Turned
+pub mod TurnedLaws
+pub mod Tally
+pub mod TallyLaws
+pub mod SurvivorLaws
+pub mod EnterLaws
+pub mod KeptLaws
+pub mod Gathered
+pub mod GatheredLaws
+pub mod OverLaws
+pub mod SettledLaws
