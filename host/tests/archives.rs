@@ -6,7 +6,7 @@ mod archives;
 mod common;
 
 use archives::{Archives, CRATES, RECORD};
-use common::{archives_linked, build_script, write_program};
+use common::{archives_linked, build_script, root, write_program};
 use std::fs;
 use std::path::{Path, PathBuf};
 use std::process::{Command, Output};
@@ -17,7 +17,8 @@ const VERSION: &str = env!("CARGO_PKG_VERSION");
 
 /// An empty folder for one test.
 fn empty(name: &str) -> PathBuf {
-    let folder = Path::new(env!("CARGO_TARGET_TMPDIR")).join("archives").join(name);
+    // In the repository's own target folder: elsewhere in it the real `rt` takes the sources of `repository` for lost ones.
+    let folder = root().join("target/archives").join(name);
     let _ = fs::remove_dir_all(&folder);
     fs::create_dir_all(&folder).expect("a folder");
     folder

@@ -6,10 +6,12 @@ use Prim.Native.Nat.{ℕ, _≤_}
 use native.Mathlib.Omega.{arith}
 use lib.ListN.{length}
 use lib.Seq.{take-at}
+use Rattle.theory.specs.logic.Range.{tabulate}
+use Rattle.theory.specs.logic.ListLaws.{length-tabulate, getD-tabulate}
 use Rattle.theory.specs.games.Game.{edgeCount}
-use Rattle.theory.specs.order.Order.{orderPasses}
+use Rattle.theory.specs.order.Order.{order, orderPasses}
 use Rattle.theory.specs.plans.Plan.{Plan}
-use Rattle.theory.specs.classes.Reduction.{classGame, reduced}
+use Rattle.theory.specs.classes.Reduction.{classGame, reduced, classOf}
 use Rattle.theory.specs.classes.ReductionLaws.{reduced-total, classOf-reduced}
 use Rattle.theory.specs.classes.SizeLaws.{reduced-size, reduced-edges}
 use Rattle.table.specs.Table.{vertexCount, tableEdges, tableLength, gameOf}
@@ -17,13 +19,14 @@ use Rattle.table.specs.TableWords.{edgesOf, tableWords}
 use Rattle.table.specs.TableWordsLaws.{length-tableWords, tableWords-well, edgesOf-lists, length-edgesOf}
 use Rattle.table.specs.TableLaws.{game-n, game-total, edges-listed}
 use Rattle.table.specs.Answers.{Row, Answer, accepted, refused, judge, Clean, written}
-use Rattle.table.specs.AnswersLaws.{judge-clean, judge-past, judge-stays, judge-accepted, length-written, after-clean, after-past, after-refused, clean-append}
+use Rattle.table.specs.AnswersLaws.{judge-clean, judge-past, judge-stays, judge-accepted, length-written, getD-written, after-clean, after-past, after-refused, clean-append}
 use Rattle.table.specs.WellFormed.{WellFormed}
 use Rattle.order.specs.OrderCall.{orderRows, passesAnswer, orderAnswer, orderBytes}
 use Rattle.order.specs.OrderRules.{OrderFits}
 use Rattle.order.specs.OrderRulesLaws.{order-accepts}
 use Rattle.order.specs.OrderWritten.{OrderDone}
-use Rattle.classes.specs.Numbering.{Ordered}
+use Rattle.classes.specs.Numbering.{Classed, Ordered}
+use Rattle.classes.specs.ClassesCall.{classWords}
 use Rattle.classes.specs.OrderedMarksLaws.{ordered-written}
 use Rattle.reduction.specs.TableCall.{tableRows, tableCounts, classTable, TableCall}
 use Rattle.reduction.specs.TableRulesLaws.{table-accepted}
@@ -34,7 +37,7 @@ use Rattle.plan.specs.AcceptanceLaws.{clean-words}
 use Rattle.plan.specs.NumbersLaws.{recount}
 use Rattle.carry_output.specs.PlanWords.{planWords, planCounts}
 use Rattle.carry.specs.CarryCall.{carriedTo, judgedRows, carryRows, CarryCall, carriedFromClass, carryClassRows, CarryClassCall}
-use Rattle.carry_output.specs.CarryParts.{neededBy, carriedBy, arrivalRows, Arrived, planVertices, Carriable}
+use Rattle.carry_output.specs.CarryParts.{neededBy, carriedBy, arrivalRows, Arrived, planVertices, ClassesFor, Carriable}
 use Rattle.carry.specs.ReducedMemory.{ReducedHeld, reducedRows}
 
 -- ---- a plan that passes 11 to 16 can be carried
@@ -57,17 +60,20 @@ reduced-well game well =
     (reduced-total G (game-total game well))
 
 module _ (game : List ℕ) (player : ℕ) (plan : List ℕ) (well : WellFormed game) {marks : List ℕ} (ordered : Ordered (gameOf game) marks) where
-  pub own-can : accepted [] ≡ judge (planRows game player plan) [] → Carriable false game plan marks × (player ≤ 1)
-  unfolding planVertices
+  pub own-can : accepted [] ≡ judge (planRows game player plan) [] → {classes : List ℕ}
+      → Carriable false game plan classes × Ordered (gameOf game) marks × (player ≤ 1)
+  unfolding planVertices ClassesFor
   own-can e =
       let w = plan-passed game player plan well e in
-      (record { well = well; formed = w .formed; ordered = ordered }, w .number)
+      (record { well = well; formed = w .formed; classed = tt }, ordered, w .number)
 
-  pub class-can : accepted [] ≡ judge (planRows (classTable reduced game) player plan) [] → Carriable true game plan marks × (player ≤ 1)
-  unfolding planVertices tableWords reduced classGame
-  class-can e =
+  pub class-can : {classes : List ℕ} → Classed (gameOf game .n) (order (gameOf game)) classes
+      → accepted [] ≡ judge (planRows (classTable reduced game) player plan) []
+      → Carriable true game plan classes × Ordered (gameOf game) marks × (player ≤ 1)
+  unfolding planVertices ClassesFor tableWords reduced classGame
+  class-can classed e =
       let w = plan-passed (classTable reduced game) player plan (reduced-well game well) e in
-      (record { well = well; formed = w .formed; ordered = ordered }, w .number)
+      (record { well = well; formed = w .formed; classed = classed }, ordered, w .number)
 
 -- ---- the plan is on the game itself
 
@@ -169,6 +175,17 @@ module _ (game : List ℕ) (player : ℕ) (plan : List ℕ) (vertex : ℕ) (outp
           output-after = a .output-after ∙ sym (after-past (planRows reducedTable player plan) _ (planWords D) output rows-clean);
         }
 
+-- class words that a call leaves
+words-classed : (game old : List ℕ) → vertexCount game ≤ length old → Classed (gameOf game .n) (order (gameOf game)) (written (classWords game) old)
+unfolding gameOf classWords classOf
+words-classed game old h =
+    let n = vertexCount game in
+    let w = tabulate n (classOf (gameOf game)) in
+    let s : length w ≡ n = length-tabulate n (classOf (gameOf game)) in record {
+      long = omega (arith, length-written w old (omega (arith, s, h)), h);
+      numbers = λ u l. getD-written w old u 0 (omega (arith, s, l)) ∙ getD-tabulate n (classOf (gameOf game)) 0 u l;
+    }
+
 module _ {game marks spare classes reduction : List ℕ} {answer : Answer} {marks′ spare′ classes′ reduction′ : List ℕ}
     (table : TableCall reduced game marks spare classes reduction answer marks′ spare′ classes′ reduction′)
     (c : TableCounts) (accepts : answer ≡ accepted (c .classes ∷ c .vertices ∷ c .edges ∷ [])) where
@@ -176,7 +193,7 @@ module _ {game marks spare classes reduction : List ℕ} {answer : Answer} {mark
   table-clean = judge-accepted (tableRows game marks spare classes reduction) _ _ (sym (table .verdict) ∙ accepts) .0
 
   -- what the reduced-game call leaves
-  pub class-held : ReducedHeld game marks′ reduction′ c
+  pub class-held : ReducedHeld game marks′ classes′ reduction′ c
   unfolding written
   class-held =
       let a = table-accepted table _ accepts in
@@ -193,6 +210,7 @@ module _ {game marks spare classes reduction : List ℕ} {answer : Answer} {mark
       let holds = table .output-after ∙ after-clean (tableRows game marks spare classes reduction) w reduction table-clean in record {
         well = well;
         ordered = rw (table .marks-after ∙ after-clean (tableRows game marks spare classes reduction) (orderBytes game) marks table-clean) (ordered-written game marks (fits .classesFit .orderFits .marksFit));
+        classed = rw (table .classes-after ∙ after-clean (tableRows game marks spare classes reduction) (classWords game) classes table-clean) (words-classed game classes (fits .classesFit .wordsFit));
         totals = a .1;
         long = rw holds (omega (arith, length-written w reduction (omega (arith, size, fits .outputFit, less))));
         table = rw holds (take-at w _ (tableLength (c .vertices) (c .edges)) size);

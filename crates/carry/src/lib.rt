@@ -72,7 +72,16 @@ pub fn carry_plan(
         return Carrying::Refused(refusal);
     }
     order::fill_order(game, marks, spare);
-    carry_to(game, player, plan, vertex as usize, marks, output, false)
+    carry_to(
+        game,
+        player,
+        plan,
+        vertex as usize,
+        marks,
+        &plan[..0],
+        output,
+        false,
+    )
 }
 
 // Judges the game and the memory, writes the order, the classes and the reduced game, judges a plan on the reduced game, and writes the plan
@@ -106,6 +115,7 @@ pub fn carry_class_plan(
                 plan,
                 vertex as usize,
                 marks,
+                classes,
                 reduction,
                 output,
                 counts,
@@ -122,11 +132,12 @@ fn carry_reduced(
     plan: &[u16],
     y: usize,
     marks: &[u8],
+    classes: &[u16],
     reduction: &[u16],
     output: &mut [u16],
     counts: TableCounts,
 ) -> ClassCarrying
-    requires { ⌜ ReducedHeld (now game) (now marks) (now reduction) counts ⌝ }
+    requires { ⌜ ReducedHeld (now game) (now marks) (now classes) (now reduction) counts ⌝ }
     ensures { λ r. ⌜
         Arrived (reducedRows (old game) player (old plan) y (old output))
         (tableCounts reduced (old game) ++ planCounts (carriedBy true (old game) player (old plan) y))
@@ -139,7 +150,7 @@ fn carry_reduced(
     if let Acceptance::Refused(refusal) = judged {
         return ClassCarrying::Refused(refusal);
     }
-    let carried = carry_to(game, player, plan, y, marks, output, true);
+    let carried = carry_to(game, player, plan, y, marks, classes, output, true);
     match carried {
         Carrying::Accepted(found) => ClassCarrying::Accepted(ClassPlanCounts {
             classes: counts.classes,

@@ -2,19 +2,19 @@
 use mathlib.Core.Path.{_≡_}
 use mathlib.Core.Bool.{Bool, true, false}
 use mathlib.Core.List.{List}
-use Prim.Native.Nat.{ℕ, _<_}
+use Prim.Native.Nat.{ℕ, _≤_, _<_}
 use lib.ListN.{getD}
 use Rattle.theory.specs.logic.Range.{tabulate}
 use Rattle.theory.specs.order.Passes.{Rel}
 use Rattle.theory.specs.games.Game.{Game}
 use Rattle.theory.specs.order.Order.{order}
 use Rattle.theory.specs.plans.Plan.{Plan}
-use Rattle.theory.specs.classes.Reduction.{representative, noBetter}
+use Rattle.theory.specs.classes.Reduction.{classCount, representative, noBetter}
 use Rattle.theory.specs.carry.Carry.{carried, carriedPlan, classNoBetter, carriedClassPlan}
 use Rattle.table.specs.Table.{vertexCount, playerOf, gameOf}
 use Rattle.table.specs.Answers.{Row, Answer, judge, after}
 use Rattle.table.specs.WellFormed.{WellFormed}
-use Rattle.classes.specs.Numbering.{Ordered, classesIn}
+use Rattle.classes.specs.Numbering.{Classed, classesIn}
 use Rattle.plan_links.specs.PlanTable.{positionCount, vertexAt, planOf}
 use Rattle.plan_links.specs.PlanFormed.{PlanFormed}
 use Rattle.carry_replies.specs.Replies.{seated, needed}
@@ -32,6 +32,10 @@ seatOf true g c = representative (g .n) (order g) c
 -- each position has its seat
 pub record Seats (byClass : Bool) (game plan seats : List ℕ) : Type 0 where
   pub at : (i : ℕ) → i < positionCount plan → getD seats i 0 ≡ seatOf byClass (gameOf game) (vertexAt plan i)
+
+-- the classes whose lowest member is v or above have it
+pub record LowestFrom (n : ℕ) (le : Rel) (v : ℕ) (reps : List ℕ) : Type 0 where
+  pub at : (c : ℕ) → c < classCount n le → v ≤ representative n le c → getD reps c 0 ≡ representative n le c
 
 -- the needed order, and the carried plan
 unfoldable pub neededBy : Bool → List ℕ → ℕ → Rel
@@ -84,8 +88,13 @@ unfoldable pub planVertices : Bool → List ℕ → ℕ
 planVertices false game = vertexCount game
 planVertices true game = classesIn (gameOf game)
 
--- a plan to carry, and marks that hold the order
-pub record Carriable (byClass : Bool) (game plan marks : List ℕ) : Type 0 where
+-- the class of each vertex, for a plan on the reduced game
+unfoldable pub ClassesFor : Bool → List ℕ → List ℕ → Type 0
+ClassesFor false game classes = Unit {0}
+ClassesFor true game classes = Classed (gameOf game .n) (order (gameOf game)) classes
+
+-- a plan to carry, and class words that are the game's
+pub record Carriable (byClass : Bool) (game plan classes : List ℕ) : Type 0 where
   pub well : WellFormed game
   pub formed : PlanFormed (planVertices byClass game) plan
-  pub ordered : Ordered (gameOf game) marks
+  pub classed : ClassesFor byClass game classes

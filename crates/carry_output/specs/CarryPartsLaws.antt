@@ -26,6 +26,7 @@ use Rattle.table.specs.PlacingLaws.{placed-written}
 use Rattle.table.specs.Answers.{row, Answer, refused}
 use Rattle.table.specs.AnswersLaws.{judge-hit, judge-next, getD-written, after-refused, after-past}
 use Rattle.table.specs.WellFormed.{WellFormed}
+use Rattle.classes.specs.Numbering.{Ordered}
 use Rattle.plan_links.specs.PlanTable.{positionCount, vertexAt, planOf}
 use Rattle.carry_replies.specs.Replies.{seated, Seated, needed}
 use Rattle.carry_output.specs.PlanWords.{planWords, planCounts, sizeRows, carriedRows}
@@ -45,7 +46,8 @@ unfolding planVertices gameOf
 plan-few false game = omega arith
 plan-few true game = classCount-le (vertexCount game) (order (gameOf game)) (order-preorder (gameOf game))
 
-module _ {byClass : Bool} {game plan marks : List ℕ} (can : Carriable byClass game plan marks) {player : ℕ} (number : player ≤ 1) where
+module _ {byClass : Bool} {game plan classes : List ℕ} (can : Carriable byClass game plan classes) {marks : List ℕ} (ordered : Ordered (gameOf game) marks)
+    {player : ℕ} (number : player ≤ 1) where
   pub seats-seated : (seats : List ℕ) → Seats byClass game plan seats → positionCount plan ≤ length seats → Seated game player plan seats marks
   seats-seated seats s long = record {
     well = can .well;
@@ -58,7 +60,7 @@ module _ {byClass : Bool} {game plan marks : List ℕ} (can : Carriable byClass 
     };
     long = long;
     inside = λ i h. rw (s .at i h) (seat-lt byClass game (vertexAt plan i) (can .formed .vertices i h));
-    ordered = can .ordered;
+    ordered = ordered;
   }
 
 -- a position's vertex, by the plan's words from word 2 on

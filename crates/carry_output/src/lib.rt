@@ -16,7 +16,8 @@ use table::limits::PAIR_WORDS;
 use table::limits::POSITIONS;
 ghost use Prim.Native.Nat.{_≤_, _<_};
 ghost use Rattle.table.specs.Lent.{old, new};
-ghost use Rattle.table.specs.Table.{vertexCount};
+ghost use Rattle.table.specs.Table.{vertexCount, gameOf};
+ghost use Rattle.classes.specs.Numbering.{Ordered};
 ghost use Rattle.plan_links.specs.PlanTable.{positionCount};
 ghost use Rattle.carry_replies.specs.Replies.{Seated};
 ghost use Rattle.carry_search.specs.Work.{memoryIn};
@@ -87,18 +88,19 @@ fn carry_seated(
     write_found(&work, found.pairs, found.links, output)
 }
 
-// 33 to 35, and the plan's words, for a plan on the game itself or, by class, on the reduced game. The seats are in a local array of 8,192
-// bytes.
+// 33 to 35, and the plan's words, for a plan on the game itself, where no class is read, or, by class, on the reduced game. The seats are in a
+// local array of 8,192 bytes.
 pub fn carry_to(
     game: &[u16],
     player: u32,
     plan: &[u16],
     y: usize,
     marks: &[u8],
+    classes: &[u16],
     output: &mut [u16],
     by_class: bool,
 ) -> Carrying
-    requires { ⌜ Carriable «by_class» (now game) (now plan) (now marks) × (player ≤ 1) ⌝ }
+    requires { ⌜ Carriable «by_class» (now game) (now plan) (now classes) × Ordered (gameOf (now game)) (now marks) × (player ≤ 1) ⌝ }
     ensures { λ r. ⌜
         Arrived (arrivalRows «by_class» (old game) player (old plan) y (old output))
         (planCounts (carriedBy «by_class» (old game) player (old plan) y))
@@ -114,7 +116,7 @@ pub fn carry_to(
         });
     }
     let mut seats = [0u16; POSITIONS];
-    seat_positions(game, plan, marks, by_class, &mut seats);
+    seat_positions(game, plan, classes, by_class, &mut seats);
     let x = seats[0] as usize;
     if !no_better(marks, n, player, x, y) {
         return Carrying::Refused(Refusal {

@@ -15,7 +15,7 @@ ghost use mathlib.Core.Path.{_≡_};
 ghost use mathlib.Core.Bool.{cond};
 ghost use Prim.Native.Nat.{ℕ, _+_, _*_, _<_, _≤_, max};
 ghost use mathlib.Core.List.{[], _∷_};
-ghost use lib.Dec.{eqb, leb};
+ghost use lib.Dec.{eqb, leb, ltb};
 ghost use lib.ListN.{length, getD};
 ghost use Rattle.table.specs.Limits.{vertexLimit, edgeLimit};
 ghost use Rattle.theory.specs.logic.Bools.{_&_};
@@ -335,19 +335,18 @@ fn link_all(
     count_sources(sources, 0, m, n, degrees);
 }
 
-// The run's verdict, once it stands before entry `done`: entries from k on have an end not below n.
-fn judge_rest(trace: &[u16], k: usize, done: usize, verdict: Acceptance) -> Acceptance
-    requires { ⌜ (length (now trace) ≡ 1 + 2 * entryCount (now trace)) × (done ≤ k) × (k ≤ entryCount (now trace)) ⌝ }
+// The run's verdict, once it stands before entry `done`: entry k, if there is one, has an end not below n.
+fn judge_rest(trace: &[u16], k: usize, more: bool, done: usize, verdict: Acceptance) -> Acceptance
+    requires { ⌜ (length (now trace) ≡ 1 + 2 * entryCount (now trace)) × (done ≤ k) × (k ≤ entryCount (now trace)) × (more ≡ ltb k (entryCount (now trace))) ⌝ }
     ensures { λ r. ⌜ RestJudged (old trace) k done verdict r ⌝ }
 {
     if done < k {
         return verdict;
     }
-    let count = trace[0] as usize;
-    if count <= done {
-        return verdict;
+    if more {
+        return refused(37, trace[1 + done] as usize);
     }
-    refused(37, trace[1 + done] as usize)
+    verdict
 }
 
 // Runs the entries over linked pairs, and puts the edges that they leave into the buffer.
@@ -357,13 +356,14 @@ fn settle(
     m: usize,
     trace: &[u16],
     k: usize,
+    more: bool,
     sources: &[u16],
     targets: &[u16],
     links: &[u16],
     copies: &mut [u16],
     degrees: &mut [u16],
 ) -> Entries
-    requires { ⌜ Formed (tableIn (now buffer)) n m × (k ≡ first (outside (now trace) n) 0 (entryCount (now trace))) ⌝ }
+    requires { ⌜ Formed (tableIn (now buffer)) n m × (k ≡ first (outside (now trace) n) 0 (entryCount (now trace))) × (more ≡ ltb k (entryCount (now trace))) ⌝ }
     requires { ⌜ (length (now trace) ≡ 1 + 2 * entryCount (now trace)) × Gathered (tableIn (now buffer)) (now trace) m k (now sources) (now targets) ⌝ }
     requires { ⌜ Pairs (now sources) (now targets) (m + k) n × Started (now sources) (now targets) m (m + k) (now links) (now copies) (now degrees) ⌝ }
     requires { ⌜ (m + k ≤ length (now links)) × (m + k < length (now copies)) × (n ≤ length (now degrees)) ⌝ }
@@ -385,7 +385,7 @@ fn settle(
     );
     put_edges(buffer, n, edges, &kept, &ends, halt.most);
     let judged = halt.verdict;
-    let verdict = judge_rest(trace, k, done, judged);
+    let verdict = judge_rest(trace, k, more, done, judged);
     Entries {
         verdict,
         done,
@@ -393,12 +393,12 @@ fn settle(
     }
 }
 
-// Makes the entries in the table that begins the buffer, until one is refused. What lies between is never seen, so no table between is written.
-pub fn run_entries(buffer: &mut [u16], n: usize, m: usize, trace: &[u16]) -> Entries
+// Makes the entries, of which the first k have both ends below n; `more` tells whether there is one that has not.
+fn run_first(buffer: &mut [u16], n: usize, m: usize, trace: &[u16], k: usize, more: bool) -> Entries
     requires { ⌜ Formed (tableIn (now buffer)) n m × Clean (traceRows (now trace)) ⌝ }
+    requires { ⌜ (k ≡ first (outside (now trace) n) 0 (entryCount (now trace))) × (more ≡ ltb k (entryCount (now trace))) ⌝ }
     ensures { λ r. ⌜ RunResult (old buffer) (old trace) n r (new buffer) ⌝ }
 {
-    let k = find_outside(trace, n);
     let mut sources = [0u16; LINKED];
     let mut targets = [0u16; LINKED];
     let mut links = [0u16; LINKED];
@@ -421,10 +421,25 @@ pub fn run_entries(buffer: &mut [u16], n: usize, m: usize, trace: &[u16]) -> Ent
         m,
         trace,
         k,
+        more,
         &sources,
         &targets,
         &links,
         &mut copies,
         &mut degrees,
     )
+}
+
+// Makes the entries in the table that begins the buffer, until one is refused. What lies between is never seen, so no table between is written.
+pub fn run_entries(buffer: &mut [u16], n: usize, m: usize, trace: &[u16]) -> Entries
+    requires { ⌜ Formed (tableIn (now buffer)) n m × Clean (traceRows (now trace)) ⌝ }
+    ensures { λ r. ⌜ RunResult (old buffer) (old trace) n r (new buffer) ⌝ }
+{
+    let k = find_outside(trace, n);
+    let count = trace[0] as usize;
+    // Two calls: the compiler puts a function that is called once into its caller, so that the order would run with these arrays on its stack.
+    if k < count {
+        return run_first(buffer, n, m, trace, k, true);
+    }
+    run_first(buffer, n, m, trace, k, false)
 }

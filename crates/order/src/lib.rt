@@ -30,7 +30,8 @@ pub enum Ordering {
     Refused(Refusal),
 }
 
-// Writes the order of a well-formed table or, with `mirror`, its governed bisimulation into a buffer that is long enough.
+// Writes the order of a well-formed table or, with `mirror`, its governed bisimulation into a buffer that is long enough. The arrays of each width
+// are in a function of its own.
 fn fill_marks(game: &[u16], marks: &mut [u8], mirror: bool) -> u32
     requires { ⌜ WellFormed (now game) × (marksLength (vertexCount (now game)) ≤ length (now marks)) ⌝ }
     ensures { λ r. ⌜ MarksFilled (marksBy mirror) (passesBy mirror) (old game) (old marks) r (new marks) ⌝ }
@@ -39,11 +40,7 @@ fn fill_marks(game: &[u16], marks: &mut [u8], mirror: bool) -> u32
     if n <= SMALL {
         return fill_small(game, marks, mirror);
     }
-    // Two calls: the compiler puts a function that is called once into its caller, so that a small game would have the arrays of 192 KiB on its stack.
-    if mirror {
-        return fill_wide(game, marks, true);
-    }
-    fill_wide(game, marks, false)
+    fill_wide(game, marks, mirror)
 }
 
 // The same into both buffers, which are long enough. A part of the calls that leave such a relation; no host calls it.

@@ -8,10 +8,11 @@ use native.Mathlib.Decide.{ℕ-discrete}
 use native.Mathlib.Numerals.{add-one}
 use native.Mathlib.Omega.{arith}
 use lib.Arith.{digits-div, digits-mod}
-use lib.ListN.{length, length-append}
+use lib.ListN.{length, length-append, length-map}
 use Rattle.theory.specs.logic.Bools.{_&_, bit}
-use Rattle.theory.specs.logic.Range.{pairsBelow, count, nth}
+use Rattle.theory.specs.logic.Range.{tabulate, pairsBelow, count, nth}
 use Rattle.theory.specs.logic.CountLaws.{count-grows, count-lt, nth-count}
+use Rattle.table.specs.Listing.{sourcesOf, targetsOf}
 use Rattle.reduction_edges.specs.Rows.{picked, edgeTo}
 
 module _ (p : ℕ → Bool) where
@@ -50,22 +51,22 @@ picked-ext zero p q f = refl
 picked-ext (suc n) p q f = rw (picked-ext n p q (λ i h. f i (omega arith)), f n (omega arith))
 
 -- numbers that are among those of `low`, given by their number there
-module _ (N : ℕ) (low E : ℕ → Bool) (f g : ℕ → ℕ × ℕ) (e : (x : ℕ) → x < N → So (low x) → f x ≡ g (count x low)) where
-  pub picked-numbers : (n : ℕ) → n ≤ N → map f (picked n (λ x. low x & E x)) ≡ map g (picked (count n low) (λ d. E (nth N low d)))
+module _ (N : ℕ) (low E : ℕ → Bool) (f : ℕ → ℕ) (e : (x : ℕ) → x < N → So (low x) → f x ≡ count x low) where
+  pub picked-numbers : (n : ℕ) → n ≤ N → map f (picked n (λ x. low x & E x)) ≡ picked (count n low) (λ d. E (nth N low d))
   unfolding picked count bit _&_
   picked-numbers zero h = refl
   picked-numbers (suc n) h = go (low n) refl (picked-numbers n (omega arith))
     where
-      last : So (low n) → (b : Bool) → map f (cond b (n ∷ []) []) ≡ map g (cond b (count n low ∷ []) [])
-      last t true = ap (λ (x : ℕ × ℕ). x ∷ []) (e n h t)
+      last : So (low n) → (b : Bool) → map f (cond b (n ∷ []) []) ≡ cond b (count n low ∷ []) []
+      last t true = ap (λ (x : ℕ). x ∷ []) (e n h t)
       last t false = refl
 
-      go : (b : Bool) → low n ≡ b → map f (picked n (λ x. low x & E x)) ≡ map g (picked (count n low) (λ d. E (nth N low d)))
-          → map f (picked n (λ x. low x & E x) ++ cond (b & E n) (n ∷ []) []) ≡ map g (picked (count n low + bit b) (λ d. E (nth N low d)))
+      go : (b : Bool) → low n ≡ b → map f (picked n (λ x. low x & E x)) ≡ picked (count n low) (λ d. E (nth N low d))
+          → map f (picked n (λ x. low x & E x) ++ cond (b & E n) (n ∷ []) []) ≡ picked (count n low + bit b) (λ d. E (nth N low d))
       go true t ih =
           map-append f (picked n (λ x. low x & E x)) _
-          ∙ ap₂ _++_ ih (last t (E n) ∙ ap (λ b. map g (cond b (count n low ∷ []) [])) (ap E (sym (nth-count N low n h t))))
-          ∙ sym (ap (map g) (picked-more (λ d. E (nth N low d)) (count n low)) ∙ map-append g (picked (count n low) (λ d. E (nth N low d))) _)
+          ∙ ap₂ _++_ ih (last t (E n) ∙ ap (λ b. cond b (count n low ∷ []) []) (ap E (sym (nth-count N low n h t))))
+          ∙ sym (picked-more (λ d. E (nth N low d)) (count n low))
       go false t ih = rw (append-nil (picked n (λ x. low x & E x)), add-zero (count n low)) ih
 
 -- the pairs of row c stand behind those of the rows before it
@@ -85,3 +86,26 @@ module _ (k : ℕ) (r : ℕ → ℕ → Bool) (c : ℕ) where
 
   pub pairs-row : pairsBelow k r ((c + 1) * k) ≡ pairsBelow k r (c * k) ++ map (edgeTo c) (picked k (r c))
   pairs-row = rw (add-one c, suc-mul c k) (pairs-part k (le-refl k))
+
+-- ---- their sources and their targets
+
+pub row-sources : (c : ℕ) (xs : List ℕ) → sourcesOf (map (edgeTo c) xs) ≡ tabulate (length xs) (λ i. c)
+unfolding tabulate
+row-sources c [] = refl
+row-sources c (x ∷ xs) = ap (λ (l : List ℕ). c ∷ l) (row-sources c xs)
+
+row-targets : (c : ℕ) (xs : List ℕ) → targetsOf (map (edgeTo c) xs) ≡ xs
+row-targets c [] = refl
+row-targets c (x ∷ xs) = ap (λ (l : List ℕ). x ∷ l) (row-targets c xs)
+
+module _ (k : ℕ) (r : ℕ → ℕ → Bool) (c : ℕ) where
+  pub sources-row : sourcesOf (pairsBelow k r ((c + 1) * k)) ≡ sourcesOf (pairsBelow k r (c * k)) ++ tabulate (length (picked k (r c))) (λ i. c)
+  sources-row = ap sourcesOf (pairs-row k r c) ∙ map-append _ (pairsBelow k r (c * k)) _ ∙ ap (λ (l : List ℕ). sourcesOf (pairsBelow k r (c * k)) ++ l) (row-sources c (picked k (r c)))
+
+  pub targets-row : targetsOf (pairsBelow k r ((c + 1) * k)) ≡ targetsOf (pairsBelow k r (c * k)) ++ picked k (r c)
+  targets-row = ap targetsOf (pairs-row k r c) ∙ map-append _ (pairsBelow k r (c * k)) _ ∙ ap (λ (l : List ℕ). targetsOf (pairsBelow k r (c * k)) ++ l) (row-targets c (picked k (r c)))
+
+  pub row-size : length (pairsBelow k r ((c + 1) * k)) ≡ length (pairsBelow k r (c * k)) + length (picked k (r c))
+  row-size =
+      let p = ap length (pairs-row k r c) in
+      omega (arith, p, length-append (pairsBelow k r (c * k)) (map (edgeTo c) (picked k (r c))), length-map (picked k (r c)) (edgeTo c))

@@ -3,7 +3,8 @@
 use crate::baseline::EDGES;
 use crate::calls::Given;
 use generator::{
-    largest_plan, lift, random, round_of_loops, round_ring, solve, trace_words, Lcg, Plan, Table,
+    falling_steps, largest_plan, lift, nested_loops, one_step, random, rising_steps,
+    round_of_loops, round_ring, solve, sources_into_core, stairs, trace_words, Lcg, Plan, Table,
 };
 use raskjomi::Game;
 
@@ -48,22 +49,24 @@ const POSITIONS: [usize; 3] = [256, 1024, 4096];
 const ENTRIES: [usize; 3] = [16, 256, 4096];
 
 pub const FAMILIES: [Family; 28] = [
-    family(Call::AcceptPlan, "one wrong priority", POSITIONS, |p| stairs(p, one(p), false)),
+    family(Call::AcceptPlan, "one wrong priority", POSITIONS, |p| steps(p, one_step, false)),
     family(Call::AcceptPlan, "the same, refused at the last", POSITIONS, |p| {
-        stairs(p, one(p), true)
+        steps(p, one_step, true)
     }),
-    family(Call::AcceptPlan, "wrong priorities ascend", POSITIONS, |p| stairs(p, rising(p), false)),
+    family(Call::AcceptPlan, "wrong priorities ascend", POSITIONS, |p| {
+        steps(p, rising_steps, false)
+    }),
     family(Call::AcceptPlan, "the same, refused at the last", POSITIONS, |p| {
-        stairs(p, rising(p), true)
+        steps(p, rising_steps, true)
     }),
     family(Call::AcceptPlan, "wrong priorities descend", POSITIONS, |p| {
-        stairs(p, falling(p), false)
+        steps(p, falling_steps, false)
     }),
     family(Call::AcceptPlan, "the same, refused at the last", POSITIONS, |p| {
-        stairs(p, falling(p), true)
+        steps(p, falling_steps, true)
     }),
-    family(Call::AcceptPlan, "sources into a core", POSITIONS, sources_into_core),
-    family(Call::AcceptPlan, "nested loops", [256, 1024, 4000], nested_loops),
+    family(Call::AcceptPlan, "sources into a core", POSITIONS, |p| of(sources_into_core(p))),
+    family(Call::AcceptPlan, "nested loops", [256, 1024, 4000], |p| of(nested_loops(p, 0))),
     family(Call::AcceptPlan, "nearly all wrong, random links", [16, 128, 512], largest),
     family(Call::AcceptPlan, "positional, random", [8, 64, 512], |n| positional(random_game(n))),
     family(Call::AcceptPlan, "positional, lift", [8, 64, 512], |n| positional(lift(n))),
@@ -81,7 +84,7 @@ pub const FAMILIES: [Family; 28] = [
     family(Call::Replay, "1,024 edges", ENTRIES, |entries| mixed(128, 1024, entries)),
     family(Call::Replay, "4,096 edges", ENTRIES, |entries| mixed(512, 4096, entries)),
     family(Call::Verdict, "one class, 8 n loops", [8, 64, 512], |n| carried_loops(n, 8 * n * n)),
-    family(Call::Verdict, "one wrong priority", POSITIONS, |p| stairs(p, one(p), false)),
+    family(Call::Verdict, "one wrong priority", POSITIONS, |p| steps(p, one_step, false)),
     family(Call::Verdict, "positional, random", [8, 64, 512], |n| of_reduced(random_game(n))),
     family(Call::Verdict, "positional, lift", [8, 64, 512], |n| of_reduced(lift(n))),
 ];
@@ -98,80 +101,21 @@ impl Case {
     }
 }
 
-/// One wrong priority; or one for each eight of p positions, ascending, or descending.
-fn one(_: usize) -> Vec<u16> {
-    vec![1]
-}
-
-fn rising(p: usize) -> Vec<u16> {
-    (0..p as u16 / 8 - 1).map(|step| 2 * step + 1).collect()
-}
-
-fn falling(p: usize) -> Vec<u16> {
-    rising(p).into_iter().rev().collect()
-}
-
-/// A plan of p positions whose links lead on to the next four. The steps have these priorities, and as many positions each.
-/// The last position has a loop, and priority 0, or else the last step's, which is wrong.
-fn stairs(p: usize, steps: Vec<u16>, refused: bool) -> Case {
-    let (count, last) = (steps.len() as u16, p as u16 - 1);
-    let mut game = Table { priorities: steps, owners: vec![0; count as usize + 1], edges: vec![] };
-    game.priorities.push(0);
-    for step in 0..count {
-        game.edges.extend([(step, step), (step, step + 1)]);
-    }
-    game.edges.push((count, count));
-    let step = |i: usize| (i * count as usize / (p - 1)) as u16;
-    let mut plan = Plan { vertices: (0..p).map(step).collect(), links: vec![(last, last)] };
-    plan.vertices[p - 1] -= refused as u16;
-    plan.links.extend((0..last).flat_map(|i| (1..=4).map(move |k| (i, last.min(i + k)))));
+/// The plan whose steps have these priorities, accepted or refused at the last position.
+fn steps(p: usize, priorities: fn(usize) -> Vec<u16>, refused: bool) -> Case {
+    let (game, plan) = stairs(p, priorities(p), refused);
     let refusal = if refused { (16, p - 1) } else { (0, 0) };
     Case { refusal, ..Case::even(&game, &plan) }
 }
 
-/// A plan of p positions, of which the first half have a link each, one wrong priority for each eight of p in turn, and
-/// the others seven links among themselves and a higher, right one.
-fn sources_into_core(p: usize) -> Case {
-    let (mut lcg, mut priorities) = (Lcg::new(p as u64), rising(p));
-    let (core, half) = (priorities.len() as u16, p / 2);
-    priorities.push(2 * core);
-    let edges = (0..=core).map(|v| (v, core)).collect();
-    let game = Table { priorities, owners: vec![0; core as usize + 1], edges };
-    let vertex = |i: usize| if i < half { i as u16 % core } else { core };
-    let links = |i: usize| if i < half { 1 } else { 7 };
-    let mut plan = Plan { vertices: (0..p).map(vertex).collect(), links: vec![] };
-    for i in 0..p {
-        let to = |_| (i as u16, (half + lcg.below(p - half)) as u16);
-        plan.links.extend((0..links(i)).map(to));
-    }
-    Case::even(&game, &plan)
-}
-
-/// A loop for each 16 of p positions: the first has a right priority, the others the next, which is wrong, and links to the
-/// next and the first. The first leads into the next loop as well, and the last back to the loop before.
-fn nested_loops(p: usize) -> Case {
-    let loops = p as u16 / 16;
-    let mut game = Table { priorities: (0..2 * loops).collect(), owners: vec![], edges: vec![] };
-    game.owners = vec![0; game.n()];
-    let vertices = (0..16 * loops).map(|i| i / 16 * 2 + (i % 16 > 0) as u16).collect();
-    let mut plan = Plan { vertices, links: vec![] };
-    for inner in 0..loops {
-        let (first, right, wrong) = (16 * inner, 2 * inner, 2 * inner + 1);
-        game.edges.extend([(right, wrong), (wrong, wrong), (wrong, right)]);
-        plan.links.extend((first..first + 15).map(|i| (i, i + 1)));
-        plan.links.extend((first + 1..first + 16).map(|i| (i, first)));
-        if inner > 0 {
-            game.edges.extend([(right - 2, right), (wrong, right - 2)]);
-            plan.links.extend([(first - 16, first), (first + 15, first - 16)]);
-        }
-    }
+/// Even's accepted plan.
+fn of((game, plan): (Table, Plan)) -> Case {
     Case::even(&game, &plan)
 }
 
 /// The largest plan on a game of n vertices.
 fn largest(n: usize) -> Case {
-    let (game, plan) = largest_plan(&mut Lcg::new(n as u64), n);
-    Case::even(&game, &plan)
+    of(largest_plan(&mut Lcg::new(n as u64), n))
 }
 
 /// A random game of n vertices with two edges out of each on average.

@@ -24,6 +24,7 @@ mod seeds;
 mod small;
 mod solver;
 mod table;
+mod walks;
 
 pub use carries::{
     branching, crowded, opponents, round_complete, round_of_loops, round_plan, round_ring,
@@ -48,7 +49,7 @@ pub use large_solver::{solve_large, LargeSolved};
 pub use large_words::{certificate_of, some_order, LargeWords, LARGE_REFUSALS};
 pub use lcg::Lcg;
 pub use lift::lift;
-pub use plans::{largest_plan, plans_at_limits, strategy_plan, unfolded, Plan};
+pub use plans::{largest_plan, plans_at_limits, renumbered, strategy_plan, unfolded, Plan};
 pub use relations::{relation, set_unused_bits};
 pub use repeats::{repeated, same_game};
 pub use sample::{any_game, bent_plan, old_bytes, old_words};
@@ -56,3 +57,4 @@ pub use seeds::{seed_numbers, SEED_LIMITS};
 pub use small::small_games;
 pub use solver::{solve, Solution};
 pub use table::Table;
+pub use walks::{falling_steps, nested_loops, one_step, rising_steps, sources_into_core, stairs};

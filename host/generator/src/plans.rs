@@ -60,6 +60,21 @@ pub fn unfolded(lcg: &mut Lcg, plan: &Plan, count: usize) -> Plan {
     Plan { vertices: plan.vertices.repeat(count), links }
 }
 
+/// The same plan with other position numbers and another sequence of links.
+pub fn renumbered(lcg: &mut Lcg, plan: &Plan) -> Plan {
+    let mut number: Vec<u16> = (0..plan.vertices.len() as u16).collect();
+    lcg.shuffle(&mut number);
+    let mut renumbered = plan.clone();
+    for (&place, &vertex) in number.iter().zip(&plan.vertices) {
+        renumbered.vertices[place as usize] = vertex;
+    }
+    for link in &mut renumbered.links {
+        *link = (number[link.0 as usize], number[link.1 as usize]);
+    }
+    lcg.shuffle(&mut renumbered.links);
+    renumbered
+}
+
 /// A game of n vertices, all Odd's, and Even's plan of 4,096 positions and 16,384 links for it. n divides
 /// 4,096. All positions but a few have the wrong parity and none lies on a bad walk.
 pub fn largest_plan(lcg: &mut Lcg, n: usize) -> (Table, Plan) {

@@ -31,4 +31,5 @@ mod tables;
 mod threads;
 mod traps;
 mod verdicts;
+mod walks;
 mod winners;

@@ -55,7 +55,7 @@ enum-known-written c = search needs
 
 carry-reduced-requires : tie.Need-carry-reduced-requires
 carry-reduced-requires c κs =
-    let k = c .before .before .before .before in
+    let k : tie.After-written = search in
     class-held (table (wrote (k .before .before))) _ (ap tabulationAnswer (k .written .given .1))
 
 enum-known-written-2 : tie.Need-enum-known-written-2
@@ -79,7 +79,7 @@ same-length-5 c = search needs
 returns-2 : tie.Need-returns-2
 returns-2 c =
     let r = c .before .before in
-    let k = r .before .before .before .before .before in
+    let k : tie.After-written = search in
     class-arrived _ _ _ _ _ _ _ _ _ (table (wrote (k .before .before))) _ (ap tabulationAnswer (k .written .given .1)) _ _ (r .carry-reduced .ensures)
 
 same-length-6 : tie.Need-same-length-6

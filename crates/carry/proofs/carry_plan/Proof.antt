@@ -99,9 +99,12 @@ fill-order-requires c κs =
     let f = fits (c .before .before .before .before .before) in
     (f .game, (f .marksFit, f .spareFit))
 
+slice-aggregate-carry-to : tie.Need-slice-aggregate-carry-to
+slice-aggregate-carry-to c = search needs
+
 carry-to-requires : tie.Need-carry-to-requires
 carry-to-requires c κs =
-    let f = c .before .before .before .before .before .before in
+    let f = c .before .before .before .before .before .before .before in
     let t = f .before .before .before in
     let o = fits (t .before .before .before) in
     own-can _ _ _ (o .game) (ordered-done (o .marksFit) (f .fill-order .ensures)) (passed t)
@@ -118,7 +121,7 @@ same-length-3 c = search needs
 returns-5 : tie.Need-returns-5
 returns-5 c =
     let r = c .before .before in
-    let f = r .before .before .before .before .before .before .before in
+    let f = r .before .before .before .before .before .before .before .before in
     let t = f .before .before .before in
     carry-arrived _ _ _ _ _ _ _ (fits (t .before .before .before)) (passed t) _ _ _ (f .fill-order .ensures) _ _ (r .carry-to .ensures)
 
@@ -139,6 +142,7 @@ carry-plan-spec =
     returns-4
     enum-told-2
     fill-order-requires
+    slice-aggregate-carry-to
     carry-to-requires
     same-length
     same-length-2

@@ -64,7 +64,7 @@ carry-to-requires : tie.Need-carry-to-requires
 carry-to-requires c κs =
     let t = c .before in
     let s = start (t .before .before) in
-    class-can _ _ _ (s .pre .well) (s .pre .ordered) (passed t)
+    class-can _ _ _ (s .pre .well) (s .pre .ordered) (s .pre .classed) (passed t)
 
 enum-known-carried : tie.Need-enum-known-carried
 enum-known-carried c = search needs

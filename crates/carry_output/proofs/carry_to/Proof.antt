@@ -21,7 +21,7 @@ seated : (c : tie.After-seat-positions)
     → let a = start c .args in Seated (a .game .now) (a .player) (a .plan .now) (c .seat-positions .last .1 .1 .1 .1 .0) (a .marks .now)
 seated c =
     let s = start c in
-    seats-seated (s .pre .0) (s .pre .1) _ (c .seat-positions .ensures)
+    seats-seated (s .pre .0) (s .pre .1) (s .pre .2) _ (c .seat-positions .ensures)
     (omega (arith, c .seat-positions .kept .1 .1 .1 .1 .0, length-replicate {A = ℕ} 4096 0, s .pre .0 .formed .sized .positions))
 
 -- the seat of the start
@@ -40,7 +40,7 @@ told c =
     let s = start p in
     let z = seated p in
     c .no-better .ensures
-    ∙ needed-is (s .args .game .now) (s .args .player) (s .args .marks .now) (s .pre .0 .ordered) _ _ (z .inside 0 (s .pre .0 .formed .sized .some)) (p .before .before .if1 .left)
+    ∙ needed-is (s .args .game .now) (s .args .player) (s .args .marks .now) (s .pre .1) _ _ (z .inside 0 (s .pre .0 .formed .sized .some)) (p .before .before .if1 .left)
 
 shared-slice-read-n : tie.Need-shared-slice-read-n
 shared-slice-read-n c = search needs
@@ -71,7 +71,7 @@ unfolding gameOf
 no-better-requires c κs =
     let p = c .before in
     let s = start p in
-    (seated p .inside 0 (s .pre .0 .formed .sized .some), p .before .before .if1 .left, s .pre .0 .well .vertices, s .pre .0 .ordered .long)
+    (seated p .inside 0 (s .pre .0 .formed .sized .some), p .before .before .if1 .left, s .pre .0 .well .vertices, s .pre .1 .long)
 
 returns-2 : tie.Need-returns-2
 returns-2 c =

@@ -1,151 +1,29 @@
--- The pairs are gathered and linked, and the run over them is settled.
-use mathlib.Core.Path.{_≡_, refl, sym, _∙_}
-use Prim.Native.Nat.{ℕ, _+_, _*_, _≤_}
+-- Whether an entry has an end outside is told apart, and the run is the same.
+use mathlib.Core.Path.{sym}
+use borrow.Author.Tests.{lt-ltb, le-ltb}
 use native.Mathlib.Omega.{arith}
-use lib.ListN.{length, length-replicate}
-use Rattle.theory.specs.logic.ListLaws.{zeros}
-use Rattle.theory.specs.logic.RangeLaws.{first-le}
-use Rattle.table.specs.Limits.{vertexLimit, edgeLimit}
-use Rattle.edit_links.specs.Links.{Pairs}
-use Rattle.edit_rules.specs.EditPartsLaws.{formed-room}
-use Rattle.edit_trace.specs.Trace.{entryCount}
 use Rattle.edit_trace.specs.TraceLaws.{trace-length, trace-few}
-use Rattle.edit_run.specs.Gathered.{outside}
-use Rattle.edit_run.specs.SettledLaws.{gathered-pairs}
 use borrow.Author.Needs.{needs}
 use Rattle.edit_run.proofs.run_entries.Statement.{statement}
 use Rattle.edit_run.proofs.run_entries.Tie as tie
 
-abbrev start : tie.After-find-outside → tie.Start
-start c = search
-
-abbrev found-at : tie.After-gather-pairs → tie.After-find-outside
-found-at c = search
-
-abbrev gathered-at : tie.After-link-all → tie.After-gather-pairs
-gathered-at c = search
-
--- the trace is as long as its count tells
-size : (s : tie.Start) → length (s .args .trace .now) ≡ 1 + 2 * entryCount (s .args .trace .now)
-size s = trace-length (s .args .trace .now) (s .pre .1)
-
-few : (s : tie.Start) → entryCount (s .args .trace .now) ≤ 4096
-few s = trace-few (s .args .trace .now) (s .pre .1)
-
--- no more entries than there are
-high : (c : tie.After-find-outside) → c .find-outside .result ≤ entryCount (start c .args .trace .now)
-high c =
-    let a = start c .args in
-    omega (arith, c .find-outside .ensures, first-le (outside (a .trace .now) (a .n)) 0 (entryCount (a .trace .now)) (omega arith))
-
--- no more edges and vertices than there may be
-small : (s : tie.Start) → (s .args .n ≤ vertexLimit) × (s .args .m ≤ edgeLimit)
-small s = let f = s .pre .0 in (omega (arith, f .vertices, f .well .vertices), omega (arith, f .edges, f .well .edges))
-
--- the pairs that are gathered
-pairs : (c : tie.After-gather-pairs)
-    → let a = start (found-at c) .args in
-    Pairs (c .gather-pairs .last .1 .1 .1 .1 .1 .0) (c .gather-pairs .last .1 .1 .1 .1 .1 .1 .0) (a .m + found-at c .find-outside .result) (a .n)
-pairs c =
-    let x = found-at c in
-    let s = start x in
-    let r = length-replicate {A = ℕ} 8192 0 in
-    gathered-pairs (s .pre .0) (omega (arith, high x, few s)) (x .find-outside .ensures) (c .gather-pairs .ensures)
-    (omega (arith, r, c .gather-pairs .kept, high x, few s, small s)) (omega (arith, r, c .gather-pairs .kept, high x, few s, small s))
-
 find-outside-requires : tie.Need-find-outside-requires
 find-outside-requires c κs = search needs
 
-slice-aggregate-gather-pairs : tie.Need-slice-aggregate-gather-pairs
-slice-aggregate-gather-pairs c = search needs
+shared-slice-read-count : tie.Need-shared-slice-read-count
+shared-slice-read-count c =
+    let s : tie.Start = search in
+    omega (arith, trace-length (s .args .trace .now) (s .pre .1))
 
-slice-aggregate-gather-pairs-2 : tie.Need-slice-aggregate-gather-pairs-2
-slice-aggregate-gather-pairs-2 c = search needs
+cast-count : tie.Need-cast-count
+cast-count c = let s : tie.Start = search in omega (arith, trace-few (s .args .trace .now) (s .pre .1))
 
-gather-pairs-requires : tie.Need-gather-pairs-requires
-gather-pairs-requires c κs =
+run-first-requires : tie.Need-run-first-requires
+run-first-requires c κs =
+    let s : tie.Start = search in
     let x : tie.After-find-outside = search in
-    let s = start x in
-    let r = length-replicate {A = ℕ} 8192 0 in (
-      (s .pre .0, formed-room (s .args .buffer .now) (s .args .n) (s .args .m) (s .pre .0), high x),
-      (
-        (size s, few s, small s .0, small s .1),
-        (omega (arith, r, high x, few s, small s), omega (arith, r, high x, few s, small s)),
-      ),
-    )
-
-slice-aggregate-link-all : tie.Need-slice-aggregate-link-all
-slice-aggregate-link-all c = search needs
-
-slice-aggregate-link-all-2 : tie.Need-slice-aggregate-link-all-2
-slice-aggregate-link-all-2 c = search needs
-
-add-link-all : tie.Need-add-link-all
-add-link-all c =
-    let x : tie.After-find-outside = search in
-    omega (arith, high x, few (start x), small (start x))
-
-slice-aggregate-link-all-3 : tie.Need-slice-aggregate-link-all-3
-slice-aggregate-link-all-3 c = search needs
-
-slice-aggregate-link-all-4 : tie.Need-slice-aggregate-link-all-4
-slice-aggregate-link-all-4 c = search needs
-
-slice-aggregate-link-all-5 : tie.Need-slice-aggregate-link-all-5
-slice-aggregate-link-all-5 c = search needs
-
-link-all-requires : tie.Need-link-all-requires
-link-all-requires c κs =
-    let y : tie.After-gather-pairs = search in
-    let x = found-at y in
-    let s = start x in
-    let r = length-replicate {A = ℕ} 8192 0 in
-    let q = length-replicate {A = ℕ} 8193 0 in
-    let u = length-replicate {A = ℕ} 512 0 in (
-      (pairs y, omega arith, small s .1, small s .0),
-      (
-        (omega (arith, r, high x, few s, small s), omega (arith, q, high x, few s, small s), omega (arith, u, small s)),
-        (zeros 8193, zeros 512),
-      ),
-    )
-
-slice-aggregate-settle : tie.Need-slice-aggregate-settle
-slice-aggregate-settle c = search needs
-
-slice-aggregate-settle-2 : tie.Need-slice-aggregate-settle-2
-slice-aggregate-settle-2 c = search needs
-
-slice-aggregate-settle-3 : tie.Need-slice-aggregate-settle-3
-slice-aggregate-settle-3 c = search needs
-
-slice-aggregate-settle-4 : tie.Need-slice-aggregate-settle-4
-slice-aggregate-settle-4 c = search needs
-
-slice-aggregate-settle-5 : tie.Need-slice-aggregate-settle-5
-slice-aggregate-settle-5 c = search needs
-
-settle-requires : tie.Need-settle-requires
-settle-requires c κs =
-    let z : tie.After-link-all = search in
-    let y = gathered-at z in
-    let x = found-at y in
-    let s = start x in
-    let r = length-replicate {A = ℕ} 8192 0 in
-    let q = length-replicate {A = ℕ} 8193 0 in
-    let u = length-replicate {A = ℕ} 512 0 in (
-      (s .pre .0, x .find-outside .ensures),
-      (
-        (size s, y .gather-pairs .ensures),
-        (
-          (pairs y, z .link-all .ensures),
-          (
-            omega (arith, r, z .link-all .kept, high x, few s, small s),
-            omega (arith, q, z .link-all .kept, high x, few s, small s),
-            omega (arith, u, z .link-all .kept, small s),
-          ),
-        ),
-      ),
-    )
+    let i : tie.Then1 = search in
+    (s .pre, (x .find-outside .ensures, sym (lt-ltb _ _ (i .if1 .taken))))
 
 same-length : tie.Need-same-length
 same-length c = search needs
@@ -153,26 +31,29 @@ same-length c = search needs
 returns : tie.Need-returns
 returns c = search needs
 
+run-first-requires-2 : tie.Need-run-first-requires-2
+run-first-requires-2 c κs =
+    let s : tie.Start = search in
+    let x : tie.After-find-outside = search in
+    let i : tie.Else1 = search in
+    (s .pre, (x .find-outside .ensures, sym (le-ltb _ _ (i .if1 .left))))
+
+same-length-2 : tie.Need-same-length-2
+same-length-2 c = search needs
+
+returns-2 : tie.Need-returns-2
+returns-2 c = search needs
+
 pub run-entries-spec : {M : Type 1} → statement M
 run-entries-spec =
     tie.close
     (tie.spec
     find-outside-requires
-    slice-aggregate-gather-pairs
-    slice-aggregate-gather-pairs-2
-    gather-pairs-requires
-    slice-aggregate-link-all
-    slice-aggregate-link-all-2
-    add-link-all
-    slice-aggregate-link-all-3
-    slice-aggregate-link-all-4
-    slice-aggregate-link-all-5
-    link-all-requires
-    slice-aggregate-settle
-    slice-aggregate-settle-2
-    slice-aggregate-settle-3
-    slice-aggregate-settle-4
-    slice-aggregate-settle-5
-    settle-requires
+    shared-slice-read-count
+    cast-count
+    run-first-requires
     same-length
-    returns)
+    returns
+    run-first-requires-2
+    same-length-2
+    returns-2)

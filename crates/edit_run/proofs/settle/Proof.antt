@@ -98,7 +98,8 @@ judge-rest-requires : tie.Need-judge-rest-requires
 judge-rest-requires c κs =
     let z : tie.After-put-edges = search in
     let y = keep-at z in
-    (start (run-at y) .pre .1 .0 .0, few y .1, few y .2)
+    let p = start (run-at y) .pre in
+    (p .1 .0 .0, few y .1, few y .2, p .0 .2)
 
 same-length : tie.Need-same-length
 same-length c = search needs

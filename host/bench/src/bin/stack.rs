@@ -8,7 +8,7 @@ use std::os::unix::process::ExitStatusExt;
 use std::process::{Command, ExitStatus, Stdio};
 use std::thread;
 
-const CALLS: [&str; 25] = [
+const CALLS: [&str; 28] = [
     "no call",
     "kind",
     "read",
@@ -34,6 +34,9 @@ const CALLS: [&str; 25] = [
     "large_read",
     "large_solution",
     "large_reduction",
+    "order of 64",
+    "classes of 64",
+    "reduce of 64",
 ];
 
 /// One vertex with a loop. The calls on large games have no arrays, so their stack doesn't go by the sizes.
@@ -44,10 +47,11 @@ const PAGE: usize = 4;
 const LEAST: usize = 16;
 const DEFAULT: usize = 2048;
 
-/// A call on a game of 512 vertices and 4,096 edges; its answer's number.
+/// A call on a game of 512 vertices and 4,096 edges, or of 64 and 512; its answer's number.
 fn call(name: &str) -> impl FnOnce() -> u32 + Send + 'static {
     let name = name.to_string();
     let game = random(&mut Lcg::new(1), 512, 4096, 2).words();
+    let small = random(&mut Lcg::new(1), 64, 512, 2).words();
     let bytes = raskjomi::mark_bytes(512);
     let (mut marks, mut spare) = (vec![0; bytes], vec![0; bytes]);
     let (mut classes, mut output) = (vec![0; 512], vec![0; game.len()]);
@@ -100,6 +104,9 @@ fn call(name: &str) -> impl FnOnce() -> u32 + Send + 'static {
             "large_read" => exports::large_read(&LOOP),
             "large_solution" => exports::large_solution(&LOOP, &[0; 2], &[0; 3]),
             "large_reduction" => exports::large_reduction(&LOOP, &LOOP, &[0], &[0; 4]),
+            "order of 64" => exports::order(&small, m, s),
+            "classes of 64" => exports::classes(&small, m, s, c),
+            "reduce of 64" => exports::reduce(&small, m, s, c, o),
             _ => exports::reduce(&game, m, s, c, o),
         };
         answer.number

@@ -12,7 +12,7 @@ use Rattle.carry_output.proofs.seats.seat_positions.Tie as tie
 seat-classes-requires : tie.Need-seat-classes-requires
 seat-classes-requires c κs =
     let s = c .before .before .before .before .before .before in
-    (subst (λ (b : Bool). Carriable b (s .args .game .now) (s .args .plan .now) (s .args .marks .now)) (c .before .if1 .taken) (s .pre .0), s .pre .1)
+    (subst (λ (b : Bool). Carriable b (s .args .game .now) (s .args .plan .now) (s .args .classes .now)) (c .before .if1 .taken) (s .pre .0), s .pre .1)
 
 same-length : tie.Need-same-length
 same-length c = search needs

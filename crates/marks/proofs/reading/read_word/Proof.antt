@@ -1,5 +1,4 @@
 -- Eight bytes are as many marks as a word has bits; of fewer, the rest lies beyond the buffer, where nothing is marked.
-use native.Mathlib.Omega.{arith}
 use Rattle.marks.specs.MarkReadingLaws.{read-all}
 use borrow.Author.Needs.{needs}
 use Rattle.marks.proofs.reading.read_word.Statement.{statement}

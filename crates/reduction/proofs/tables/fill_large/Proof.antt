@@ -1,4 +1,4 @@
--- The arrays hold the representatives, the rows and the edges of any well-formed game.
+-- The arrays hold the representatives, the rows and the places of any well-formed game.
 use Prim.Native.Nat.{_≤_}
 use native.Mathlib.Nat.{mul-le-mul}
 use native.Mathlib.Omega.{arith}
@@ -18,14 +18,11 @@ slice-aggregate-fill-within-2 c = search needs
 slice-aggregate-fill-within-3 : tie.Need-slice-aggregate-fill-within-3
 slice-aggregate-fill-within-3 c = search needs
 
-slice-aggregate-fill-within-4 : tie.Need-slice-aggregate-fill-within-4
-slice-aggregate-fill-within-4 c = search needs
-
 fill-within-requires : tie.Need-fill-within-requires
 fill-within-requires c κs = let s : tie.Start = search in
     let n = s .pre .0 .0 .vertices in
     let w : wordsFor (vertexCount (s .args .game .now)) ≤ 8 = omega (arith, n) in
-    (s .pre .0, (s .pre .1, record { vertices-fit = n; rows-fit = mul-le-mul n w; zeros = zeros 4096; sources-fit = s .pre .0 .0 .edges; ends-fit = s .pre .0 .0 .edges }))
+    (s .pre .0, (s .pre .1, record { vertices-fit = n; rows-fit = mul-le-mul n w; zeros = zeros 4096; stops-fit = n }))
 
 same-length : tie.Need-same-length
 same-length c = search needs
@@ -43,7 +40,6 @@ fill-large-spec =
     slice-aggregate-fill-within
     slice-aggregate-fill-within-2
     slice-aggregate-fill-within-3
-    slice-aggregate-fill-within-4
     fill-within-requires
     same-length
     same-length-2

@@ -10,10 +10,9 @@ use Rattle.theory.specs.classes.Reduction.{representative}
 use Rattle.theory.specs.classes.QuotientLaws.{rep-lt}
 use Rattle.table.specs.Table.{vertexCount, gameOf}
 use Rattle.classes.specs.Numbering.{classesIn}
-use Rattle.classes.specs.OrderedMarksLaws.{classes-few}
 use Rattle.reduction_rows.specs.ReachedLaws.{row-inside}
 use Rattle.reduction_edges.specs.LittleBrothers.{RowFits}
-use Rattle.reduction_edges.specs.Rows.{keeps, picked, edgeTo, edgeOf, gameBy}
+use Rattle.reduction_edges.specs.Rows.{keeps, picked, numberOf, gameBy}
 use Rattle.reduction_edges.specs.ListingLaws.{row-length, class-row, class-size}
 use borrow.Author.Needs.{needs}
 use Rattle.reduction_edges.proofs.listing.append_class.Statement.{statement}
@@ -89,8 +88,7 @@ dropped-at c = c .drop-row .last .1 .1 .1 .1 .1 .0
 -- what is kept are the edges of the class
 edges : (c : tie.After-drop-row) → let s = start c in
     let G = gameOf (s .args .game .now) in
-    map (edgeOf (s .args .classes .now) (s .args .c)) (picked (G .n) (keeps (row-of s) (dropped-at c)))
-    ≡ map (edgeTo (s .args .c)) (picked (classesIn G) (gameBy (s .args .drop) G .edge (s .args .c)))
+    map (numberOf (s .args .classes .now)) (picked (G .n) (keeps (row-of s) (dropped-at c))) ≡ picked (classesIn G) (gameBy (s .args .drop) G .edge (s .args .c))
 unfolding gameOf
 edges c = let s = start c in
     class-row (s .pre .0 .0) _ (s .pre .0 .1) _ (low s) _ _ (s .pre .1 .0 .0) (s .pre .1 .0 .1) _ _ (c .drop-row .ensures)
@@ -117,21 +115,15 @@ part-append-row-end c = let s : tie.Start = search in omega (arith, inside s)
 slice-aggregate-append-row : tie.Need-slice-aggregate-append-row
 slice-aggregate-append-row c = search needs
 
-cast-append-row : tie.Need-cast-append-row
-cast-append-row c = let s : tie.Start = search in omega (arith, s .pre .0 .1, classes-few (s .args .game .now) (s .pre .0 .0 .grouped .well))
-
 append-row-requires : tie.Need-append-row-requires
 unfolding gameOf
 append-row-requires c κs = let d : tie.After-drop-row = search in
     let s = start d in
     let g = s .pre .0 .0 in
-    ((g .grouped .well .vertices, g .grouped .classed .long, fits s, omega (arith, d .drop-row .kept, g .grouped .well .vertices)), (omega (arith, size d, s .pre .1 .1 .0), omega (arith, size d, s .pre .1 .1 .1)))
+    ((g .grouped .well .vertices, g .grouped .classed .long, fits s, omega (arith, d .drop-row .kept, g .grouped .well .vertices)), omega (arith, size d, s .pre .1 .1))
 
 same-length : tie.Need-same-length
 same-length c = search needs
-
-same-length-2 : tie.Need-same-length-2
-same-length-2 c = search needs
 
 returns : tie.Need-returns
 unfolding gameOf
@@ -161,8 +153,6 @@ append-class-spec =
     part-append-row-start
     part-append-row-end
     slice-aggregate-append-row
-    cast-append-row
     append-row-requires
     same-length
-    same-length-2
     returns)

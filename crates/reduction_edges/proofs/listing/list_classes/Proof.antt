@@ -1,36 +1,42 @@
--- Invariant: the edges of the classes before c are listed. They are at most the game's, so each row has room.
-use Rattle.reduction_edges.specs.Rows.{picked, gameBy}
+-- Invariant: the targets of the classes before c are listed. They are at most as many as the game's edges, so each row has room.
+use Rattle.reduction_edges.specs.Rows.{picked, gameBy, Listed}
 use mathlib.Core.Path.{_≡_}
-use Prim.Native.Nat.{_+_, _-_, _*_, _≤_}
+use Prim.Native.Nat.{ℕ, _+_, _-_, _*_, _≤_}
 use native.Mathlib.Omega.{arith}
-use lib.ListN.{length}
-use Rattle.theory.specs.logic.Range.{pairsBelow, pairsOf}
+use lib.ListN.{length, length-map, length-set}
+use Rattle.theory.specs.logic.Range.{pairsBelow}
 use Rattle.table.specs.Table.{gameOf, tableEdges}
-use Rattle.table.specs.Listing.{Appended}
-use Rattle.table.specs.ListingLaws.{appended-join}
-use Rattle.reduction_edges.specs.PickedLaws.{pairs-row}
-use Rattle.reduction_edges.specs.ListingLaws.{rows-none, rows-few}
+use Rattle.reduction_edges.specs.ListingLaws.{rows-none, rows-more, rows-few}
 use borrow.Author.Needs.{needs}
 use Rattle.reduction_edges.proofs.listing.list_classes.Statement.{statement}
 use Rattle.reduction_edges.proofs.listing.list_classes.Tie as tie
 
 abbrev Inv-loop : tie.InvT-loop
-Inv-loop game marks classes reps words width k drop sources₀ ends₀ e₀ c₀ sources ends e c =
-    (c ≤ k) × (length sources ≡ length sources₀) × (length ends ≡ length ends₀) × Appended (pairsBelow k (gameBy drop (gameOf game) .edge) (c * k)) 0 sources₀ sources ends₀ ends e
+Inv-loop game marks classes reps words width k drop stops₀ ends₀ at e₀ c₀ stops ends e c =
+    (c ≤ k) × (length stops ≡ length stops₀) × (length ends ≡ length ends₀) × Listed k (gameBy drop (gameOf game) .edge) at c ends₀ ends stops e
 
 abbrev μ-loop : tie.MeasureT-loop
-μ-loop game marks classes reps words width k drop sources₀ ends₀ e₀ c₀ sources ends e c = k - c
+μ-loop game marks classes reps words width k drop stops₀ ends₀ at e₀ c₀ stops ends e c = k - c
 
 abbrev start : tie.In-loop Inv-loop μ-loop → tie.Start Inv-loop μ-loop
 start c = search
 
 -- this row has room
 room : (c : tie.In-loop Inv-loop μ-loop)
-    → let a = start c .args in c .before .loop .e + length (picked (a .k) (gameBy (a .drop) (gameOf (a .game .now)) .edge (c .before .loop .c))) ≤ tableEdges (a .game .now)
-room c = let s = start c in omega (arith, c .before .loop .inv .3 .count, rows-few (s .args .game .now) (s .args .drop) (s .args .k) (s .pre .0 .1) (c .before .loop .c) (c .loop-test .taken))
+    → let a = start c .args in
+    let E = gameBy (a .drop) (gameOf (a .game .now)) .edge in
+    (c .before .loop .e ≡ a .at + length (pairsBelow (a .k) E (c .before .loop .c * a .k)))
+    × (c .before .loop .e + length (picked (a .k) (E (c .before .loop .c))) ≤ a .at + tableEdges (a .game .now))
+room c =
+    let s = start c in
+    let l = c .before .loop in
+    let E = gameBy (s .args .drop) (gameOf (s .args .game .now)) .edge in
+    let n = length-map (pairsBelow (s .args .k) E (l .c * s .args .k)) (λ (x : ℕ × ℕ). x .1) in
+    let e = l .inv .3 .targets .count in
+    (omega (arith, e, n), omega (arith, e, n, rows-few (s .args .game .now) (s .args .drop) (s .args .k) (s .pre .0 .1) (l .c) (c .loop-test .taken)))
 
 loop-holds : tie.Need-loop-holds Inv-loop μ-loop
-loop-holds c = (search needs, search needs, search needs, rows-none _ _ _ _)
+loop-holds c = (search needs, search needs, search needs, rows-none _ _ _ _ _)
 
 append-class-requires : tie.Need-append-class-requires Inv-loop μ-loop
 append-class-requires c κs =
@@ -38,7 +44,26 @@ append-class-requires c κs =
     let s = start i in
     let l = i .before .loop in
     let k = s .pre .0 .1 in
-    ((s .pre .0 .0, omega (arith, i .loop-test .taken, k)), (s .pre .1 .0, rw (← k) (omega (arith, room i, l .inv .1, s .pre .1 .1), omega (arith, room i, l .inv .2, s .pre .1 .1))))
+    ((s .pre .0 .0, omega (arith, i .loop-test .taken, k)), (s .pre .1 .0, rw (← k) (omega (arith, room i, l .inv .2, s .pre .1 .1))))
+
+-- the place where its targets stop
+stops-at : (a : tie.After-append-class Inv-loop μ-loop) → let i : tie.In-loop Inv-loop μ-loop = search in
+    let s = start i in a .append-class .result ≤ s .args .at + tableEdges (s .args .game .now)
+stops-at a = let i : tie.In-loop Inv-loop μ-loop = search in
+    let s = start i in
+    let p = rw (← s .pre .0 .1) at (a .append-class .ensures) in
+    omega (arith, room i, p .count)
+
+cast-stops : tie.Need-cast-stops Inv-loop μ-loop
+cast-stops c = let a : tie.After-append-class Inv-loop μ-loop = search in
+    let i : tie.In-loop Inv-loop μ-loop = search in
+    omega (arith, stops-at a, start i .pre .1 .1, start i .pre .0 .0 .grouped .well .edges)
+
+mul-stops : tie.Need-mul-stops Inv-loop μ-loop
+mul-stops c = search needs
+
+slice-write-stops : tie.Need-slice-write-stops Inv-loop μ-loop
+slice-write-stops c = search needs
 
 add-c : tie.Need-add-c Inv-loop μ-loop
 add-c c = search needs
@@ -53,10 +78,9 @@ loop-again c =
     let s = start i in
     let l = i .before .loop in (
       search needs,
-      omega (arith, a .append-class .kept, l .inv .1),
+      simp length-set (l .inv .1),
       omega (arith, a .append-class .kept, l .inv .2),
-      rw (pairs-row (s .args .k) (gameBy (s .args .drop) (gameOf (s .args .game .now)) .edge) (l .c))
-          (appended-join _ _ _ _ _ _ _ _ _ _ _ (omega (arith, room i, l .inv .3 .count, s .pre .1 .1)) (omega (arith, room i, l .inv .3 .count, s .pre .1 .1)) (l .inv .3) (rw (← s .pre .0 .1) at (a .append-class .ensures))),
+      rows-more _ _ _ _ _ _ _ _ _ _ (omega (arith, room i, s .pre .1 .1)) (omega (arith, i .loop-test .taken, l .inv .1, s .pre .1 .1)) (l .inv .3) (rw (← s .pre .0 .1) at (a .append-class .ensures)),
     )
 
 same-length : tie.Need-same-length Inv-loop μ-loop
@@ -66,7 +90,6 @@ same-length-2 : tie.Need-same-length-2 Inv-loop μ-loop
 same-length-2 c = search needs
 
 returns : tie.Need-returns Inv-loop μ-loop
-unfolding pairsOf
 returns c = let at-start : tie.Start Inv-loop μ-loop = search in
     let l = c .before .loop in
     let e : l .c ≡ at-start .args .k = omega arith in
@@ -80,6 +103,9 @@ list-classes-spec =
     μ-loop
     loop-holds
     append-class-requires
+    cast-stops
+    mul-stops
+    slice-write-stops
     add-c
     loop-less
     loop-again
