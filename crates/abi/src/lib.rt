@@ -1,5 +1,7 @@
 // The exports for a Rust host: numbers and slices in, one answer by value out. A slice passes as a pointer and a length. Those that carry a plan,
 // are about governed bisimulations, edit a table or give a verdict stand in crates of their own, so that a check of each is short.
+#![tactic(auto)]
+
 ghost use Rattle.std.specs.Prelude.{◌≡◌};
 ghost use Rattle.theory.specs.Classes.Reduction.{quotient, reduced};
 ghost use Rattle.table.specs.Lent.{old, new};

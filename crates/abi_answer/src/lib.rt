@@ -1,4 +1,6 @@
 // The answer of the exports, by value, and what each verdict of the library is in its fields.
+#![tactic(auto)]
+
 ghost use Rattle.std.specs.Prelude.{◌≡◌};
 ghost use Rattle.table.specs.Reading.{reading_answer};
 ghost use Rattle.table.specs.Acceptance.{acceptance_answer};
@@ -23,7 +25,7 @@ use table::{Acceptance, Filling, Reading, Refusal};
 // Number 0 for accepted, with the counts of the call; otherwise the refusal. All other fields are 0, but that a replay tells its entries with a
 // refusal too. `shown` is 1 where the verdict call says "wins".
 #[repr(C)]
-#[derive(Drop)]
+#[derive(Clone, Copy)]
 pub struct RaskjomiAnswer {
     pub number: u32,
     pub passes: u32,

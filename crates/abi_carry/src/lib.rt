@@ -1,4 +1,6 @@
 // The exports that carry a plan to another vertex, in the form of those of `abi`.
+#![tactic(auto)]
+
 ghost use Rattle.table.specs.Lent.{old, new};
 ghost use Rattle.abi_answer.specs.Exports.{CarryExport, CarryClassExport};
 

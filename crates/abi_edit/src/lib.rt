@@ -1,4 +1,6 @@
 // The exports that edit a table, preview an edit or replay a trace, in the form of those of `abi`.
+#![tactic(auto)]
+
 ghost use Rattle.table.specs.Lent.{old, new};
 ghost use Rattle.edit_rules.specs.declared.Edit.TheVariants.{Arrival, Leaving};
 ghost use Rattle.abi_edit.specs.EditExports.{EditExport, PreviewExport, ReplayExport};

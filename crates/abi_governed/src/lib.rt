@@ -1,4 +1,6 @@
 // The exports about governed bisimulations, in the form of those of `abi`.
+#![tactic(auto)]
+
 ghost use Rattle.std.specs.Prelude.{◌≡◌};
 ghost use Rattle.table.specs.Lent.{old, new};
 ghost use Rattle.governed.specs.GovernedCall.{governed_answer};

@@ -1,4 +1,6 @@
 // The exports about games of any size, in the form of those of `abi`.
+#![tactic(auto)]
+
 ghost use Rattle.std.specs.Prelude.{◌≡◌};
 ghost use Rattle.table.specs.Lent.{old};
 ghost use Rattle.large_table.specs.Reading.{large_answer};

@@ -1,4 +1,6 @@
 // The verdict call's export, in the form of those of `abi`.
+#![tactic(auto)]
+
 ghost use Rattle.std.specs.Prelude.{◌≡◌};
 ghost use Rattle.table.specs.Lent.{old, new};
 ghost use Rattle.verdict.specs.VerdictCall.{verdict_answer};

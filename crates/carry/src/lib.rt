@@ -1,4 +1,6 @@
 // Plans carried to another vertex.
+#![tactic(auto)]
+
 ghost use Rattle.std.specs.Prelude.{true, ◌++◌};
 ghost use Rattle.theory.specs.Classes.Reduction.{reduced};
 ghost use Rattle.table.specs.Lent.{old, new};
@@ -15,7 +17,7 @@ use reduction::{TableCounts, Tabulation, tabulate_classes};
 use table::{Acceptance, Filling, Refusal, refusal_of};
 
 // The number of classes, the vertices and edges of the reduced game, and the positions and links of the plan that is written.
-#[derive(Drop)]
+#[derive(Clone, Copy)]
 pub struct ClassPlanCounts {
     pub classes: usize,
     pub vertices: usize,
@@ -24,7 +26,7 @@ pub struct ClassPlanCounts {
     pub links: usize,
 }
 
-#[derive(Drop)]
+#[derive(Clone, Copy)]
 pub enum ClassCarrying {
     Accepted(ClassPlanCounts),
     Refused(Refusal),

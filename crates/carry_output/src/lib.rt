@@ -1,4 +1,6 @@
 // The plan that is carried to the new vertex: 33 to 35, and its words. Parts of the calls that carry a plan; no host calls these.
+#![tactic(auto)]
+
 mod output;
 mod seats;
 
@@ -23,13 +25,13 @@ use table::flags::flag_edges;
 use table::limits::{LINKS, PAIR_WORDS, POSITIONS};
 
 // The positions and links of the plan that is written.
-#[derive(Drop)]
+#[derive(Clone, Copy)]
 pub struct PlanCounts {
     pub positions: usize,
     pub links: usize,
 }
 
-#[derive(Drop)]
+#[derive(Clone, Copy)]
 pub enum Carrying {
     Accepted(PlanCounts),
     Refused(Refusal),

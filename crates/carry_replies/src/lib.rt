@@ -1,5 +1,7 @@
 // What answers a move where a plan is carried: the links of the old plan, each position's in a chain. Parts of the calls that carry a plan;
 // no host calls these.
+#![tactic(auto)]
+
 ghost use Rattle.std.specs.Prelude.{◌≡◌, ℕ, ◌≤◌, ◌<◌, length, get_or};
 ghost use Rattle.std.proofs.Math.Bool.{So};
 ghost use Rattle.theory.specs.Logic.Range.{first};

@@ -1,4 +1,6 @@
 // Breadth-first search over pairs of an old position and a vertex, in work memory. A part of the calls that carry a plan; no host calls it.
+#![tactic(auto)]
+
 mod found;
 pub mod places;
 
@@ -20,7 +22,7 @@ use carry_replies::{next_successor, owns, reply};
 use table::limits::{LINKS, POSITIONS};
 
 // How many pairs and links are found.
-#[derive(Drop)]
+#[derive(Clone, Copy)]
 pub struct Counts {
     pub pairs: usize,
     pub links: usize,

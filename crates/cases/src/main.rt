@@ -1,4 +1,6 @@
 // Cases that go through the compiled library, a line for each: its name, then the verdict.
+#![tactic(auto)]
+
 mod orders;
 mod plans;
 mod print;

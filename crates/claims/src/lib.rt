@@ -1,9 +1,11 @@
 // What is claimed of the library stands in specs/; `claims_calls` has a function for each call, whose promise it is.
+#![tactic(auto)]
+
 use order::Ordering;
 use table::Acceptance;
 
 // The verdicts of the two calls.
-#[derive(Drop)]
+#[derive(Clone, Copy)]
 pub struct Containment {
     pub relation: Acceptance,
     pub order: Ordering,

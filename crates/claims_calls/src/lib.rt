@@ -1,5 +1,7 @@
 // What is claimed of the library. A function for each call that leaves the order: it makes the call, and its promise is what demand 3 says of
 // the slices after it; two for the governed calls, by `GovernedSentences`. All is proved from the library's contracts alone.
+#![tactic(auto)]
+
 pub mod smallest;
 
 ghost use Rattle.theory.specs.Classes.Reduction.{quotient, reduced};

@@ -1,12 +1,14 @@
 // Two reductions in a row: the function makes both calls, and its promise is what specs/ says of the slices after them, that the reduced game
 // reduced again is itself.
+#![tactic(auto)]
+
 ghost use Rattle.table.specs.Lent.{old, new};
 ghost use Rattle.claims_twice.specs.ReducedTwice.{ReducesTwice};
 
 use reduction::Tabulation;
 
 // The verdicts of two calls in a row.
-#[derive(Drop)]
+#[derive(Clone, Copy)]
 pub struct Twice {
     pub first: Tabulation,
     pub second: Tabulation,

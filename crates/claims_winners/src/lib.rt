@@ -1,5 +1,7 @@
 // Who wins. Each function makes a call of the library, and its promise is what specs/ says of the slices after it: at each vertex exactly one
 // player wins, and the winner at a vertex is the winner at its class.
+#![tactic(auto)]
+
 ghost use Rattle.theory.specs.Classes.Reduction.{quotient, reduced};
 ghost use Rattle.table.specs.Lent.{old, new};
 ghost use Rattle.order.specs.OrderCall.{ordering_answer};

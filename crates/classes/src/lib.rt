@@ -1,4 +1,6 @@
 // The classes of a game table.
+#![tactic(auto)]
+
 pub mod numbering;
 
 ghost use Rattle.std.specs.Prelude.{◌≡◌, [], ◌≤◌};
@@ -15,19 +17,19 @@ ghost use Rattle.classes.specs.ClassesRules.{ClassesFit};
 use marks::packed::length_for;
 use table::{Filling, Refusal, refusal_of};
 
-#[derive(Drop)]
+#[derive(Clone, Copy)]
 pub struct ClassCount {
     pub classes: usize,
 }
 
-#[derive(Drop)]
+#[derive(Clone, Copy)]
 pub enum Classification {
     Accepted(ClassCount),
     Refused(Refusal),
 }
 
 // Whether the lent memory is long enough.
-#[derive(Drop)]
+#[derive(Clone, Copy)]
 pub enum Memory {
     Enough,
     Short(Refusal),

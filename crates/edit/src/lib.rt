@@ -1,4 +1,6 @@
 // Edges that come and go: edits of a table that begins a buffer, with the order and the classes of the new table.
+#![tactic(auto)]
+
 ghost use Rattle.std.specs.Prelude.{◌≡◌, true, length};
 ghost use Rattle.theory.specs.Logic.Range.{first};
 ghost use Rattle.table.specs.Lent.{old, new};

@@ -1,4 +1,6 @@
 // The two edits of a table that begins a buffer. Parts of the calls; no host calls these.
+#![tactic(auto)]
+
 ghost use Rattle.std.specs.Prelude.{◌≡◌, true, ◌+◌, ◌<◌, ◌≤◌, length};
 ghost use Rattle.theory.specs.Logic.Range.{first};
 ghost use Rattle.table.specs.Lent.{old, new};

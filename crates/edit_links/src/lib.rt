@@ -1,5 +1,7 @@
 // Pairs in two parallel arrays, each linked to the next equal pair: the first `m` are edges of a table, those behind them are entries of a trace.
 // Parts of the calls; no host calls these.
+#![tactic(auto)]
+
 ghost use Rattle.std.specs.Prelude.{◌≡◌, ℕ, ◌+◌, ◌<◌, ◌≤◌, leb, length, get_or, cond};
 ghost use Rattle.table.specs.Lent.{old, new};
 ghost use Rattle.edit_links.specs.Links.{Pairs, Chained, Linked, Row};

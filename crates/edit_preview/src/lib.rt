@@ -1,4 +1,6 @@
 // Previews: an edit of a shared table, made in a second lent set of table, marks, spare and class words.
+#![tactic(auto)]
+
 ghost use Rattle.table.specs.Lent.{old, new};
 ghost use Rattle.table.specs.Table.{table_in};
 ghost use Rattle.edit_rules.specs.EditParts.{Formed};

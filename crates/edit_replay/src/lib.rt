@@ -1,4 +1,6 @@
 // A recorded list of edits, made in a table that begins a buffer, with the order and the classes of the final table.
+#![tactic(auto)]
+
 ghost use Rattle.table.specs.Lent.{old, new};
 ghost use Rattle.table.specs.Table.{table_in};
 ghost use Rattle.table.specs.Answers.{Clean};
@@ -17,7 +19,7 @@ use reduction::{TableCounts, Tabulation};
 use table::{Acceptance, Filling, refusal_of};
 
 // The verdict, and how many entries are done, whether or not all are accepted.
-#[derive(Drop)]
+#[derive(Clone, Copy)]
 pub struct Replaying {
     pub verdict: Tabulation,
     pub entries: usize,

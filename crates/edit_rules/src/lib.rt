@@ -1,5 +1,7 @@
 // Edges that come and go in a table that begins a buffer: its reader, its edges listed, and refusals 37 to 39. Parts of the calls; no host
 // calls these.
+#![tactic(auto)]
+
 pub mod buffer;
 pub mod listing;
 
@@ -14,7 +16,7 @@ use table::acceptor::refused;
 use table::limits::EDGES;
 use table::{Acceptance, NoCounts};
 
-#[derive(Drop)]
+#[derive(Clone, Copy)]
 pub enum Edit {
     Arrival,
     Leaving,
@@ -22,7 +24,7 @@ pub enum Edit {
 
 // What a scan for the edges from s to t finds: the first of them, or as many as there are edges where there is none, and whether an edge leads
 // from s elsewhere.
-#[derive(Drop)]
+#[derive(Clone, Copy)]
 pub struct Scan {
     pub copy: usize,
     pub another: bool,

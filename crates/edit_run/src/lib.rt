@@ -1,5 +1,7 @@
 // The entries of a trace run over a table's edges, which are linked to the entries that name them: no table between is written. Parts of the call; no
 // host calls these.
+#![tactic(auto)]
+
 ghost use Rattle.std.specs.Prelude.{◌≡◌, cond, ℕ, ◌+◌, ◌*◌, ◌<◌, ◌≤◌, max, [], ◌∷◌, eqb, leb, ltb, length, get_or};
 ghost use Rattle.table.specs.Limits.{vertex_limit, edge_limit};
 ghost use Rattle.theory.specs.Logic.Bools.{◌&◌};
@@ -27,20 +29,20 @@ use table::{Acceptance, NoCounts, Refusal, slices};
 // The most edges and entries together.
 const LINKED: usize = EDGES + EDGES;
 
-#[derive(Drop)]
+#[derive(Clone, Copy)]
 pub struct EdgeCount {
     pub edges: usize,
 }
 
 // What becomes of an entry.
-#[derive(Drop)]
+#[derive(Clone, Copy)]
 pub enum Entry {
     Done(EdgeCount),
     Refused(Refusal),
 }
 
 // What becomes of the entries: whether all are accepted, how many are done, and the edges of the table then.
-#[derive(Drop)]
+#[derive(Clone, Copy)]
 pub struct Entries {
     pub verdict: Acceptance,
     pub done: usize,
@@ -48,7 +50,7 @@ pub struct Entries {
 }
 
 // How a run over pairs ends: whether all entries are accepted, how many are done, the edges then, and the most that there were.
-#[derive(Drop)]
+#[derive(Clone, Copy)]
 pub struct Halt {
     pub verdict: Acceptance,
     pub done: usize,

@@ -1,4 +1,6 @@
 // A recorded list of edits: refusal 40. A part of the call; no host calls it.
+#![tactic(auto)]
+
 ghost use Rattle.std.specs.Prelude.{◌≡◌, []};
 ghost use Rattle.table.specs.Lent.{old};
 ghost use Rattle.table.specs.Answers.{judge};

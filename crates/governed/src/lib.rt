@@ -1,5 +1,7 @@
 // Governed bisimulations of a game table: the calls of the order, of the relation acceptor and of the classes, with this relation in place of
 // the order. All of the work is in the parts that they share.
+#![tactic(auto)]
+
 ghost use Rattle.std.specs.Prelude.{◌≡◌};
 ghost use Rattle.table.specs.Lent.{old, new};
 ghost use Rattle.table.specs.Acceptance.{acceptance_answer};

@@ -1,4 +1,6 @@
 // The words of a solution of a game of any size: who wins at each vertex, and by which move. Nothing is written.
+#![tactic(auto)]
+
 pub mod searches;
 pub mod tests;
 

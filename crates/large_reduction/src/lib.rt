@@ -1,5 +1,7 @@
 // A reduction of a game of any size, judged: another game, the class of each vertex, and a certificate. Nothing is written, and no memory is
 // used besides the caller's words.
+#![tactic(auto)]
+
 mod searches;
 mod tests;
 

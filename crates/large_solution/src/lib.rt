@@ -1,6 +1,8 @@
 // A solution of a game of any size, judged with a certificate. Nothing is written, and no memory is used besides the caller's words. No loop
 // stands within another. They take at most 9n + 4m steps in all, for every input: the reader's n + 2m, those of the solution's words 2n + m, and
 // those of the certificate's 3n, n, 2n (`searches::first_bad_run`) and m. Each loop's measure starts at its number, and every step lowers it.
+#![tactic(auto)]
+
 pub mod searches;
 pub mod tests;
 

@@ -1,5 +1,7 @@
 // The reader of large games: a table of 32-bit words, with as many vertices and edges as these number. Nothing is written, and no memory is
 // used but the caller's words.
+#![tactic(auto)]
+
 ghost use Rattle.std.specs.Prelude.{◌≡◌, ◌≤◌, length};
 ghost use Rattle.theory.specs.Logic.Range.{first};
 ghost use Rattle.table.specs.Lent.{old};

@@ -1,4 +1,6 @@
 // What a solution of a reduced game says of the game that was reduced; the theorems stand in specs/.
+#![tactic(auto)]
+
 ghost use Rattle.std.specs.Prelude.{◌≡◌, ◌<◌, length};
 ghost use Rattle.table.specs.Lent.{old};
 ghost use Rattle.large_moves.specs.Moves.{winner_at};

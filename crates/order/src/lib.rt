@@ -1,4 +1,6 @@
 // The direct simulation order of a parity game.
+#![tactic(auto)]
+
 mod small;
 mod wide;
 
@@ -18,12 +20,12 @@ use small::fill_small;
 use table::{Filling, Refusal, refusal_of};
 use wide::fill_wide;
 
-#[derive(Drop)]
+#[derive(Clone, Copy)]
 pub struct PassCount {
     pub passes: u32,
 }
 
-#[derive(Drop)]
+#[derive(Clone, Copy)]
 pub enum Ordering {
     Accepted(PassCount),
     Refused(Refusal),

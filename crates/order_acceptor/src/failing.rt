@@ -14,7 +14,7 @@ use marks::test::{pair_passes, same_priority};
 use table::limits::{EDGES, VERTEX_STARTS};
 
 // A pair of vertices.
-#[derive(Drop)]
+#[derive(Clone, Copy)]
 pub struct Pair {
     pub v: usize,
     pub w: usize,

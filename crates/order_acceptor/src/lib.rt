@@ -1,4 +1,6 @@
 // The acceptor of relations.
+#![tactic(auto)]
+
 mod failing;
 
 ghost use Rattle.std.specs.Prelude.{◌≡◌};

@@ -1,4 +1,6 @@
 // The rows of a game's edges, and what each vertex loses in a round. Parts of the calls; no host calls these.
+#![tactic(auto)]
+
 pub mod edges;
 pub mod losses;
 pub mod values;

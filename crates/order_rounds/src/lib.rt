@@ -1,5 +1,7 @@
 // Passes of the order, or of the governed bisimulation, as rounds over rows of bits: from the rows that lost something in the round before to
 // what they can lose now. Parts of the calls; no host calls these.
+#![tactic(auto)]
+
 pub mod start;
 
 ghost use Rattle.std.specs.Prelude.{◌≤◌, length};

@@ -1,5 +1,7 @@
 // Passes of the order, or of the governed bisimulation, as rounds over rows of one word: from the rows that lost something in the round before to
 // what they can lose now. Parts of the calls; no host calls these.
+#![tactic(auto)]
+
 mod start;
 
 ghost use Rattle.std.specs.Prelude.{◌≤◌, length};
@@ -20,7 +22,7 @@ use order_small_removal::rows::take_all;
 use start::begin;
 
 // What a round took out: the rows that changed, and how many pairs.
-#[derive(Drop)]
+#[derive(Clone, Copy)]
 struct Taken {
     changed: u64,
     cleared: u32,

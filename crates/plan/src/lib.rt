@@ -1,4 +1,6 @@
 // The plan acceptor. A plan is document 01's term for a finite-memory strategy, given as a graph of positions and links.
+#![tactic(auto)]
+
 mod answers;
 
 ghost use Rattle.std.specs.Prelude.{◌≡◌, [], drop};

@@ -1,5 +1,7 @@
 // Blocks of positions: each closed walk of the wrong parity stays in one. Blocks are refined by numbers that are checked and not trusted, and
 // positions that can lie on no such walk leave them. Parts of the plan acceptor; no host calls these.
+#![tactic(auto)]
+
 ghost use Rattle.std.specs.Prelude.{◌≡◌, ◌≤◌, ◌<◌, length};
 ghost use Rattle.theory.specs.Logic.Range.{all_below};
 ghost use Rattle.table.specs.Lent.{old, new};

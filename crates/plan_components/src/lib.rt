@@ -2,6 +2,8 @@
 // number should rise. Nothing is promised of the numbers but that they are written into the memory lent, and that the search ends:
 // `plan_blocks` checks them. So each read and each store is tested against the bounds, and counters stop at the ends of their range.
 // Parts of the plan acceptor; no host calls these.
+#![tactic(auto)]
+
 ghost use Rattle.std.specs.Prelude.{◌≡◌, get_or};
 ghost use Rattle.table.specs.Lent.{old};
 
@@ -23,7 +25,7 @@ const PATH: u16 = 16384;
 pub const WORK: usize = 20480;
 
 // Where the search stands: the next position to begin at, the lengths of the path and of what waits, the last order, the next component.
-#[derive(Drop)]
+#[derive(Clone, Copy)]
 struct Search {
     root: u16,
     depth: u16,

@@ -1,6 +1,8 @@
 // Refusal 16: the search for a position of the wrong parity that returns. A part of the plan acceptor; no host calls it.
 // `starts` and `targets` index the links, `priorities` has the priority of each position, `blocks` its block: a search stays in one.
 // Each time that the searches have looked at some multiple of all links, the blocks are refined.
+#![tactic(auto)]
+
 ghost use Rattle.std.specs.Prelude.{◌≡◌, ℕ, ◌+◌, ◌≤◌, ◌<◌, length, get_or};
 ghost use Rattle.theory.specs.Logic.Range.{first};
 ghost use Rattle.theory.specs.Plans.Reach.{reaches};
@@ -108,7 +110,7 @@ fn spend(starts: &[u16], i: usize, left: usize) -> usize
 }
 
 // What a search finds, and how many links may still be looked at.
-#[derive(Drop)]
+#[derive(Clone, Copy)]
 struct Outcome {
     found: bool,
     left: usize,

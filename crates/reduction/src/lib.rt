@@ -1,4 +1,6 @@
 // Quotient game and reduced game of a game table.
+#![tactic(auto)]
+
 pub mod tables;
 
 ghost use Rattle.theory.specs.Classes.Reduction.{quotient, reduced};
@@ -11,14 +13,14 @@ use classes::{Memory, judge_memory};
 use table::{FilledSizes, Filling, Refusal, refusal_of};
 
 // The number of classes, and the vertices and edges of the table that is written.
-#[derive(Drop)]
+#[derive(Clone, Copy)]
 pub struct TableCounts {
     pub classes: usize,
     pub vertices: usize,
     pub edges: usize,
 }
 
-#[derive(Drop)]
+#[derive(Clone, Copy)]
 pub enum Tabulation {
     Accepted(TableCounts),
     Refused(Refusal),

@@ -25,7 +25,7 @@ use table::slices;
 const SMALL_VERTICES: usize = 64;
 
 // The pass count of the order, and the counts of the classes and the table.
-#[derive(Drop)]
+#[derive(Clone, Copy)]
 pub struct Filled {
     pub passes: u32,
     pub counts: TableCounts,

@@ -1,5 +1,7 @@
 // Which classes every member of a class reaches, as rows of bits. In a row a class stands as its lowest member, and a row has a word for each
 // 64 vertices. Parts of the calls; no host calls these.
+#![tactic(auto)]
+
 ghost use Rattle.std.specs.Prelude.{◌≡◌, ℕ, ◌+◌, ◌*◌, ◌<◌, ◌≤◌, length, get_or};
 ghost use Rattle.table.specs.Lent.{old, new};
 ghost use Rattle.table.specs.Limits.{vertex_limit};

@@ -1,4 +1,6 @@
 // The members and the edges of each class, and their sums. Parts of the report; no host calls these.
+#![tactic(auto)]
+
 ghost use Rattle.std.specs.Prelude.{◌≡◌, ◌≤◌, length, get_or};
 ghost use Rattle.theory.specs.Logic.Range.{sum, tabulate};
 ghost use Rattle.table.specs.Lent.{old, new};
@@ -13,7 +15,7 @@ use table::limits::VERTICES;
 use table::slices::copy;
 
 // The sums over all classes.
-#[derive(Drop)]
+#[derive(Clone, Copy)]
 pub struct Totals {
     pub members: usize,
     pub edges: usize,

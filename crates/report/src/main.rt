@@ -1,4 +1,6 @@
 // The report on a game table: reads it from standard input and prints what `report_findings` finds.
+#![tactic(auto)]
+
 mod print;
 
 ghost use Rattle.std.specs.Prelude.{◌*◌, ◌≤◌, length};

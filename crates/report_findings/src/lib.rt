@@ -1,4 +1,6 @@
 // All numbers of the report on a game table, from its bytes.
+#![tactic(auto)]
+
 pub mod findings;
 mod words;
 
@@ -7,7 +9,7 @@ use table::Reading;
 
 // The reader's verdict; for an accepted game also the counts of passes and of classes, the sums of the classes' members and edges, and the
 // counts of the reduced game's vertices and edges.
-#[derive(Drop)]
+#[derive(Clone, Copy)]
 pub struct Report {
     pub verdict: Reading,
     pub passes: u32,

@@ -1,4 +1,6 @@
 // The game table: the verdicts and the refusal that they share, the limits, the reader's searches, flags of edges, and words put into a buffer.
+#![tactic(auto)]
+
 pub mod acceptor;
 pub mod flags;
 pub mod limits;
@@ -9,44 +11,44 @@ ghost use Rattle.std.specs.Prelude.{◌≡◌};
 ghost use Rattle.table.specs.Filling.{refusal_of};
 
 // Document 01's number, and its place: a word, a byte, a vertex, a link, a position or a length.
-#[derive(Drop)]
+#[derive(Clone, Copy)]
 pub struct Refusal {
     pub number: u32,
     pub place: usize,
 }
 
 // Vertices and edges of the table, and how many of its edges are different.
-#[derive(Drop)]
+#[derive(Clone, Copy)]
 pub struct Sizes {
     pub vertices: usize,
     pub edges: usize,
     pub different: usize,
 }
 
-#[derive(Drop)]
+#[derive(Clone, Copy)]
 pub enum Reading {
     Accepted(Sizes),
     Refused(Refusal),
 }
 
 // An acceptor's verdict has no counts.
-#[derive(Drop)]
+#[derive(Clone, Copy)]
 pub struct NoCounts {}
 
-#[derive(Drop)]
+#[derive(Clone, Copy)]
 pub enum Acceptance {
     Accepted(NoCounts),
     Refused(Refusal),
 }
 
 // Vertices and edges of a table that a call writes or reads, where these are all its counts.
-#[derive(Drop)]
+#[derive(Clone, Copy)]
 pub struct FilledSizes {
     pub vertices: usize,
     pub edges: usize,
 }
 
-#[derive(Drop)]
+#[derive(Clone, Copy)]
 pub enum Filling {
     Accepted(FilledSizes),
     Refused(Refusal),

@@ -1,4 +1,6 @@
 // Games where the highest priority decides, turned into game tables, where the lowest does.
+#![tactic(auto)]
+
 mod writing;
 
 ghost use Rattle.std.specs.Prelude.{◌≡◌};

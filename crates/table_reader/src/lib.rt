@@ -1,4 +1,6 @@
 // The reader of game tables, and the kinds of refusals.
+#![tactic(auto)]
+
 ghost use Rattle.std.specs.Prelude.{◌≡◌};
 ghost use Rattle.table.specs.Lent.{old};
 ghost use Rattle.table.specs.Filling.{filling_answer};

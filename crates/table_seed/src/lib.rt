@@ -1,4 +1,6 @@
 // Games by the seed: a table of n vertices with d edges each, drawn by a generator that is the same on every machine.
+#![tactic(auto)]
+
 mod generator;
 mod writing;
 

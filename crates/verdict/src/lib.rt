@@ -1,5 +1,7 @@
 // The verdict call: whether a plan on the reduced game shows that a player wins at a vertex of the game. The crate calls the reduction and the
 // plan acceptor, each by the part that supposes a game that was read, and concludes from their promises and the transfer of winners alone.
+#![tactic(auto)]
+
 ghost use Rattle.std.specs.Prelude.{◌≡◌};
 ghost use Rattle.table.specs.Lent.{old, new};
 ghost use Rattle.table.specs.WellFormed.{WellFormed};
@@ -10,7 +12,7 @@ use reduction::{TableCounts, Tabulation, tabulate_classes};
 use table::{Acceptance, Filling, Refusal, refusal_of};
 
 // What is confirmed of a player and a vertex. Wins and NotShown carry the number of classes and the reduced game's vertices and edges.
-#[derive(Drop)]
+#[derive(Clone, Copy)]
 pub enum Verdict {
     Wins(TableCounts),
     NotShown(TableCounts),

@@ -1,4 +1,6 @@
 // Words of 64 bits. Parts of the calls; no host calls these.
+#![tactic(auto)]
+
 pub mod members;
 
 ghost use Rattle.std.specs.Prelude.{◌≡◌, ℕ, ◌<◌, ◌≤◌, eqb};

@@ -1,0 +1,5 @@
+-- The library's promise.
+use Rattle.abi.proofs.raskjomi_kind.Goals as goal
+
+pub returns : goal.returns
+returns c = c.kind.ensures

@@ -1,0 +1,43 @@
+-- The flags are the game's edges and the chains the plan's links, so the search reads what it needs.
+use Prim.Native.Nat.{ℕ}
+use native.Mathlib.Omega.{arith}
+use lib.ListN.{length-replicate}
+use Rattle.table.specs.Limits.{position_limit, link_limit, pair_words}
+use Rattle.table.specs.FlagsLaws.{filled, well_sized, well_inside}
+use Rattle.carry_replies.specs.Replies.{Readable}
+use Rattle.carry_output.proofs.search.Goals as goal
+use Rattle.carry_output.proofs.search.Lts as lts
+use Rattle.carry_output.proofs.search.Reads as reads
+use Rattle.carry_output.proofs.search.Tie as tie
+
+abbrev start : lts.After-flag_edges tie.the-claims reads.Pre reads.Post → lts.Start tie.the-claims reads.Pre reads.Post
+start c = search
+
+-- all that the search reads
+readable : (c : lts.After-chain_links tie.the-claims reads.Pre reads.Post)
+    → let a = (start c.before.before.before.before).args in
+    Readable a.game.now a.player a.plan.now a.seats.now a.marks.now
+    c.flag_edges.new.1.1.1.0 c.chain_links.new.1.0 c.chain_links.new.1.1.0
+readable c =
+    let b = (start c.before.before.before.before).pre.0 in
+    let z = b.formed.sized in record {
+      links = record {
+        board = b;
+        firsts_long = omega (arith, c.chain_links.auto.1.0, length-replicate {A = ℕ} position_limit 0, z.positions);
+        follow_long = omega (arith, c.chain_links.auto.1.1.0, length-replicate {A = ℕ} link_limit 0, z.links);
+        chains = c.chain_links.ensures;
+      };
+      flags = c.flag_edges.ensures.edge_flags;
+    }
+
+abbrev at-start : lts.After-edges tie.the-claims reads.Pre reads.Post → lts.Start tie.the-claims reads.Pre reads.Post
+at-start c = search
+
+pub flag_edges-requires : goal.flag_edges-requires
+flag_edges-requires c = let s = at-start c.before in
+    let w = s.pre.0.well in
+    ((well_sized w, well_inside w), (omega (arith, length-replicate {A = ℕ} pair_words 0), filled pair_words 0))
+
+pub find_pairs-requires : goal.find_pairs-requires
+find_pairs-requires c = let s = start c.before.before.before.before.before.before.before.before.before.before.before in
+    (readable c.before.before.before.before.before.before.before, (s.pre.1.0, s.pre.1.1))

@@ -1,0 +1,19 @@
+use mathlib.Core.Path.{◌≡◌, refl, sym, subst}
+use mathlib.Core.List.{List}
+use Prim.Native.Nat.{ℕ, ◌+◌, ◌-◌, ◌≤◌, ◌<◌}
+use native.Mathlib.Omega.{arith}
+use lib.ListN.{length, get_or, set, length-set}
+use Rattle.theory.specs.Order.Order.{order}
+use Rattle.theory.specs.Classes.Reduction.{class_number}
+use Rattle.theory.specs.Classes.QuotientLaws.{order_preorder}
+use Rattle.theory.specs.Classes.ClassLaws.{class_number_lt, class_count_le}
+use Rattle.table.specs.Table.{vertex_count, game_of}
+use Rattle.carry_output.specs.CarryParts.{LowestFrom}
+use Rattle.carry_output.specs.LowestLaws.{lowest_none, lowest_more, lowest_all}
+use Rattle.carry_output.proofs.seats.fill_lowest.Given as goal
+
+abbrev pub invariant-loop-v : goal.invariant-loop-v
+invariant-loop-v l = Inv l.game l.initial.reps l.initial.v l.v
+
+abbrev pub decreases-loop-v : goal.decreases-loop-v
+decreases-loop-v l = l.v

@@ -1,0 +1,27 @@
+-- The flag of (u, w) says whether there is an edge, and `reply_along` the position.
+use mathlib.Core.Bool.{So}
+use mathlib.Core.Path.{◌≡◌, sym, ◌∙◌}
+use Rattle.table.specs.Table.{game_of}
+use Rattle.carry_replies.specs.RepliesLaws.{reply_no}
+use Rattle.carry_replies.proofs.reply.Goals as goal
+use Rattle.carry_replies.proofs.reply.Lts as lts
+use Rattle.carry_replies.proofs.reply.Reads as reads
+use Rattle.carry_replies.proofs.reply.Tie as tie
+
+abbrev before-flags : lts.After-shared_slice_known9 tie.the-claims reads.Pre reads.Post → lts.Start tie.the-claims reads.Pre reads.Post
+before-flags c = search
+
+abbrev start : lts.After-is_edge tie.the-claims reads.Pre reads.Post → lts.Start tie.the-claims reads.Pre reads.Post
+start c = before-flags c.before
+
+edge_is : (c : lts.After-is_edge tie.the-claims reads.Pre reads.Post) → let e = (start c).args in c.is_edge.result ≡ (game_of e.game.now).edge e.u e.w
+edge_is c = let e = start c in c.is_edge.ensures ∙ e.pre.0.flags.edge e.args.u e.args.w e.pre.1.1 e.pre.1.2
+
+pub is_edge-requires : goal.is_edge-requires
+is_edge-requires c = let e = before-flags c.before in (e.pre.1.1, e.pre.1.2, e.pre.0.links.board.well.vertices, e.pre.0.flags.long)
+
+pub returns-then-is_edge : goal.returns-then-is_edge
+returns-then-is_edge c = c.reply_along.ensures _ (sym (edge_is c.before.before.before) ∙ c.if-is_edge.true)
+
+pub returns : goal.returns
+returns c = reply_no _ _ _ _ _ _ _ (sym (edge_is c.before.before) ∙ c.if-is_edge.false)

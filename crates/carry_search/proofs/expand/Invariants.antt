@@ -1,0 +1,35 @@
+use mathlib.Core.Logic.{inl, inr}
+use mathlib.Core.Path.{◌≡◌, refl, ◌∙◌}
+use Prim.Native.Nat.{◌+◌, ◌-◌, ◌≤◌}
+use native.Mathlib.Omega.{arith}
+use lib.ListN.{length}
+use Rattle.theory.specs.Carry.Carry.{moves_below}
+use Rattle.table.specs.Table.{vertex_count}
+use Rattle.plan_links.specs.PlanTable.{position_count}
+use Rattle.carry_replies.specs.SuccessorLaws.{successor_le, successor_ge}
+use Rattle.carry_search.specs.SearchMemory.{Within, Moved}
+use Rattle.carry_search.specs.SearchMemoryLaws.{moved_none}
+use Rattle.carry_search.specs.Work.{memory_in, stored_pair}
+use Rattle.carry_search.specs.Search.{table_moves_below, most_links}
+use Rattle.carry_search.specs.ExpandLaws.{expandable_long, moved_on, moved_more, most_within, moved_few, expanded_pair}
+use Rattle.carry_search.proofs.expand.Given as goal
+
+abbrev pub before-search : tie.After-next-successor invariant-loop decreases-loop → tie.Start invariant-loop decreases-loop
+before-search c = search
+
+abbrev pub start : tie.At-loop invariant-loop decreases-loop → tie.Start invariant-loop decreases-loop
+start c = before-search c.before
+
+pub most : (a : tie.At-loop invariant-loop decreases-loop)
+    → let e = (start a).args in
+    a.before.before.most-links.result ≡ most_links e.game.now e.player (stored_pair e.work.now e.k).1 e.counts.links
+most a = a.before.before.most-links.ensures
+
+abbrev pub invariant-loop-w : goal.invariant-loop-w
+invariant-loop-w l = (l.w ≤ l.k) × (length l.initial.links ≡ length l.initial.work)
+    × Moved l.work (table_moves_below l.game l.player l.plan l.seats l.n l.i l.w) (position_count l.plan) (memory_in l.initial.work (record { l.links = l.most; l.initial.w = l.initial.pairs }))
+    (memory_in l.initial.links (record { l.links = l.links; l.initial.w = l.initial.w }))
+    × (l.initial.w ≤ l.u + 1)
+
+abbrev pub decreases-loop-w : goal.decreases-loop-w
+decreases-loop-w l = l.k - l.w

@@ -1,0 +1,47 @@
+-- The pairs below k are done.
+use mathlib.Core.Logic.{inl, inr}
+use mathlib.Core.Path.{◌≡◌, refl, ◌∙◌}
+use Prim.Native.Nat.{◌-◌}
+use native.Mathlib.Omega.{arith}
+use lib.ListN.{length}
+use Rattle.table.specs.Limits.{position_limit}
+use Rattle.carry_search.specs.RunLaws.{Runs, runs_start, runs_expandable, runs_next, runs_over, runs_end}
+use Rattle.carry_search.proofs.run.Goals as goal
+use Rattle.carry_search.proofs.run.Lts as lts
+use Rattle.carry_search.proofs.run.Reads as reads
+use Rattle.carry_search.proofs.run.Tie as tie
+
+abbrev at-start : lts.After-slice_known tie.the-claims reads.Pre reads.Post goal.the-invariant-loop-k goal.the-decreases-loop-k → lts.Start tie.the-claims reads.Pre reads.Post goal.the-invariant-loop-k goal.the-decreases-loop-k
+at-start c = search
+
+pub loop-k-init : goal.loop-k-init
+loop-k-init c = let e = at-start c.before in
+    (refl, runs_start _ _ _ _ _ _ _ _ e.pre.0 _ e.pre.1.0 _ e.pre.1.1)
+
+pub expand-more-requires : goal.expand-more-requires
+expand-more-requires c = let r = c.loop-k.invariant.1 in
+    (r.readable, runs_expandable _ _ _ _ _ _ _ _ _ _ _ _ r _ c.loop-k-test.true)
+
+pub returns-then-pairs-gt-POSITIONS : goal.returns-then-pairs-gt-POSITIONS
+returns-then-pairs-gt-POSITIONS c = runs_over _ _ _ _ _ _ _ _ _ _ _ _ c.loop-k.invariant.1 _ _ c.loop-k-test.true c.expand-more.ensures (inl c.if-pairs-gt-POSITIONS.true)
+
+pub returns-then-links-gt-LINKS : goal.returns-then-links-gt-LINKS
+returns-then-links-gt-LINKS c = runs_over _ _ _ _ _ _ _ _ _ _ _ _ c.loop-k.invariant.1 _ _ c.loop-k-test.true c.expand-more.ensures (inr c.if-links-gt-LINKS.true)
+
+pub overflow_add-k : goal.overflow_add-k
+overflow_add-k c = omega (arith, c.loop-k-test.true, c.loop-k.invariant.1.within.few_pairs)
+
+pub loop-k-smaller : goal.loop-k-smaller
+loop-k-smaller c = omega (arith, c.loop-k-test.true, c.loop-k.invariant.1.within.few_pairs)
+
+pub loop-k-preserved : goal.loop-k-preserved
+loop-k-preserved c = let i = c.loop-k.invariant in
+    let s = c.expand-more in
+    let few = c.if-pairs-gt-POSITIONS.false in (
+      s.kept.1.1.1.1.1.1.1.1.0 ∙ i.0,
+      runs_next _ _ _ _ _ _ _ _ _ _ _ _ i.1 _ _ c.loop-k-test.true s.ensures (record { few_pairs = few; few_links = c.if-links-gt-LINKS.false }),
+    )
+
+pub returns : goal.returns
+returns c = let r = c.loop-k.invariant.1 in
+    runs_end _ _ _ _ _ _ _ _ _ _ _ _ r c.loop-k-test.false

@@ -1,0 +1,14 @@
+use mathlib.Core.Logic.{inl, inr}
+use mathlib.Core.Path.{◌≡◌, refl, ◌∙◌}
+use Prim.Native.Nat.{◌-◌}
+use native.Mathlib.Omega.{arith}
+use lib.ListN.{length}
+use Rattle.table.specs.Limits.{position_limit}
+use Rattle.carry_search.specs.RunLaws.{Runs, runs_start, runs_expandable, runs_next, runs_over, runs_end}
+use Rattle.carry_search.proofs.run.Given as goal
+
+abbrev pub invariant-loop-k : goal.invariant-loop-k
+invariant-loop-k l = (length l.initial.links ≡ length l.initial.work) × Runs l.game l.player l.plan l.seats l.marks l.edges l.firsts l.follow l.work l.k l.initial.links (record { l.links = l.links; l.initial.k = l.initial.k })
+
+abbrev pub decreases-loop-k : goal.decreases-loop-k
+decreases-loop-k l = position_limit - l.k

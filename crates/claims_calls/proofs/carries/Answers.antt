@@ -1,0 +1,6 @@
+-- The sentences follow from what the call promises.
+use Rattle.claims.specs.SentencesLaws as laws
+use Rattle.claims_calls.proofs.carries.Goals as goal
+
+pub returns : goal.returns
+returns c = laws.carries c.carry_plan.ensures

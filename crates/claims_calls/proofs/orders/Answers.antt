@@ -1,0 +1,6 @@
+-- The sentences follow from what the call promises.
+use Rattle.claims.specs.SentencesLaws as laws
+use Rattle.claims_calls.proofs.orders.Goals as goal
+
+pub returns : goal.returns
+returns c = laws.orders c.write_order.ensures

@@ -1,0 +1,6 @@
+-- There are representatives for as many classes as there can be vertices.
+use Rattle.classes.specs.NumberingLaws.{numbered_total}
+use Rattle.classes.proofs.numbering.fill_classes.Goals as goal
+
+pub returns : goal.returns
+returns c = let n = c.number_classes.ensures in (numbered_total n.1, n.0)

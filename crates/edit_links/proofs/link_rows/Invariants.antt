@@ -1,0 +1,12 @@
+use mathlib.Core.Path.{◌≡◌, refl, sym, ap, ◌∙◌}
+use Prim.Native.Nat.{◌+◌, ◌-◌, ◌≤◌, ◌<◌}
+use native.Mathlib.Omega.{arith}
+use lib.ListN.{length, get_or}
+use Rattle.edit_links.specs.LinksLaws.{filled_with, LinkedBelow, linked_more, linked_all}
+use Rattle.edit_links.proofs.link_rows.Given as goal
+
+abbrev pub invariant-loop-v : goal.invariant-loop-v
+invariant-loop-v l = (l.v ≤ l.n) × (length l.links ≡ length l.initial.head) × (length l.initial.v ≡ length l.head) × LinkedBelow l.sources l.targets l.m l.count l.v l.initial.v
+
+abbrev pub decreases-loop-v : goal.decreases-loop-v
+decreases-loop-v l = l.n - l.v

@@ -1,0 +1,137 @@
+-- Each way out is a row of the call's table of refusals, or what the edit leaves in the second table, which the first one begins by then.
+use mathlib.Core.Path.{◌≡◌, sym, ap, ◌∙◌, subst}
+use mathlib.Core.List.{List, []}
+use Prim.Native.Nat.{ℕ, ◌≤◌}
+use native.Mathlib.Omega.{arith}
+use lib.ListN.{length, take}
+use lib.Seq.{length-take-le}
+use Rattle.table.specs.Table.{table_length, table_in}
+use Rattle.table.specs.Answers.{Row, judge, Clean}
+use Rattle.table.specs.Acceptance.{acceptance_answer}
+use Rattle.classes.specs.ClassesCall.{memory_rows, memory_answer}
+use Rattle.classes.specs.ClassesRules.{ClassesFit}
+use Rattle.classes.specs.declared.Memory.TheVariants.{Enough}
+use Rattle.edit_rules.specs.Edges.{edit_rows}
+use Rattle.edit_rules.specs.EditParts.{Formed, leads, Scanned}
+use Rattle.edit_rules.specs.JudgeLaws.{scanned_rows}
+use Rattle.edit_rules.specs.EditPartsLaws.{formed_room, formed_part}
+use Rattle.edit.specs.EditCallLaws.{passed_clean, call_fits, call_short, call_judged, call_done}
+use Rattle.edit_preview.specs.PreviewCallLaws.{table_short, table_long, table_clean, copied_in, copied_length, copied_over}
+use Rattle.std.proofs.Common.{rules}
+use Rattle.edit_preview.proofs.preview_table.Goals as goal
+use Rattle.edit_preview.proofs.preview_table.Lts as lts
+use Rattle.edit_preview.proofs.preview_table.Reads as reads
+use Rattle.edit_preview.proofs.preview_table.Tie as tie
+
+abbrev entry : lts.After-enum_told tie.the-claims reads.Pre reads.Post → lts.Start tie.the-claims reads.Pre reads.Post
+entry c = start c.before.before
+
+-- the memory is long enough
+enough : (c : lts.After-enum_told tie.the-claims reads.Pre reads.Post)
+    → let a = (entry c).args in memory_answer Enough ≡ judge (memory_rows a.n (length a.marks.now) (length a.spare.now) (length a.classes.now)) []
+enough c = ap memory_answer (sym c.enum_told-1.given.1) ∙ c.judge_memory-memory.ensures
+
+-- the first table is there whole, and is the part that is judged
+room : (s : lts.Start tie.the-claims reads.Pre reads.Post) → let a = s.args in table_length a.n a.m ≤ length a.game.now
+room s = let a = s.args in formed_room a.game.now a.n a.m s.requires
+
+part : (s : lts.Start tie.the-claims reads.Pre reads.Post) → let a = s.args in take (table_length a.n a.m) a.game.now ≡ table_in a.game.now
+part s = let a = s.args in formed_part a.game.now a.n a.m s.requires
+
+-- the second is long enough for it
+long : (c : lts.Else1 tie.the-claims reads.Pre reads.Post) → let a = (entry c.before).args in table_length a.n a.m ≤ length a.table.now
+long c = search rules
+
+abbrev else-at : lts.After-judge_edit tie.the-claims reads.Pre reads.Post → lts.Else1 tie.the-claims reads.Pre reads.Post
+else-at c = scan-at c.before
+
+-- what the scan found, in the table that begins the first buffer
+scanned : (c : lts.After-scan_edges tie.the-claims reads.Pre reads.Post)
+    → let a = (entry c.before.before.before).args in Scanned (table_in a.game.now) a.m a.source a.target c.scan_edges-scan.result
+scanned c = rw (part (entry c.before.before.before)) at c.scan_edges-scan.ensures
+
+-- what the judge said of the edit
+judged : (c : lts.After-judge_edit tie.the-claims reads.Pre reads.Post)
+    → let a = (entry (else-at c).before).args in
+    acceptance_answer c.judge_edit-judged.result ≡ judge (edit_rows a.edit (table_in a.game.now) (length a.table.now) a.source a.target) []
+judged c =
+    let s = entry (else-at c).before in
+    let a = s.args in
+    c.judge_edit-judged.ensures
+    ∙ ap (λ (rs : List Row). judge rs []) (scanned_rows s.pre _ _ (scanned c.before) (length a.table.now) a.edit)
+
+clean : (c : lts.After-enum_told2 tie.the-claims reads.Pre reads.Post)
+    → let a = (entry (else-at c.before.before).before).args in
+    Clean (edit_rows a.edit (table_in a.game.now) (length a.table.now) a.source a.target)
+clean c = passed_clean _ (ap acceptance_answer (sym c.enum_told-in_default-judged-1.given.1) ∙ judged c.before.before)
+
+abbrev long-at : lts.After-copy tie.the-claims reads.Pre reads.Post → lts.Else1 tie.the-claims reads.Pre reads.Post
+long-at c = else-at c.before.before.before.before
+
+abbrev begin : lts.After-copy tie.the-claims reads.Pre reads.Post → lts.Start tie.the-claims reads.Pre reads.Post
+begin c = entry (long-at c).before
+
+-- the first table begins the second
+same : (c : lts.After-copy tie.the-claims reads.Pre reads.Post) → table_in c.copy.new.0 ≡ table_in (begin c).args.game.now
+same c = let s = begin c in copied_in s.args.game.now s.args.table.now s.pre c.copy.ensures
+
+same_size : (c : lts.After-copy tie.the-claims reads.Pre reads.Post) → length c.copy.new.0 ≡ length (begin c).args.table.now
+same_size c = let s = begin c in copied_length s.args.game.now s.args.table.now s.pre c.copy.ensures (long (long-at c))
+
+pub judge_memory-memory-requires : goal.judge_memory-memory-requires
+judge_memory-memory-requires c = let p = c.requires in omega (arith, p.vertices, p.well.vertices)
+
+pub returns-in-Short : goal.returns-in-Short
+returns-in-Short c = call_short _ _ _ _ _ _ _ _ _ c.requires _ (ap memory_answer (sym c.memory-1.given.1) ∙ c.judge_memory-memory.ensures)
+
+pub returns-then-len-size : goal.returns-then-len-size
+returns-then-len-size c = let s = entry c.before.before in
+    let a = s.args in
+    call_judged _ a.edit _ _ _ _ _ _ _ s.pre (enough c.before.before) (record { number = 24; place = table_length a.n a.m })
+    (table_short a.game.now a.table.now s.pre _ (search rules))
+
+pub slice_bounds-scan_edges-end : goal.slice_bounds-scan_edges-end
+slice_bounds-scan_edges-end c = sym (length-take-le _ _ (room (entry c.before.before.before)))
+
+pub scan_edges-scan-requires : goal.scan_edges-scan-requires
+scan_edges-scan-requires c = let s = entry c.before.before.before in
+    let a = s.args in
+    subst (λ (g : List ℕ). Formed g a.n a.m) (sym (part s)) s.pre
+
+pub judge_edit-judged-requires : goal.judge_edit-judged-requires
+judge_edit-judged-requires c = let p = (entry c.before.before.before.before).requires in
+    (omega (arith, p.vertices, p.well.vertices), omega (arith, p.edges, p.well.edges))
+
+pub returns-in-Refused : goal.returns-in-Refused
+returns-in-Refused c = let t = (else-at c.before.before.before.before).before in
+    let s = entry t in
+    let a = s.args in
+    call_judged _ a.edit _ _ _ _ _ _ _ s.pre (enough t) _
+    (ap acceptance_answer (sym c.judged-1.given.1) ∙ judged c.before.before.before.before
+    ∙ sym (table_long a.game.now a.table.now s.pre _ (long (else-at c.before.before.before.before))))
+
+pub copy-requires : goal.copy-requires
+copy-requires c = let e = else-at c.before.before.before.before in
+    (omega (arith, long e), omega (arith, room (entry e.before)))
+
+pub apply_edit-counts-requires : goal.apply_edit-counts-requires
+apply_edit-counts-requires c = let s = begin c.before.before.before.before.before.before.before in
+    let a = s.args in
+    let fits = call_fits (table_in a.game.now) a.marks.now a.spare.now a.classes.now s.pre (enough (long-at c.before.before.before.before.before.before.before).before) in (
+      subst (λ (g : List ℕ). Formed g a.n a.m × ClassesFit g a.marks.now a.spare.now a.classes.now) (sym (same c.before.before.before.before.before.before.before)) (s.pre, fits),
+      (rw (same c.before.before.before.before.before.before.before) (scanned c.before.before.before.before.before.before.before.before.before.before.before.before).found, rw (same c.before.before.before.before.before.before.before, same_size c.before.before.before.before.before.before.before) (clean c.before.before.before.before.before.before.before.before.before)),
+    )
+
+abbrev at-apply-edit : lts.After-slice_known9 tie.the-claims reads.Pre reads.Post → lts.After-apply_edit tie.the-claims reads.Pre reads.Post
+at-apply-edit c = search
+
+pub returns : goal.returns
+returns c = let y = at-apply-edit c.before in
+    let x = y.before.before.before.before.before.before.before in
+    let s = begin x in
+    let a = s.args in
+    let t = (long-at x).before in
+    call_done _ a.edit _ _ _ _ _ _ _ s.pre (enough t)
+    (table_clean a.game.now a.table.now s.pre (edit_rows a.edit (table_in a.game.now) (length a.table.now) a.source a.target) (long (long-at x)) (clean (told_at x)))
+    x.copy.last.0 (same x) (copied_over a.game.now a.table.now s.pre x.copy.ensures a.edit a.source a.target)
+    _ _ _ _ _ y.apply-edit.ensures

@@ -1,0 +1,13 @@
+use mathlib.Core.Path.{◌≡◌, refl, sym, ◌∙◌}
+use mathlib.Core.Bool.{true}
+use Prim.Native.Nat.{◌-◌, ◌≤◌}
+use Rattle.theory.specs.Logic.Range.{first}
+use Rattle.theory.specs.Logic.RangeLaws.{first_step, first_hit, first_end_lem}
+use Rattle.edit_rules.specs.EditParts.{leads}
+use Rattle.edit_rules.proofs.listing.find_edge.Given as goal
+
+abbrev pub invariant-loop-k : goal.invariant-loop-k
+invariant-loop-k l = (l.k ≤ l.m) × (first (leads l.table l.s l.t true) l.j l.m ≡ first (leads l.table l.s l.t true) l.k l.m)
+
+abbrev pub decreases-loop-k : goal.decreases-loop-k
+decreases-loop-k l = l.m - l.k

@@ -1,0 +1,22 @@
+use mathlib.Core.Path.{◌≡◌, sym}
+use mathlib.Core.List.{List}
+use Prim.Native.Nat.{ℕ, ◌+◌, ◌-◌, ◌≤◌, min}
+use native.Mathlib.Omega.{arith}
+use lib.ListN.{length}
+use Rattle.table.specs.Table.{table_edges}
+use Rattle.table.specs.Listing.{Appended}
+use Rattle.table.specs.ListingLaws.{appended_join}
+use Rattle.edit_rules.specs.Edges.{edges_in, others}
+use Rattle.edit_rules.specs.EditParts.{edges_part}
+use Rattle.edit_rules.specs.SearchLaws.{edges_below, others_few, others_start, part_low, part_high, others_part}
+use Rattle.edit_rules.proofs.listing.list_others.Given as goal
+
+abbrev pub invariant-loop-j : goal.invariant-loop-j
+invariant-loop-j l = (l.j ≤ l.m + 1)
+    × (length l.initial.e ≡ length l.initial.sources)
+    × (length l.e ≡ length l.sources)
+    × ((S E : List ℕ) → l.m ≤ length S → l.m ≤ length E → Appended (edges_part l.table 0 l.copy) 0 S l.initial.sources E l.sources l.initial.ends
+    → Appended (others l.s l.t (edges_below l.table (min l.j l.m))) 0 S l.initial.e E l.e l.initial.j)
+
+abbrev pub decreases-loop-j : goal.decreases-loop-j
+decreases-loop-j l = l.m + 1 - l.j

@@ -1,0 +1,12 @@
+use mathlib.Core.Path.{◌≡◌}
+use Prim.Native.Nat.{◌-◌, ◌≤◌}
+use native.Mathlib.Omega.{arith}
+use Rattle.edit_rules.specs.EditParts.{Scanning}
+use Rattle.edit_rules.specs.ScanLaws.{scan_start, scan_both, scan_end}
+use Rattle.edit_rules.proofs.listing.scan_edges.Given as goal
+
+abbrev pub invariant-loop-j : goal.invariant-loop-j
+invariant-loop-j l = (l.j ≤ l.m) × Scanning l.table l.m l.s l.t l.j l.initial.j
+
+abbrev pub decreases-loop-j : goal.decreases-loop-j
+decreases-loop-j l = l.m - l.j

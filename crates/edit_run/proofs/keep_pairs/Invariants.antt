@@ -1,0 +1,19 @@
+use mathlib.Core.Path.{◌≡◌, refl, sym, ap, ◌∙◌}
+use mathlib.Core.List.{List, [], ◌∷◌}
+use Prim.Native.Nat.{◌+◌, ◌-◌, ◌≤◌, ◌<◌}
+use native.Mathlib.Omega.{arith}
+use lib.ListN.{length, get_or}
+use Rattle.table.specs.Listing.{Appended}
+use Rattle.table.specs.ListingLaws.{appended_join}
+use Rattle.edit_run.specs.Turned.{kept_pairs}
+use Rattle.edit_run.specs.KeptLaws.{kept_start, kept_few, kept_more}
+use Rattle.edit_run.proofs.keep_pairs.Given as goal
+
+abbrev pub invariant-loop-x : goal.invariant-loop-x
+invariant-loop-x l = (l.x ≤ l.end)
+    × (length l.initial.e ≡ length l.initial.kept)
+    × (length l.e ≡ length l.kept)
+    × Appended (kept_pairs l.sources l.targets l.copies l.links l.end l.x) 0 l.initial.kept l.initial.e l.kept l.e l.initial.x
+
+abbrev pub decreases-loop-x : goal.decreases-loop-x
+decreases-loop-x l = l.end - l.x

@@ -1,0 +1,85 @@
+-- The run over pairs is settled in the buffer.
+use mathlib.Core.Path.{◌≡◌, refl, sym, ◌∙◌}
+use Prim.Native.Nat.{ℕ, ◌+◌, ◌≤◌}
+use native.Mathlib.Omega.{arith}
+use lib.ListN.{length, length-replicate}
+use Rattle.table.specs.Limits.{edge_limit}
+use Rattle.table.specs.Table.{table_length, vertex_count, table_edges, table_in}
+use Rattle.edit_rules.specs.BufferLaws.{in_vertices, in_room}
+use Rattle.edit_trace.specs.Trace.{entry_count}
+use Rattle.edit_run.specs.SettledLaws.{settled_fits, settled_few, settled}
+use Rattle.edit_run.proofs.settle.Goals as goal
+use Rattle.edit_run.proofs.settle.Lts as lts
+use Rattle.edit_run.proofs.settle.Reads as reads
+use Rattle.edit_run.proofs.settle.Tie as tie
+
+abbrev run_at : lts.After-keep_pairs tie.the-claims reads.Pre reads.Post → lts.After-run_pairs tie.the-claims reads.Pre reads.Post
+run_at c = search
+
+abbrev start : lts.After-run_pairs tie.the-claims reads.Pre reads.Post → lts.Start tie.the-claims reads.Pre reads.Post
+start c = search
+
+abbrev keep_at : lts.After-put_edges tie.the-claims reads.Pre reads.Post → lts.After-keep_pairs tie.the-claims reads.Pre reads.Post
+keep_at c = search
+
+abbrev put-at : lts.After-judge_rest tie.the-claims reads.Pre reads.Post → lts.After-put_edges tie.the-claims reads.Pre reads.Post
+put-at c = search
+
+-- what the entries leave fits
+fit : (y : lts.After-keep_pairs tie.the-claims reads.Pre reads.Post)
+    → let h = (run_at y).run-pairs.result in
+    let a = (start (run_at y)).args in
+    (y.keep_pairs-edges.result ≤ edge_limit) × (y.keep_pairs-edges.result ≤ h.most) × (h.most ≤ edge_limit) × (table_length a.n h.most ≤ length a.buffer.now)
+fit y =
+    let x = run_at y in
+    let s = start x in
+    let p = s.pre in
+    settled_fits s.args.buffer.now s.args.trace.now p.0.0 p.0.1 p.1.0.1 p.1.1.0.1.linked x.run-pairs.ensures y.keep_pairs-edges.ensures
+
+few : (y : lts.After-keep_pairs tie.the-claims reads.Pre reads.Post)
+    → let h = (run_at y).run-pairs.result in
+    let a = (start (run_at y)).args in
+    (y.keep_pairs-edges.result ≤ a.m + h.done) × (h.done ≤ a.k) × (a.k ≤ entry_count a.trace.now)
+few y =
+    let x = run_at y in
+    let s = start x in
+    let p = s.pre in
+    settled_few s.args.buffer.now s.args.trace.now p.0.0 p.0.1 p.1.0.1 p.1.1.0.1.linked x.run-pairs.ensures y.keep_pairs-edges.ensures
+
+pub run_pairs-halt-requires : goal.run_pairs-halt-requires
+run_pairs-halt-requires c = let p = c.requires in
+    let f = p.0.0 in
+    let q = p.1.1 in (
+      (q.0.0, omega arith, q.0.1.linked),
+      (
+        (omega (arith, f.vertices, f.well.vertices), omega (arith, f.edges, f.well.edges), q.1.0, q.1.1, q.1.2),
+        q.0.1.tally,
+      ),
+    )
+
+pub put_edges-requires : goal.put_edges-requires
+put_edges-requires c = let s = start (run_at c.before.before.before.before.before.before) in
+    let p = s.pre in
+    let f = p.0.0 in
+    let r = length-replicate {A = ℕ} 8192 0 in
+    let long : c.keep_pairs-edges.result ≤ 8192 = omega (arith, few c.before.before.before.before.before.before, p.1.1.0.0.few) in (
+      (f.vertices ∙ in_vertices s.args.buffer.now, omega (arith, f.vertices, f.well.vertices), (fit c.before.before.before.before.before.before).0, (fit c.before.before.before.before.before.before).1, (fit c.before.before.before.before.before.before).2),
+      (
+        ((fit c.before.before.before.before.before.before).3, omega (arith, long, r, c.keep_pairs-edges.kept), omega (arith, long, r, c.keep_pairs-edges.kept)),
+        in_room s.args.buffer.now f.well,
+      ),
+    )
+
+pub judge_rest-verdict-requires : goal.judge_rest-verdict-requires
+judge_rest-verdict-requires c = let y = keep_at c.before.before.before in
+    let p = (start (run_at y)).requires in
+    (p.1.0.0, (few y).1, (few y).2, p.0.2)
+
+pub returns : goal.returns
+returns c = let z = put-at c.before in
+    let y = keep_at z in
+    let x = run_at y in
+    let s = start x in
+    let p = s.pre in
+    settled s.args.buffer.now s.args.trace.now p.0.0 p.0.1 p.1.0.1 p.1.1.0.1.linked x.run-pairs.ensures y.keep-pairs.ensures
+    z.put-edges.ensures c.judge_rest-verdict.ensures

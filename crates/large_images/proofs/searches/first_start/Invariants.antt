@@ -1,0 +1,13 @@
+use mathlib.Core.Path.{◌≡◌, sym, ◌∙◌}
+use Prim.Native.Nat.{◌≤◌, ◌-◌}
+use Rattle.theory.specs.Logic.Range.{first}
+use Rattle.theory.specs.Logic.RangeLaws.{first_step, first_hit, first_end_lem}
+use Rattle.large_images.specs.Images.{start_strays}
+use Rattle.large_images.proofs.searches.first_start.Given as goal
+
+abbrev pub invariant-loop-v : goal.invariant-loop-v
+invariant-loop-v l = let p = start_strays l.game l.reduced l.certificate l.n l.m l.k in
+    (l.v ≤ l.n) × (first p 0 l.n ≡ first p l.v l.n)
+
+abbrev pub decreases-loop-v : goal.decreases-loop-v
+decreases-loop-v l = l.n - l.v

@@ -1,0 +1,16 @@
+use Rattle.marks.specs.Marks.{InMarks}
+use Rattle.theory.specs.Logic.Range.{any_from}
+use Rattle.theory.specs.Logic.RangeLaws.{from_in, from_end, from_step}
+use Rattle.marks.specs.MarkSearch.{has_mark}
+use native.Mathlib.Omega.{arith}
+use native.Mathlib.Nat.{le_refl}
+use mathlib.Core.Path.{◌≡◌, sym, ◌∙◌}
+use Prim.Native.Nat.{◌+◌, ◌-◌, ◌*◌, ◌≤◌}
+use lib.ListN.{get_or}
+use Rattle.marks.proofs.packed.finds.Given as goal
+
+abbrev pub invariant-loop-k : goal.invariant-loop-k
+invariant-loop-k l = let p = has_mark l.marks l.targets l.base l.stride l.wanted in (l.initial.k ≤ l.k) × (any_from l.initial.k l.end p ≡ any_from l.k l.end p)
+
+abbrev pub decreases-loop-k : goal.decreases-loop-k
+decreases-loop-k l = l.end - l.k

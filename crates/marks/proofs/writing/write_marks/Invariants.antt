@@ -1,0 +1,20 @@
+use mathlib.Core.Path.{◌≡◌, refl, ◌∙◌}
+use Prim.Native.Nat.{◌-◌, ◌*◌, ◌≤◌}
+use native.Mathlib.Nat.{zero-mul}
+use native.Mathlib.Omega.{arith}
+use lib.ListN.{length}
+use Rattle.theory.specs.Logic.Range.{tabulate}
+use Rattle.table.specs.Answers.{written}
+use Rattle.order_rows.specs.Bits.{cell}
+use Rattle.marks.specs.Marks.{bytes}
+use Rattle.marks.specs.MarkWriting.{row_mark}
+use Rattle.marks.specs.MarkWritingLaws.{held_none, rows_next}
+use Rattle.marks.proofs.writing.write_marks.Given as goal
+
+abbrev pub invariant-loop-v : goal.invariant-loop-v
+invariant-loop-v l = (l.v ≤ l.n)
+    × (length l.initial.v ≡ length l.initial.marks)
+    × (l.initial.v ≡ written (bytes (tabulate (l.v * l.n) (row_mark l.n (cell l.rows)))) l.initial.marks)
+
+abbrev pub decreases-loop-v : goal.decreases-loop-v
+decreases-loop-v l = l.n - l.v

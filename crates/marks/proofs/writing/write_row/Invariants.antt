@@ -1,0 +1,19 @@
+use mathlib.Core.Path.{◌≡◌, refl, ◌∙◌}
+use Prim.Native.Nat.{◌+◌, ◌-◌, ◌*◌, ◌%◌, ◌≤◌, ◌<◌}
+use native.Mathlib.Nat.{mul-le-mul}
+use native.Mathlib.Omega.{arith}
+use lib.ListN.{length}
+use Rattle.table.specs.Limits.{pair_limit}
+use Rattle.order_rows.specs.Bits.{cell}
+use Rattle.marks.specs.MarkWriting.{RowWritten}
+use Rattle.marks.specs.MarkWritingLaws.{row_inside, row_start_lem, row_next, cells_are}
+use Rattle.marks.proofs.writing.write_row.Given as goal
+
+abbrev pub invariant-loop-w : goal.invariant-loop-w
+invariant-loop-w l = (l.w ≤ l.n)
+    × (l.w < l.n → l.w % 64 ≡ 0)
+    × (length l.initial.w ≡ length l.initial.marks)
+    × RowWritten l.n (cell l.rows) l.v l.w l.initial.marks l.initial.w
+
+abbrev pub decreases-loop-w : goal.decreases-loop-w
+decreases-loop-w l = l.n - l.w

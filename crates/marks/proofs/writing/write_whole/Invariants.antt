@@ -1,0 +1,18 @@
+use mathlib.Core.Path.{◌≡◌, refl, sym, ap, ◌∙◌}
+use Prim.Native.Nat.{ℕ, ◌-◌, ◌*◌, ◌/◌, ◌^◌, ◌≤◌}
+use native.Mathlib.Nat.{div-one}
+use native.Mathlib.Omega.{arith}
+use lib.Bits.{and_le_r}
+use lib.ListN.{length, length-set}
+use Rattle.marks.specs.MarkWriting.{BitsWritten}
+use Rattle.marks.specs.MarkWritingLaws.{bits_start, bits_byte, left_byte}
+use Rattle.marks.proofs.writing.write_whole.Given as goal
+
+abbrev pub invariant-loop-k : goal.invariant-loop-k
+invariant-loop-k l = (l.k ≤ l.word)
+    × (l.initial.k ≡ l.at / 2 ^ (8 * l.k))
+    × (length l.rest ≡ length l.initial.marks)
+    × BitsWritten l.at l.marks (8 * l.k) l.initial.marks l.rest
+
+abbrev pub decreases-loop-k : goal.decreases-loop-k
+decreases-loop-k l = l.word - l.k

@@ -1,0 +1,32 @@
+-- The arrays hold the rows of any well-formed table of at most 64 vertices.
+use mathlib.Core.Path.{◌≡◌}
+use mathlib.Core.Bool.{false}
+use Prim.Native.Nat.{ℕ}
+use native.Mathlib.Omega.{arith}
+use lib.ListN.{replicate}
+use Rattle.theory.specs.Logic.ListLaws.{zeros}
+use Rattle.words.specs.WordLaws.{digit_zero}
+use Rattle.order_small_losses.specs.Words.{bit, small_edges}
+use Rattle.order.specs.OrderWrittenLaws.{rows_done}
+use Rattle.order.proofs.small.fill_small.Goals as goal
+use Rattle.order.proofs.small.fill_small.Lts as lts
+use Rattle.order.proofs.small.fill_small.Reads as reads
+use Rattle.order.proofs.small.fill_small.Tie as tie
+
+bit_zero : (k v x : ℕ) → bit (replicate k 0) v x ≡ false
+unfolding bit
+bit_zero k v x = rw (zeros k v) (digit_zero x)
+
+pub fill-requires : goal.fill-requires
+fill-requires c = ((c.requires.0, c.requires.1), (omega arith, bit_zero small_edges))
+
+abbrev at-start : lts.After-next tie.the-claims reads.Pre reads.Post → lts.Start tie.the-claims reads.Pre reads.Post
+at-start c = search
+
+pub rounds-passes-requires : goal.rounds-passes-requires
+rounds-passes-requires c = let f = c.fill in
+    (((at-start c.before).requires.0, omega (arith, f.auto), f.ensures), (omega arith, omega arith, omega arith, omega arith))
+
+pub returns : goal.returns
+unfolding bit
+returns c = rows_done c.args.mirror c.args.game.now _ _ _ _ c.rounds-passes.ensures c.write_small.ensures

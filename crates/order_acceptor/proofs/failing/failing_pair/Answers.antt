@@ -1,0 +1,9 @@
+-- The arrays hold the index of any well-formed table.
+use native.Mathlib.Omega.{arith}
+use Prim.Native.Nat.{◌+◌}
+use Rattle.theory.specs.Logic.ListLaws.{zeros}
+use Rattle.table.specs.Limits.{vertex_limit}
+use Rattle.order_acceptor.proofs.failing.failing_pair.Goals as goal
+
+pub of_edges-requires : goal.of_edges-requires
+of_edges-requires c = let p = c.requires in (p.0, ((omega arith, p.0.edges), zeros (vertex_limit + 1)))

@@ -1,0 +1,19 @@
+use native.Mathlib.Omega.{arith}
+use mathlib.Core.Path.{◌≡◌, sym, ◌∙◌}
+use Prim.Native.Nat.{◌-◌, ◌≤◌}
+use Rattle.order_acceptor.specs.RelationCall.{pair_by, first_failing}
+use Rattle.order_acceptor.specs.RowSearch.{failing_from}
+use Rattle.order_acceptor.specs.RowSearchLaws.{failing_start, failing_step, failing_hit, failing_row, failing_end}
+use Rattle.order_acceptor.proofs.failing.first_failing.Given as goal
+
+abbrev pub invariant-loop-w : goal.invariant-loop-w
+invariant-loop-w l = (l.w ≤ l.n) × (first_failing (pair_by l.mirror) l.game l.marks ≡ failing_from (pair_by l.mirror) l.game l.marks l.v l.w)
+
+abbrev pub decreases-loop-w : goal.decreases-loop-w
+decreases-loop-w l = l.n - l.w
+
+abbrev pub invariant-rows : goal.invariant-rows
+invariant-rows l = (l.v ≤ l.n) × (first_failing (pair_by l.mirror) l.game l.marks ≡ failing_from (pair_by l.mirror) l.game l.marks l.v 0)
+
+abbrev pub decreases-rows : goal.decreases-rows
+decreases-rows l = l.n - l.v

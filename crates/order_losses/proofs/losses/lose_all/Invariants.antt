@@ -1,0 +1,19 @@
+use mathlib.Core.Path.{◌≡◌, refl, sym, ◌∙◌}
+use Prim.Native.Nat.{◌+◌, ◌-◌, ◌*◌, ◌≤◌}
+use native.Mathlib.Omega.{arith}
+use lib.ListN.{length}
+use Rattle.words.specs.Words.{has}
+use Rattle.order_rows.specs.Bits.{row_bits, row_words}
+use Rattle.order_rows.specs.MatrixLaws.{cell_row}
+use Rattle.order_losses.specs.Losses.{LossesTo}
+use Rattle.order_sets.specs.LossesLaws.{losses_start}
+use Rattle.order_losses.proofs.losses.lose_all.Given as goal
+
+abbrev pub invariant-loop-j : goal.invariant-loop-j
+invariant-loop-j l = (l.j ≤ row_words)
+    × (length l.losing ≡ length l.initial.next)
+    × (length l.initial.j ≡ length l.next)
+    × LossesTo l.edges l.related l.lost l.falls l.changed l.near (l.j * 64) l.losing l.initial.j
+
+abbrev pub decreases-loop-j : goal.decreases-loop-j
+decreases-loop-j l = row_words - l.j

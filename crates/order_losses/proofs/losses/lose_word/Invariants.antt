@@ -1,0 +1,23 @@
+use mathlib.Core.Path.{◌≡◌, refl, sym, ◌∙◌}
+use mathlib.Core.Bool.{So}
+use Prim.Native.Nat.{◌+◌, ◌*◌}
+use native.Mathlib.Omega.{arith}
+use lib.ListN.{length, get_or}
+use Rattle.words.specs.Word.{lowest_bit}
+use Rattle.words.specs.Words.{has}
+use Rattle.words.specs.LeftLaws.{Onward, onward_start, onward_here, onward_next, lowest_none}
+use Rattle.words.specs.WordsLaws.{has_at}
+use Rattle.order_losses.specs.Losses.{LossesTo}
+use Rattle.order_sets.specs.LossesLaws.{losses_step, word_start, word_next}
+use Rattle.order_rows.specs.Bits.{row_bits}
+use Rattle.order_rows.specs.MatrixLaws.{added_alone}
+use Rattle.order_losses.proofs.losses.lose_word.Given as goal
+
+abbrev pub invariant-loop-left : goal.invariant-loop-left
+invariant-loop-left l = Onward (get_or l.near l.j 0) l.left
+    × (length l.losing ≡ length l.initial.next)
+    × (length l.initial.left ≡ length l.next)
+    × LossesTo l.edges l.related l.lost l.falls l.changed l.near (l.j * 64 + lowest_bit l.left) l.losing l.initial.left
+
+abbrev pub decreases-loop-left : goal.decreases-loop-left
+decreases-loop-left l = l.left

@@ -1,0 +1,12 @@
+use mathlib.Core.Path.{refl}
+use Prim.Native.Nat.{◌-◌, ◌≤◌}
+use Rattle.order_rows.specs.Bits.{row_words}
+use Rattle.order_rows.specs.RowLaws.{Filled, filled_start, filled_next, filled_end}
+use Rattle.order_sets.specs.Losses.{differs}
+use Rattle.order_losses.proofs.values.differing.Given as goal
+
+abbrev pub invariant-loop-j : goal.invariant-loop-j
+invariant-loop-j l = (l.j ≤ row_words) × Filled l.j l.initial.j (differs l.words l.from l.n l.value)
+
+abbrev pub decreases-loop-j : goal.decreases-loop-j
+decreases-loop-j l = row_words - l.j

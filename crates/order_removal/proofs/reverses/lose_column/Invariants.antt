@@ -1,0 +1,18 @@
+use mathlib.Core.Path.{◌≡◌, refl, ◌∙◌}
+use Prim.Native.Nat.{◌-◌, ◌≤◌}
+use native.Mathlib.Omega.{arith}
+use lib.ListN.{length}
+use Rattle.words.specs.Words.{has}
+use Rattle.words.specs.WordsLaws.{has_at}
+use Rattle.order_rows.specs.Bits.{row_bits, row_words, cell}
+use Rattle.order_sets.specs.ReversesLaws.{ColumnTo, column_start, column_next, column_end}
+use Rattle.order_removal.proofs.reverses.lose_column.Given as goal
+
+abbrev pub invariant-loop-j : goal.invariant-loop-j
+invariant-loop-j l = (l.j ≤ row_words)
+    × (length l.which ≡ length l.initial.next)
+    × (length l.initial.j ≡ length l.next)
+    × ColumnTo row_bits (has l.losing) l.initial.losing (cell l.initial.next) (has l.next) l.j (cell l.which) (has l.initial.j)
+
+abbrev pub decreases-loop-j : goal.decreases-loop-j
+decreases-loop-j l = row_words - l.j

@@ -1,0 +1,75 @@
+-- The rows of `losing` before a are taken out, and a is in `losing` or the limit. There are at most limit × limit pairs, which fit 32 bits.
+use mathlib.Core.Path.{◌≡◌, refl, ◌∙◌}
+use Prim.Native.Nat.{◌+◌, ◌-◌}
+use native.Mathlib.Omega.{arith}
+use lib.ListN.{length}
+use Rattle.theory.specs.Logic.Range.{count}
+use Rattle.theory.specs.Logic.RangeLaws.{first_ge}
+use Rattle.theory.specs.Logic.CountLaws.{count_le}
+use Rattle.theory.specs.Logic.SumLaws.{sum_le}
+use Rattle.words.specs.Words.{has}
+use Rattle.order_rows.specs.Bits.{row_bits, cell}
+use Rattle.order_sets.specs.MembersLaws.{Reached, reached_start, reached_next}
+use Rattle.order_losses.specs.Losses.{struck}
+use Rattle.order_removal.specs.RowRemoval.{TakenTo}
+use Rattle.order_sets.specs.RemovalLaws.{taken_start, taken_next}
+use Rattle.order_removal.proofs.rows.take_all.Goals as goal
+use Rattle.order_removal.proofs.rows.take_all.Lts as lts
+use Rattle.order_removal.proofs.rows.take_all.Reads as reads
+use Rattle.order_removal.proofs.rows.take_all.Tie as tie
+
+abbrev start : lts.At-loop tie.the-claims reads.Pre reads.Post goal.the-invariant-loop-a goal.the-decreases-loop-a → lts.Start tie.the-claims reads.Pre reads.Post goal.the-invariant-loop-a goal.the-decreases-loop-a
+start c = search
+
+pub loop-a-init : goal.loop-a-init
+loop-a-init c = let e = c.first_from-a.ensures in
+    let a = c.args in (
+      rw e (reached_start (has a.losing.now) row_bits),
+      refl,
+      refl,
+      refl,
+      rw e (taken_start row_bits (cell a.edges.now) (cell a.next.now) (has a.losing.now) (cell a.related.now) (cell a.lost.now) (cell a.falls.now)),
+    )
+
+abbrev at-loop : lts.After-slice_known6 tie.the-claims reads.Pre reads.Post goal.the-invariant-loop-a goal.the-decreases-loop-a → lts.At-loop tie.the-claims reads.Pre reads.Post goal.the-invariant-loop-a goal.the-decreases-loop-a
+at-loop c = search
+
+pub overflow_add-cleared : goal.overflow_add-cleared
+overflow_add-cleared c = let l = at-loop c.before in
+    let a = (start l).args in
+    let q = c.take_row-cleared in
+    omega (
+      arith,
+      l.loop.inv.4.size,
+      q.ensures.size,
+      l.loop.inv.0.0,
+      sum_le l.loop.a row_bits (λ u. count row_bits (struck a.losing.now a.next.now u)) (λ u. count_le row_bits (struck a.losing.now a.next.now u)),
+      count_le row_bits (cell a.next.now l.loop.a),
+    )
+
+abbrev next-loop : lts.After-first_from2 tie.the-claims reads.Pre reads.Post goal.the-invariant-loop-a goal.the-decreases-loop-a → lts.At-loop tie.the-claims reads.Pre reads.Post goal.the-invariant-loop-a goal.the-decreases-loop-a
+next-loop c = search
+
+abbrev at-in-loop : lts.After-first_from2 tie.the-claims reads.Pre reads.Post goal.the-invariant-loop-a goal.the-decreases-loop-a → lts.In-loop tie.the-claims reads.Pre reads.Post goal.the-invariant-loop-a goal.the-decreases-loop-a
+at-in-loop c = search
+
+pub loop-a-smaller : goal.loop-a-smaller
+loop-a-smaller c = let l = next-loop c.before in
+    omega (arith, first_ge (has (start l).args.losing.now) (l.loop.a + 1) row_bits, c.first_from-a-in-loop-a.ensures, (at-in-loop c.before).loop-test.true)
+
+pub loop-a-preserved : goal.loop-a-preserved
+loop-a-preserved c = let a = (start c.before.before.before.before.before.before.before.before.before.before.before.before.before).args in
+    let t = c.loop-a-test.true in
+    let q = c.take_row-cleared in
+    let i = c.loop-a.invariant in
+    let e = c.first_from-a-in-loop-a.ensures in (
+      rw e (reached_next (has a.losing.now) row_bits c.loop-a.a t),
+      q.auto.1.1.0 ∙ i.1,
+      q.auto.1.1.1.0 ∙ i.2,
+      q.auto.1.1.1.1.0 ∙ i.3,
+      rw e (taken_next row_bits (cell a.edges.now) (cell a.next.now) (has a.losing.now) (cell a.related.now) c.loop-a.a (i.0.1 t) t _ _ _ _ _ _ _ _ i.4 q.ensures),
+    )
+
+pub returns : goal.returns
+returns c = let e : c.loop-a.a ≡ row_bits = omega (arith, c.loop-a.invariant.0.0, c.loop-a-test.false) in
+    rw e at c.loop-a.invariant.4

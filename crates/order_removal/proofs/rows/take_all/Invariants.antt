@@ -1,0 +1,25 @@
+use mathlib.Core.Path.{◌≡◌, refl, ◌∙◌}
+use Prim.Native.Nat.{◌+◌, ◌-◌}
+use native.Mathlib.Omega.{arith}
+use lib.ListN.{length}
+use Rattle.theory.specs.Logic.Range.{count}
+use Rattle.theory.specs.Logic.RangeLaws.{first_ge}
+use Rattle.theory.specs.Logic.CountLaws.{count_le}
+use Rattle.theory.specs.Logic.SumLaws.{sum_le}
+use Rattle.words.specs.Words.{has}
+use Rattle.order_rows.specs.Bits.{row_bits, cell}
+use Rattle.order_sets.specs.MembersLaws.{Reached, reached_start, reached_next}
+use Rattle.order_losses.specs.Losses.{struck}
+use Rattle.order_removal.specs.RowRemoval.{TakenTo}
+use Rattle.order_sets.specs.RemovalLaws.{taken_start, taken_next}
+use Rattle.order_removal.proofs.rows.take_all.Given as goal
+
+abbrev pub invariant-loop-a : goal.invariant-loop-a
+invariant-loop-a l = Reached (has l.losing) row_bits l.a
+    × (length l.falls ≡ length l.initial.related)
+    × (length l.initial.cleared ≡ length l.related)
+    × (length l.cleared ≡ length l.initial.lost)
+    × TakenTo l.edges l.next l.losing l.a l.initial.related l.initial.a l.falls l.initial.cleared l.cleared
+
+abbrev pub decreases-loop-a : goal.decreases-loop-a
+decreases-loop-a l = row_bits - l.a

@@ -1,0 +1,13 @@
+use mathlib.Core.Path.{◌≡◌, refl}
+use Prim.Native.Nat.{◌-◌, ◌≤◌}
+use native.Mathlib.Omega.{arith}
+use lib.ListN.{length}
+use Rattle.order_rows.specs.Bits.{row_words}
+use Rattle.order_rows.specs.MatrixLaws.{PutTo, put_start, put_next, put_end}
+use Rattle.order_rows.proofs.matrix.put.Given as goal
+
+abbrev pub invariant-loop-k : goal.invariant-loop-k
+invariant-loop-k l = (l.k ≤ row_words) × (length l.initial.k ≡ length l.initial.words) × PutTo l.k l.initial.words l.initial.k l.words l.v
+
+abbrev pub decreases-loop-k : goal.decreases-loop-k
+decreases-loop-k l = row_words - l.k

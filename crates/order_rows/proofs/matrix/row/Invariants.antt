@@ -1,0 +1,12 @@
+use mathlib.Core.Path.{refl, sym}
+use Prim.Native.Nat.{◌-◌, ◌≤◌}
+use Rattle.order_rows.specs.Bits.{row_words, cell}
+use Rattle.order_rows.specs.RowLaws.{Filled, filled_start, filled_next, filled_end}
+use Rattle.order_rows.specs.MatrixLaws.{cell_at}
+use Rattle.order_rows.proofs.matrix.row.Given as goal
+
+abbrev pub invariant-loop-k : goal.invariant-loop-k
+invariant-loop-k l = (l.k ≤ row_words) × Filled l.k l.initial.k (cell l.words l.v)
+
+abbrev pub decreases-loop-k : goal.decreases-loop-k
+decreases-loop-k l = row_words - l.k

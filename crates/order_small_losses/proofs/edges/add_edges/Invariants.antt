@@ -1,0 +1,17 @@
+use mathlib.Core.Path.{◌≡◌, refl}
+use Prim.Native.Nat.{◌+◌, ◌-◌, ◌≤◌, ◌<◌}
+use native.Mathlib.Omega.{arith}
+use lib.ListN.{length}
+use Rattle.table.specs.Table.{table_edges, source_at, target_at}
+use Rattle.words.specs.Word.{word_bits}
+use Rattle.order_sets.specs.Losses.{EdgesIn}
+use Rattle.order_sets.specs.EdgesLaws.{edges_start, edges_next}
+use Rattle.order_small_losses.specs.Words.{bit}
+use Rattle.order_small_losses.specs.EdgeWordsLaws.{word_added}
+use Rattle.order_small_losses.proofs.edges.add_edges.Given as goal
+
+abbrev pub invariant-loop-j : goal.invariant-loop-j
+invariant-loop-j l = (l.j ≤ l.n) × (length l.initial.j ≡ length l.initial.edges) × EdgesIn word_bits l.game l.j (bit l.initial.j)
+
+abbrev pub decreases-loop-j : goal.decreases-loop-j
+decreases-loop-j l = l.n - l.j

@@ -1,0 +1,18 @@
+use mathlib.Core.Path.{◌≡◌, refl, ◌∙◌}
+use Prim.Native.Nat.{◌+◌, ◌-◌}
+use native.Mathlib.Omega.{arith}
+use lib.ListN.{length}
+use Rattle.theory.specs.Logic.RangeLaws.{first_ge}
+use Rattle.words.specs.Word.{word_bits, digit}
+use Rattle.order_sets.specs.MembersLaws.{Reached, reached_start, reached_next}
+use Rattle.order_sets.specs.ReversesLaws.{MirrorTo, mirror_start, mirror_next, mirror_end, mirror_none}
+use Rattle.order_small_losses.specs.Words.{bit}
+use Rattle.order_small_removal.proofs.reverses.complete.Given as goal
+
+abbrev pub invariant-loop-v : goal.invariant-loop-v
+invariant-loop-v l = Reached (digit l.next) word_bits l.v
+    × (length l.more ≡ length l.initial.next)
+    × MirrorTo word_bits (digit l.next) (bit l.initial.next) (digit l.next) l.v (bit l.more) (digit l.initial.v)
+
+abbrev pub decreases-loop-v : goal.decreases-loop-v
+decreases-loop-v l = word_bits - l.v

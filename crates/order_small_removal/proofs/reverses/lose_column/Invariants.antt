@@ -1,0 +1,17 @@
+use mathlib.Core.Path.{◌≡◌, refl, ◌∙◌}
+use native.Mathlib.Omega.{arith}
+use lib.ListN.{length}
+use Rattle.words.specs.Word.{word_bits, digit}
+use Rattle.words.specs.LeftLaws.{Left, left_start, left_next}
+use Rattle.order_sets.specs.ReversesLaws.{WordTo, word_start, word_next, word_end}
+use Rattle.order_small_losses.specs.Words.{bit}
+use Rattle.order_small_removal.specs.ColumnWordLaws.{pair_base, column_word}
+use Rattle.order_small_removal.proofs.reverses.lose_column.Given as goal
+
+abbrev pub invariant-loop-left : goal.invariant-loop-left
+invariant-loop-left l = (length l.more ≡ length l.initial.next)
+    × Left l.losing l.left
+    × WordTo word_bits 0 l.losing l.which (bit l.initial.next) (digit l.next) l.left (bit l.more) (digit l.initial.left)
+
+abbrev pub decreases-loop-left : goal.decreases-loop-left
+decreases-loop-left l = l.left

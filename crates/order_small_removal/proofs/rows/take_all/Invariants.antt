@@ -1,0 +1,25 @@
+use mathlib.Core.Path.{◌≡◌, refl, ◌∙◌}
+use Prim.Native.Nat.{◌+◌, ◌-◌}
+use native.Mathlib.Omega.{arith}
+use lib.ListN.{length}
+use Rattle.theory.specs.Logic.Range.{count}
+use Rattle.theory.specs.Logic.RangeLaws.{first_ge}
+use Rattle.theory.specs.Logic.CountLaws.{count_le}
+use Rattle.theory.specs.Logic.SumLaws.{sum_le}
+use Rattle.words.specs.Word.{word_bits, digit}
+use Rattle.order_sets.specs.Sets.{struck}
+use Rattle.order_sets.specs.MembersLaws.{Reached, reached_start, reached_next}
+use Rattle.order_sets.specs.Removal.{TakenIn}
+use Rattle.order_sets.specs.RemovalLaws.{taken_start, taken_next}
+use Rattle.order_small_losses.specs.Words.{bit}
+use Rattle.order_small_removal.proofs.rows.take_all.Given as goal
+
+abbrev pub invariant-loop-a : goal.invariant-loop-a
+invariant-loop-a l = Reached (digit l.losing) word_bits l.a
+    × (length l.falls ≡ length l.initial.related)
+    × (length l.initial.cleared ≡ length l.related)
+    × (length l.cleared ≡ length l.initial.lost)
+    × TakenIn word_bits (bit l.edges) (bit l.next) (digit l.losing) l.a (bit l.initial.related) l.initial.a (bit l.falls) (bit l.initial.cleared) (bit l.cleared)
+
+abbrev pub decreases-loop-a : goal.decreases-loop-a
+decreases-loop-a l = word_bits - l.a

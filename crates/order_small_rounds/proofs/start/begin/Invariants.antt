@@ -1,0 +1,24 @@
+use mathlib.Core.Path.{◌≡◌, refl, ◌∙◌}
+use Prim.Native.Nat.{◌-◌, ◌<◌, ◌≤◌}
+use native.Mathlib.Omega.{arith}
+use lib.ListN.{length}
+use Rattle.table.specs.Table.{vertex_count, game_of}
+use Rattle.table.specs.TableLaws.{game_total}
+use Rattle.words.specs.Word.{word_bits, digit}
+use Rattle.words.specs.WordLaws.{digit_zero}
+use Rattle.order_sets.specs.Rounds.{PartedIn, StartedIn}
+use Rattle.order_sets.specs.RoundsLaws.{all_row, parted_none, started_none, started_next, begun}
+use Rattle.order_small_losses.specs.Words.{bit}
+use Rattle.order_small_losses.specs.EdgeWordsLaws.{word_differs}
+use Rattle.order_small_rounds.proofs.start.begin.Given as goal
+
+abbrev pub invariant-loop-v : goal.invariant-loop-v
+invariant-loop-v l = (l.v ≤ l.lost)
+    × (length l.all ≡ length l.initial.related)
+    × (length l.initial.changed ≡ length l.related)
+    × (length l.changed ≡ length l.initial.lost)
+    × PartedIn word_bits (game_of l.game) l.v (bit l.all) (bit l.initial.changed) (bit l.changed)
+    × StartedIn word_bits (game_of l.game) l.v (digit l.initial.v)
+
+abbrev pub decreases-loop-v : goal.decreases-loop-v
+decreases-loop-v l = l.lost - l.v

@@ -1,0 +1,47 @@
+-- The rest of the search equals the whole; no stamp is above i.
+use native.Mathlib.Omega.{arith}
+use Prim.Native.Nat.{ℕ, ◌≤◌, ◌-◌}
+use mathlib.Core.Path.{◌≡◌, refl, sym, ◌∙◌}
+use mathlib.Core.List.{List}
+use lib.ListN.{length}
+use Rattle.theory.specs.Logic.Range.{first}
+use Rattle.theory.specs.Logic.RangeLaws.{first_step, first_hit, first_end_lem}
+use Rattle.plan_returns.specs.Search.{NoLater}
+use Rattle.plan.specs.Acceptance.{lacks_link, first_lacking_link}
+use Rattle.plan.specs.AnswerLaws.{space_kept}
+use Rattle.plan.proofs.answers.first_lacking_by.Goals as goal
+use Rattle.plan.proofs.answers.first_lacking_by.Lts as lts
+use Rattle.plan.proofs.answers.first_lacking_by.Reads as reads
+use Rattle.plan.proofs.answers.first_lacking_by.Tie as tie
+
+record Inv (game : List ℕ) (player : ℕ) (plan stamps₀ : List ℕ) (p : ℕ) (stamps : List ℕ) (i : ℕ) : Type 0 where
+  inside : i ≤ p
+  room : length stamps ≡ length stamps₀
+  latest : NoLater i stamps
+  rest : first (lacks_link game player plan) 0 p ≡ first (lacks_link game player plan) i p
+
+abbrev start : lts.After-shared_slice_known7 tie.the-claims reads.Pre reads.Post goal.the-invariant-loop-i goal.the-decreases-loop-i → lts.Start tie.the-claims reads.Pre reads.Post goal.the-invariant-loop-i goal.the-decreases-loop-i
+start c = search
+
+pub loop-i-init : goal.loop-i-init
+loop-i-init c = record { inside = omega arith; room = refl; latest = λ x. omega (arith, (start c.before).requires.1 x); rest = refl }
+
+pub lacks_link-requires : goal.lacks_link-requires
+lacks_link-requires c = (space_kept (start c.before.before.before.before).pre.0 c.loop-i.invariant.room, (c.loop-i-test.true, c.loop-i.invariant.latest))
+
+pub returns-then-lacks_link : goal.returns-then-lacks_link
+unfolding first_lacking_link
+returns-then-lacks_link c = sym (c.loop-i.invariant.rest ∙ first_hit _ _ _ c.loop-i-test.true (sym c.lacks_link.ensures.value ∙ c.if-lacks_link.true))
+
+pub loop-i-preserved : goal.loop-i-preserved
+loop-i-preserved c = let i = c.loop-i.invariant in
+    record {
+      inside = omega (arith, c.loop-i-test.true);
+      room = c.lacks_link.auto.1.1.1.1.1.1.1.0 ∙ i.room;
+      latest = c.lacks_link.ensures.no_later_2;
+      rest = i.rest ∙ first_step _ _ _ c.loop-i-test.true (sym c.lacks_link.ensures.value ∙ c.if-lacks_link.false);
+    }
+
+pub returns : goal.returns
+unfolding first_lacking_link
+returns c = sym (c.loop-i.invariant.rest ∙ first_end_lem _ _ _ c.loop-i-test.false)

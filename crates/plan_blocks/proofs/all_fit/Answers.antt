@@ -1,0 +1,25 @@
+-- The numbers fit at each position before u.
+use native.Mathlib.Omega.{arith}
+use native.Mathlib.Nat.{not-suc-le-zero}
+use Prim.Native.Nat.{ℕ, ◌<◌, ◌-◌}
+use mathlib.Core.Path.{sym, ◌∙◌}
+use mathlib.Core.Bool.{So}
+use borrow.Author.Count.{below_more}
+use Rattle.theory.specs.Logic.BoolsLaws.{So_not, clash}
+use Rattle.theory.specs.Logic.RangeLaws.{all_in, all_out}
+use Rattle.plan_blocks.specs.Refining.{fits}
+use Rattle.plan_blocks.proofs.all_fit.Goals as goal
+
+pub loop-u-init : goal.loop-u-init
+loop-u-init c = λ k h. absurd (not-suc-le-zero h)
+
+pub loop-u-preserved : goal.loop-u-preserved
+loop-u-preserved c = let f : tie.After-fits2 invariant-loop decreases-loop = search in
+    below_more _ _ c.loop-u.invariant (sym f.fits2.ensures ∙ c.if-fits.true)
+
+pub returns-else-fits : goal.returns-else-fits
+returns-else-fits c = let f : tie.After-fits2 invariant-loop decreases-loop = search in
+    sym (So_not (λ t. clash ((all_out t).at c.loop-u.u c.loop-u-test.true) (sym f.fits2.ensures ∙ c.if-fits.false)))
+
+pub returns : goal.returns
+returns c = sym (all_in _ _ (λ k h. c.loop-u.invariant k (omega (arith, c.loop-u-test.false))))

@@ -1,0 +1,16 @@
+use native.Mathlib.Omega.{arith}
+use native.Mathlib.Nat.{not-suc-le-zero}
+use Prim.Native.Nat.{ℕ, ◌<◌, ◌-◌}
+use mathlib.Core.Path.{sym, ◌∙◌}
+use mathlib.Core.Bool.{So}
+use borrow.Author.Count.{below_more}
+use Rattle.theory.specs.Logic.BoolsLaws.{So_not, clash}
+use Rattle.theory.specs.Logic.RangeLaws.{all_in, all_out}
+use Rattle.plan_blocks.specs.Refining.{fits}
+use Rattle.plan_blocks.proofs.all_fit.Given as goal
+
+abbrev pub invariant-loop-u : goal.invariant-loop-u
+invariant-loop-u l = (k : ℕ) → k < l.u → So (fits l.starts l.targets l.priorities l.blocks l.numbers l.leasts k)
+
+abbrev pub decreases-loop-u : goal.decreases-loop-u
+decreases-loop-u l = l.p - l.u

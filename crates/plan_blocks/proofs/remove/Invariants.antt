@@ -1,0 +1,12 @@
+use Prim.Native.Nat.{◌-◌}
+use mathlib.Core.Path.{◌≡◌}
+use lib.ListN.{length}
+use Rattle.plan_blocks.specs.Blocks.{link_by, Confined}
+use Rattle.plan_blocks.specs.Refining.{Bounded}
+use Rattle.plan_blocks.proofs.remove.Given as goal
+
+abbrev pub invariant-loop-v : goal.invariant-loop-v
+invariant-loop-v l = (length l.initial.v ≡ length l.initial.blocks) × Confined l.leasts l.p (link_by l.starts l.targets) l.priorities l.initial.v × Bounded l.leasts l.priorities l.initial.v l.blocks
+
+abbrev pub decreases-loop-v : goal.decreases-loop-v
+decreases-loop-v l = l.leasts - l.v

@@ -1,0 +1,15 @@
+use native.Mathlib.Omega.{arith}
+use native.Mathlib.Nat.{le_refl, not-suc-le-zero}
+use Prim.Native.Nat.{ℕ, ◌≤◌, ◌<◌, ◌-◌, ◌+◌}
+use mathlib.Core.Path.{◌≡◌, refl, ap₂, ◌∙◌}
+use lib.ListN.{length, get_or, length-set}
+use lib.Seq.{get_or-set_other}
+use Rattle.theory.specs.Logic.ListLaws.{after_set}
+use Rattle.plan_blocks.specs.Refining.{taken, Taken}
+use Rattle.plan_blocks.proofs.take_numbers.Given as goal
+
+abbrev pub invariant-loop-u : goal.invariant-loop-u
+invariant-loop-u l = (length l.initial.u ≡ length l.initial.blocks) × Taken l.u l.initial.blocks l.blocks l.initial.u × ((k : ℕ) → l.u ≤ k → get_or l.initial.u k 0 ≡ get_or l.initial.blocks k 0)
+
+abbrev pub decreases-loop-u : goal.decreases-loop-u
+decreases-loop-u l = l.numbers - l.u

@@ -1,0 +1,10 @@
+-- Each step leaves one step fewer, and the numbers are the caller's to check: nothing else is kept.
+use mathlib.Core.Path.{◌≡◌}
+use lib.ListN.{length}
+use Rattle.plan_components.proofs.number_components.Given as goal
+
+abbrev pub invariant-loop-left : goal.invariant-loop-left
+invariant-loop-left l = (length l.steps ≡ length l.initial.numbers) × (length l.initial.s ≡ length l.numbers) × (length l.s ≡ length l.initial.leasts)
+
+abbrev pub decreases-loop-left : goal.decreases-loop-left
+decreases-loop-left l = l.left

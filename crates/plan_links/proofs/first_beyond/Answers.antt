@@ -1,0 +1,31 @@
+-- The rest of the search equals the whole.
+use native.Mathlib.Omega.{arith}
+use Prim.Native.Nat.{◌≤◌, ◌-◌}
+use mathlib.Core.Path.{◌≡◌, sym, ◌∙◌}
+use lib.ListN.{length}
+use borrow.Author.Tests.{le-leb, lt-leb}
+use Rattle.theory.specs.Logic.Range.{first}
+use Rattle.theory.specs.Logic.RangeLaws.{first_step, first_hit, first_end_lem}
+use Rattle.plan_links.specs.Refusals.{beyond, first_beyond}
+use Rattle.plan_links.proofs.first_beyond.Goals as goal
+
+pub overflow_cast-p : goal.overflow_cast-p
+overflow_cast-p c = omega (arith, c.shared_slice_known-2-1.given 0)
+
+pub limit-requires : goal.limit-requires
+limit-requires c = c.requires.positions
+
+pub overflow_cast-plan : goal.overflow_cast-plan
+overflow_cast-plan c = omega (arith, c.shared_slice_known-in-loop-k-1.given c.loop-k.k)
+
+pub returns-then-limit-plan : goal.returns-then-limit-plan
+unfolding first_beyond beyond
+returns-then-limit-plan c = sym (rw (← c.requires.size) (c.loop-k.invariant.1 ∙ first_hit _ _ _ c.loop-k-test.true (le-leb _ _ (rw c.limit.ensures at c.if-limit-plan.true))))
+
+pub loop-k-preserved : goal.loop-k-preserved
+unfolding beyond
+loop-k-preserved c = (omega (arith, c.loop-k-test.true), c.loop-k.invariant.1 ∙ first_step _ _ _ c.loop-k-test.true (lt-leb _ _ (rw c.limit.ensures at c.if-limit-plan.false)))
+
+pub returns : goal.returns
+unfolding first_beyond
+returns c = sym (rw (← c.requires.size) (c.loop-k.invariant.1 ∙ first_end_lem _ _ _ c.loop-k-test.false))

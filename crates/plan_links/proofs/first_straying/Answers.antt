@@ -1,0 +1,17 @@
+-- The rest of the search equals the whole.
+use native.Mathlib.Omega.{arith}
+use Prim.Native.Nat.{◌≤◌, ◌-◌}
+use mathlib.Core.Path.{◌≡◌, sym, ◌∙◌}
+use Rattle.theory.specs.Logic.Range.{first}
+use Rattle.theory.specs.Logic.RangeLaws.{first_step, first_hit, first_end_lem}
+use Rattle.plan_links.specs.Refusals.{strays, first_stray}
+use Rattle.plan_links.proofs.first_straying.Goals as goal
+
+pub returns-then-strays : goal.returns-then-strays
+returns-then-strays c = sym (c.loop-k.invariant.1 ∙ first_hit _ _ _ c.loop-k-test.true (sym c.strays.ensures ∙ c.if-strays.true))
+
+pub loop-k-preserved : goal.loop-k-preserved
+loop-k-preserved c = (omega (arith, c.loop-k-test.true), c.loop-k.invariant.1 ∙ first_step _ _ _ c.loop-k-test.true (sym c.strays.ensures ∙ c.if-strays.false))
+
+pub returns : goal.returns
+returns c = sym (c.loop-k.invariant.1 ∙ first_end_lem _ _ _ c.loop-k-test.false)

@@ -1,0 +1,62 @@
+-- The rest of the search equals the whole; no stamp is above i; blocks confine the closed walks of the wrong parity.
+use native.Mathlib.Omega.{arith}
+use Prim.Native.Nat.{ℕ, ◌≤◌, ◌-◌}
+use mathlib.Core.Path.{◌≡◌, refl, sym, ◌∙◌}
+use mathlib.Core.List.{List}
+use lib.ListN.{length}
+use Rattle.theory.specs.Logic.Range.{first}
+use Rattle.theory.specs.Logic.RangeLaws.{first_step, first_hit, first_end_lem}
+use Rattle.plan_blocks.specs.Blocks.{link_by, Confined}
+use Rattle.plan_blocks.specs.BlocksLaws.{confined_one}
+use Rattle.plan_returns.specs.Search.{NoLater}
+use Rattle.plan_returns.specs.ReturnSearch.{wrong_by}
+use Rattle.plan_returns.specs.ReturnSearchLaws.{workspace_kept}
+use Rattle.plan_returns.proofs.first_returning.Goals as goal
+
+record Inv (starts targets priorities blocks₀ seen₀ queue₀ : List ℕ) (p player : ℕ) (blocks seen queue : List ℕ) (i : ℕ) : Type 0 where
+  inside : i ≤ p
+  groups : length blocks ≡ length blocks₀
+  stamps : length seen ≡ length seen₀
+  entries : length queue ≡ length queue₀
+  latest : NoLater i seen
+  confined : Confined p player (link_by starts targets) priorities blocks
+  rest : first (wrong_by starts targets priorities p player) 0 p ≡ first (wrong_by starts targets priorities p player) i p
+
+pub loop-i-init : goal.loop-i-init
+loop-i-init c = record {
+      inside = omega arith;
+      groups = refl;
+      stamps = refl;
+      entries = refl;
+      latest = λ j. omega (arith, c.requires.by_index.0 j);
+      confined = confined_one _ _ _ _ _ c.requires.by_index.1;
+      rest = refl;
+    }
+
+pub returns_wrong-outcome-requires : goal.returns_wrong-outcome-requires
+returns_wrong-outcome-requires c = let i = c.loop-i.invariant in
+    ((workspace_kept c.requires.workspace.0 i.groups i.stamps i.entries, c.loop-i-test.true, c.requires.workspace.1), (i.latest, i.confined))
+
+pub returns-then-outcome : goal.returns-then-outcome
+returns-then-outcome c = sym (c.loop-i.invariant.rest ∙ first_hit _ _ _ c.loop-i-test.true (sym c.returns_wrong-outcome.ensures.found_value ∙ c.if-outcome.true))
+
+pub renew-left-requires : goal.renew-left-requires
+renew-left-requires c = ((c.requires.workspace.0.few, omega (arith, c.loop-i.invariant.groups, c.requires.workspace.0.grouped)), c.loop-i.invariant.confined)
+
+pub overflow_add-i : goal.overflow_add-i
+overflow_add-i c = omega (arith, c.requires.workspace.0.few, c.loop-i-test.true)
+
+pub loop-i-preserved : goal.loop-i-preserved
+loop-i-preserved c = let i = c.loop-i.invariant in
+    record {
+      inside = omega (arith, c.loop-i-test.true);
+      groups = c.renew-left.kept.1.1.1.0 ∙ i.groups;
+      stamps = c.returns_wrong-outcome.kept.1.1.1.1.0 ∙ i.stamps;
+      entries = c.returns_wrong-outcome.kept.1.1.1.1.1.0 ∙ i.entries;
+      latest = c.returns_wrong-outcome.ensures.no_later_2;
+      confined = c.renew-left.ensures;
+      rest = i.rest ∙ first_step _ _ _ c.loop-i-test.true (sym c.returns_wrong-outcome.ensures.found_value ∙ c.if-outcome.false);
+    }
+
+pub returns : goal.returns
+returns c = sym (c.loop-i.invariant.rest ∙ first_end_lem _ _ _ c.loop-i-test.false)

@@ -1,0 +1,27 @@
+-- The parity first, then the block: no return of the wrong parity starts in no block, and each stays in its own. No later stamp than i + 1.
+use native.Mathlib.Omega.{arith}
+use mathlib.Core.Path.{sym, ◌∙◌}
+use Rattle.plan_returns.specs.ReturnSearchLaws.{wrong_right, wrong_returns, gone_returns, reaches_returns}
+use Rattle.plan_returns.proofs.returns_wrong.Goals as goal
+use Rattle.plan_returns.proofs.returns_wrong.Lts as lts
+use Rattle.plan_returns.proofs.returns_wrong.Reads as reads
+use Rattle.plan_returns.proofs.returns_wrong.Tie as tie
+
+pub returns-then-priorities-i : goal.returns-then-priorities-i
+returns-then-priorities-i c = (sym (wrong_right _ _ _ _ _ _ c.requires.workspace.2 c.if-priorities-i.true), λ j. omega (arith, c.requires.no_later.0 j))
+
+pub returns-then-blocks-i : goal.returns-then-blocks-i
+returns-then-blocks-i c = (
+      sym (wrong_returns _ _ _ _ _ _ c.requires.workspace.2 c.if-priorities-i.false ∙ gone_returns _ _ _ _ _ _ c.requires.no_later.1 _ c.requires.workspace.1 c.if-priorities-i.false c.if-blocks-i.true),
+      λ j. omega (arith, c.requires.no_later.0 j),
+    )
+
+abbrev at-start : lts.After-slice_known4 tie.the-claims reads.Pre reads.Post → lts.Start tie.the-claims reads.Pre reads.Post
+at-start c = search
+
+pub returns : goal.returns
+returns c = let e = at-start c.before in
+    (
+      c.returns.ensures.found_value ∙ reaches_returns _ _ _ _ _ _ e.pre.1.1 _ e.pre.0.1 c.if-priorities-i.false ∙ sym (wrong_returns _ _ _ _ _ _ e.pre.0.2 c.if-priorities-i.false),
+      c.returns.ensures.no_later_2,
+    )

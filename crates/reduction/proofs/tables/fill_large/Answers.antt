@@ -1,0 +1,13 @@
+-- The arrays hold the representatives, the rows and the places of any well-formed game.
+use Prim.Native.Nat.{◌≤◌}
+use native.Mathlib.Nat.{mul-le-mul}
+use native.Mathlib.Omega.{arith}
+use Rattle.theory.specs.Logic.ListLaws.{zeros}
+use Rattle.table.specs.Table.{vertex_count}
+use Rattle.reduction_rows.specs.Reached.{words_for}
+use Rattle.reduction.proofs.tables.fill_large.Goals as goal
+
+pub fill_within-requires : goal.fill_within-requires
+fill_within-requires c = let n = c.requires.well_formed.0.vertices in
+    let w : words_for (vertex_count c.args.game.now) ≤ 8 = omega (arith, n) in
+    (c.requires.well_formed, (c.requires.game_in_bounds, record { vertices_fit = n; rows_fit = mul-le-mul n w; zeros = zeros 4096; stops_fit = n }))

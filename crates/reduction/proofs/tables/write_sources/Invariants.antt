@@ -1,0 +1,19 @@
+use mathlib.Core.Path.{◌≡◌, refl, sym}
+use mathlib.Core.List.{List, []}
+use Prim.Native.Nat.{ℕ, ◌+◌, ◌-◌, ◌≤◌}
+use native.Mathlib.Omega.{arith}
+use lib.ListN.{length, get_or}
+use Rattle.table.specs.Placing.{placed}
+use Rattle.reduction.specs.Tables.{start_of, spread}
+use Rattle.reduction.specs.SourcesLaws.{spread_none, start_more, count_more, spread_put}
+use Rattle.reduction.proofs.tables.write_sources.Given as goal
+
+abbrev pub start : tie.In-loop invariant-loop decreases-loop → tie.Start invariant-loop decreases-loop
+start c = search
+
+abbrev pub invariant-loop-c : goal.invariant-loop-c
+invariant-loop-c l = (l.c ≤ l.k) × (length l.start ≡ length l.initial.output) × (l.initial.c ≡ start_of l.output l.stops l.c) × (l.initial.c ≡ l.output + length (spread l.output l.stops l.c)) × (l.initial.c ≤ length l.initial.output)
+    × (l.start ≡ placed l.output (spread l.output l.stops l.c) l.initial.output)
+
+abbrev pub decreases-loop-c : goal.decreases-loop-c
+decreases-loop-c l = l.k - l.c

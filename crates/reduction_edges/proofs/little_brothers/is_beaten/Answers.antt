@@ -1,0 +1,28 @@
+-- Invariant: d is below none of the row before w.
+use mathlib.Core.Path.{◌≡◌, refl, sym, ◌∙◌}
+use mathlib.Core.Bool.{false}
+use Prim.Native.Nat.{ℕ, ◌+◌, ◌-◌, ◌%◌, ◌≤◌, ◌<◌}
+use native.Mathlib.Omega.{arith}
+use Rattle.theory.specs.Logic.Bools.{◌&◌}
+use Rattle.words.specs.Words.{has}
+use Rattle.reduction_edges.specs.LittleBrothers.{below_other}
+use Rattle.reduction_edges.specs.WordsLaws.{word_some, beaten_here, beaten_next, beaten_none}
+use Rattle.reduction_edges.proofs.little_brothers.is_beaten.Goals as goal
+
+pub loop-w-init : goal.loop-w-init
+loop-w-init c = (refl, omega arith, λ x h l. absurd (omega arith))
+
+pub beaten_word-requires : goal.beaten_word-requires
+beaten_word-requires c = (c.requires.0, c.requires.1, c.requires.2, c.loop-w-test.true, c.loop-w.invariant.0)
+
+pub returns-then-is_some : goal.returns-then-is_some
+returns-then-is_some c = let q = sym (word_some _ _ _ _ _ _ c.beaten_word.ensures) ∙ sym c.is_some.ensures in
+    sym (beaten_here _ _ _ _ _ (q ∙ c.if-is_some.true))
+
+pub loop-w-preserved : goal.loop-w-preserved
+loop-w-preserved c = let q = sym (word_some _ _ _ _ _ _ c.beaten_word.ensures) ∙ sym c.is_some.ensures in
+    let l = c.loop-w in
+    (omega (arith, l.inv.0), omega (arith, c.loop-w-test.true), beaten_next _ _ _ _ _ (q ∙ c.if-is_some.false) l.inv.2)
+
+pub returns : goal.returns
+returns c = let l = c.loop-w in sym (beaten_none _ _ _ _ l.w c.loop-w-test.false l.invariant.2)

@@ -1,0 +1,16 @@
+use mathlib.Core.Path.{◌≡◌, refl, sym, ◌∙◌}
+use Prim.Native.Nat.{◌-◌, ◌≤◌}
+use native.Mathlib.Omega.{arith}
+use lib.ListN.{length}
+use Rattle.table.specs.Table.{game_of, vertex_count}
+use Rattle.table.specs.TableLaws.{game_n}
+use Rattle.reduction_rows.specs.Reached.{MembersMet, lowest_of}
+use Rattle.reduction_rows.specs.ReachedLaws.{class_inside, lowest_read, lowest_inside, row_inside}
+use Rattle.reduction_rows.specs.MetLaws.{members_start, members_next}
+use Rattle.reduction_rows.proofs.meet_members.Given as goal
+
+abbrev pub invariant-loop-v : goal.invariant-loop-v
+invariant-loop-v l = (l.v ≤ l.words) × (length l.initial.v ≡ length l.initial.words) × MembersMet (game_of l.game) l.width l.v l.initial.words l.initial.v
+
+abbrev pub decreases-loop-v : goal.decreases-loop-v
+decreases-loop-v l = l.words - l.v

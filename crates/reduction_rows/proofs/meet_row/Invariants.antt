@@ -1,0 +1,12 @@
+use mathlib.Core.Path.{◌≡◌, refl}
+use Prim.Native.Nat.{◌-◌, ◌≤◌}
+use native.Mathlib.Omega.{arith}
+use lib.ListN.{length}
+use Rattle.reduction_rows.specs.MetLaws.{PartMet, part_start, part_next, part_end}
+use Rattle.reduction_rows.proofs.meet_row.Given as goal
+
+abbrev pub invariant-loop-k : goal.invariant-loop-k
+invariant-loop-k l = (l.k ≤ l.words) × (length l.initial.k ≡ length l.initial.words) × PartMet l.words l.width l.r l.k l.initial.words l.initial.k
+
+abbrev pub decreases-loop-k : goal.decreases-loop-k
+decreases-loop-k l = l.words - l.k

@@ -1,0 +1,30 @@
+-- Invariant: the words hold the places of the edges before j.
+use mathlib.Core.Path.{◌≡◌, refl, ◌∙◌}
+use Prim.Native.Nat.{◌-◌, ◌≤◌}
+use native.Mathlib.Omega.{arith}
+use lib.ListN.{length}
+use Rattle.table.specs.Table.{table_edges}
+use Rattle.reduction_rows.specs.ReachedLaws.{Placed, placed_none, placed_more, placed_reach}
+use Rattle.std.proofs.Common.{rules}
+use Rattle.reduction_rows.proofs.reach_edges.Goals as goal
+use Rattle.reduction_rows.proofs.reach_edges.Lts as lts
+use Rattle.reduction_rows.proofs.reach_edges.Reads as reads
+use Rattle.reduction_rows.proofs.reach_edges.Tie as tie
+
+abbrev start : lts.In-loop tie.the-claims reads.Pre reads.Post goal.the-invariant-loop-j goal.the-decreases-loop-j → lts.Start tie.the-claims reads.Pre reads.Post goal.the-invariant-loop-j goal.the-decreases-loop-j
+start c = search
+
+pub loop-j-init : goal.loop-j-init
+loop-j-init c = (search rules, refl, placed_none _ _ _ c.requires.by_index)
+
+pub reach_edge-requires : goal.reach_edge-requires
+reach_edge-requires c = let s = start c.before.before in
+    ((s.pre.0.0, record { wide = s.pre.0.1.wide; long = omega (arith, c.loop-j.invariant.1, s.pre.0.1.long) }), c.loop-j-test.true)
+
+pub loop-j-preserved : goal.loop-j-preserved
+loop-j-preserved c = (search rules, omega (arith, c.reach_edge.auto, c.loop-j.invariant.1), placed_more _ _ c.loop-j.j _ _ c.loop-j.invariant.2 c.reach_edge.ensures)
+
+pub returns : goal.returns
+returns c = let l = c.loop-j in
+    let e : l.j ≡ table_edges c.args.game.now = omega arith in
+    placed_reach c.requires.grouped.0 _ c.requires.grouped.1.wide _ (rw e at l.invariant.2)

@@ -1,0 +1,14 @@
+use mathlib.Core.Path.{◌≡◌}
+use Prim.Native.Nat.{◌≤◌, ◌-◌, ◌+◌, ◌*◌}
+use native.Mathlib.Omega.{arith}
+use lib.ListN.{length, length-set}
+use Rattle.table.specs.Table.{table_edges}
+use Rattle.table.specs.Flags.{Cleared}
+use Rattle.table.specs.FlagsLaws.{cleared_none, cleared_more, source_word, source_lt, lacking_flags}
+use Rattle.table.proofs.searches.clear_sources.Given as goal
+
+abbrev pub invariant-loop-j : goal.invariant-loop-j
+invariant-loop-j l = (l.j ≤ l.m) × (length l.initial.j ≡ length l.initial.lacking) × Cleared l.game l.j l.initial.j
+
+abbrev pub decreases-loop-j : goal.decreases-loop-j
+decreases-loop-j l = l.m - l.j

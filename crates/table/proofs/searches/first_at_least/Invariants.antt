@@ -1,0 +1,15 @@
+use mathlib.Core.Path.{◌≡◌, sym, ◌∙◌}
+use Prim.Native.Nat.{◌≤◌, ◌-◌}
+use native.Mathlib.Omega.{arith}
+use borrow.Author.Tests.{le-leb, lt-leb}
+use Rattle.theory.specs.Logic.Range.{first}
+use Rattle.theory.specs.Logic.RangeLaws.{first_step, first_hit, first_end_lem}
+use Rattle.table.specs.Flags.{at_least}
+use Rattle.table.specs.HighestLaws.{highest_none}
+use Rattle.table.proofs.searches.first_at_least.Given as goal
+
+abbrev pub invariant-loop-k : goal.invariant-loop-k
+invariant-loop-k l = (l.k ≤ l.end) × (first (at_least l.words l.limit) l.from l.end ≡ first (at_least l.words l.limit) l.k l.end)
+
+abbrev pub decreases-loop-k : goal.decreases-loop-k
+decreases-loop-k l = l.end - l.k

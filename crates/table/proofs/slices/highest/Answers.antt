@@ -1,0 +1,19 @@
+-- Invariant: the highest of the first i words.
+use mathlib.Core.Path.{◌≡◌}
+use mathlib.Core.Logic.{⊎_elim}
+use Prim.Native.Nat.{◌+◌, ◌-◌, ◌≤◌}
+use native.Mathlib.Omega.{arith}
+use lib.ListN.{get_or}
+use Rattle.table.specs.Highest.{highest_of}
+use Rattle.table.specs.HighestLaws.{highest_of_more}
+use Rattle.std.proofs.Common.{rules}
+use Rattle.table.proofs.slices.highest.Goals as goal
+
+pub loop-i-preserved : goal.loop-i-preserved
+loop-i-preserved c = let a = c.args in
+    let m = highest_of_more c.loop-i.i (λ j. get_or a.words.now (a.at + j) 0) in
+    (search rules, ⊎_elim (λ w. omega arith) (λ w. omega arith) c.if-most-words.branch)
+
+pub returns : goal.returns
+returns c = let e : c.loop-i.i ≡ c.args.count = omega arith in
+    rw e at c.loop-i.invariant.1

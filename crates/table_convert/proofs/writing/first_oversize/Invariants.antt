@@ -1,0 +1,17 @@
+use mathlib.Core.Path.{◌≡◌, sym, ◌∙◌}
+use mathlib.Core.Logic.{⊎_elim}
+use mathlib.Core.Bool.{So}
+use Prim.Native.Nat.{◌+◌, ◌-◌, ◌≤◌}
+use borrow.Author.Tests.{eqb-true, eqb-false}
+use Rattle.theory.specs.Logic.BoolsLaws.{So_not}
+use Rattle.theory.specs.Logic.Range.{first}
+use Rattle.theory.specs.Logic.RangeLaws.{first_step, first_hit, first_end_lem}
+use Rattle.table_convert.specs.ConvertCall.{oversize, first_oversize}
+use Rattle.table_convert.specs.ConvertCallLaws.{oversize_in, oversize_out}
+use Rattle.table_convert.proofs.writing.first_oversize.Given as goal
+
+abbrev pub invariant-loop-k : goal.invariant-loop-k
+invariant-loop-k l = (l.k ≤ 2 + l.n) × (first_oversize l.game ≡ first (oversize l.game) l.k (2 + l.n))
+
+abbrev pub decreases-loop-k : goal.decreases-loop-k
+decreases-loop-k l = 2 + l.n - l.k

@@ -1,0 +1,9 @@
+-- The product is reduced before the sum, and the sum again.
+use Rattle.std.proofs.Common.{refl, rules}
+use Rattle.table_seed.specs.Generator.{draw_of}
+use Rattle.table_seed.specs.GeneratorLaws.{step_wraps}
+use Rattle.table_seed.proofs.generator.Generator.draw.Goals as goal
+
+pub returns : goal.returns
+unfolding draw_of
+returns c = rw (c.wrapping_add_u32-state.ensures, c.wrapping_mul.ensures, step_wraps) (refl, refl)

@@ -1,0 +1,43 @@
+-- No number before the place is in the words; the place goes to the next digit or to the next word.
+use native.Mathlib.Omega.{arith}
+use mathlib.Core.List.{List}
+use Prim.Native.Nat.{ℕ, ◌+◌, ◌*◌, ◌/◌, ◌%◌, ◌-◌, ◌≤◌}
+use lib.ListN.{get_or}
+use Rattle.theory.specs.Logic.RangeLaws.{first_ge, first_le}
+use Rattle.words.specs.Word.{digit}
+use Rattle.words.specs.MembersLaws.{NoneIn, first_past, none_more, first_here}
+use Rattle.words.proofs.members.next_member.Goals as goal
+use Rattle.words.proofs.members.next_member.Lts as lts
+use Rattle.words.proofs.members.next_member.Reads as reads
+use Rattle.words.proofs.members.next_member.Tie as tie
+
+pub loop-at-init : goal.loop-at-init
+loop-at-init c = (omega arith, λ i l m. absurd (omega arith))
+
+abbrev words_of : lts.At-loop tie.the-claims reads.Pre reads.Post goal.the-invariant-loop-at goal.the-decreases-loop-at → List ℕ
+words_of c = c.args.words.now
+
+pub overflow_add-at : goal.overflow_add-at
+overflow_add-at c = let at = c.loop-at.at in
+    let l = first_le (digit (get_or (words_of c.before.before.before.before) (at / 64) 0)) (at % 64) 64 (omega arith) in
+    omega (arith, l, c.first_from-bit.ensures, c.requires.2, c.loop-at-test.true)
+
+pub returns-then-at-end : goal.returns-then-at-end
+returns-then-at-end c = let f = c.first_from-bit.ensures in
+    rw f (first_here (words_of c.before.before.before.before.before.before) c.loop-at.at _ _ c.loop-at.invariant.0 c.loop-at.invariant.1 (omega (arith, f, c.if-bit-lt64.true)) (omega (arith, f, c.if-at-end.true)))
+
+-- nothing is in the words before the place that the word's search gives
+again : (c : lts.After-first_from tie.the-claims reads.Pre reads.Post goal.the-invariant-loop-at goal.the-decreases-loop-at) → let s = c.args in invariant-loop s.words.now s.from s.end s.from (c.loop-at.at / 64 * 64 + c.first_from-bit.result)
+again c =
+    let at = c.loop-at.at in
+    let f = c.first_from-bit.ensures in
+    (omega (arith, c.loop-at.invariant.0, f, first_ge (digit (get_or (words_of c.before.before.before) (at / 64) 0)) (at % 64) 64), none_more (words_of c.before.before.before) at _ _ f c.loop-at.invariant.1)
+
+pub loop-at-preserved-else-at-end : goal.loop-at-preserved-else-at-end
+loop-at-preserved-else-at-end c = again c.before.before.before
+
+pub loop-at-preserved : goal.loop-at-preserved
+loop-at-preserved c = again c.before.before
+
+pub returns : goal.returns
+returns c = first_past (words_of c.before.before) _ c.loop-at.at _ c.requires.0 c.loop-at-test.false c.loop-at.invariant.1
