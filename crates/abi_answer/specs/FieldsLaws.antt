@@ -1,17 +1,17 @@
 -- What the library accepts is small, so its counts fit the answer's fields.
 use Rattle.std.specs.Prelude.{◌≡◌, refl, List, ◌∷◌, ℕ, ◌≤◌, ◌<◌, get_or, length}
 use Rattle.std.proofs.Common.{sym, ap, arith, ltb-false}
-use Rattle.theory.specs.Logic.BoolsLaws.{or_fails}
+use Rattle.theory.proofs.Logic.BoolsLaws.{or_fails}
 use Rattle.theory.specs.Games.Game.{Game, edge_count}
 use Rattle.theory.specs.Order.Order.{order}
 use Rattle.theory.specs.Order.Passes.{Marks, Rel}
 use Rattle.theory.specs.Order.Governed.{governed_marks, governed}
-use Rattle.theory.specs.Order.GovernedLaws.{governed_equivalence}
+use Rattle.theory.proofs.Order.GovernedLaws.{governed_equivalence}
 use Rattle.theory.specs.Plans.Plan.{Plan}
 use Rattle.theory.specs.Classes.Reduction.{reduced}
-use Rattle.theory.specs.Classes.SizeLaws.{reduced_size, reduced_edges}
-use Rattle.theory.specs.Classes.ClassLaws.{class_count_le}
-use Rattle.theory.specs.Classes.QuotientLaws.{order_preorder}
+use Rattle.theory.proofs.Classes.SizeLaws.{reduced_size, reduced_edges}
+use Rattle.theory.proofs.Classes.ClassLaws.{class_count_le}
+use Rattle.theory.proofs.Classes.QuotientLaws.{order_preorder}
 use Rattle.table.specs.Table.{vertex_count, table_in, game_of}
 use Rattle.table.specs.Limits.{vertex_limit, edge_limit, position_limit, link_limit}
 use Rattle.table.specs.Answers.{Clean}
@@ -31,13 +31,13 @@ use Rattle.reduction.specs.declared.Tabulation.{Tabulation}
 use Rattle.edit_rules.specs.Edges.{edited}
 use Rattle.edit_rules.specs.declared.Edit.{Edit}
 use Rattle.edit.specs.EditCall.{call_counts, EditCall}
-use Rattle.edit.specs.EditRulesLaws.{call_passed}
-use Rattle.edit.specs.NewTableLaws.{new_well}
+use Rattle.edit.proofs.EditRulesLaws.{call_passed}
+use Rattle.edit.proofs.NewTableLaws.{new_well}
 use Rattle.edit_preview.specs.PreviewCall.{PreviewCall}
-use Rattle.edit_preview.specs.PreviewEditLaws.{preview_edit}
+use Rattle.edit_preview.proofs.PreviewEditLaws.{preview_edit}
 use Rattle.edit_replay.specs.ReplayCall.{replayed, ReplayCall}
-use Rattle.edit_replay.specs.ReplayRulesLaws.{replay_few, replay_accepted}
-use Rattle.edit_replay.specs.FinalTableLaws.{final_well}
+use Rattle.edit_replay.proofs.ReplayRulesLaws.{replay_few, replay_accepted}
+use Rattle.edit_replay.proofs.FinalTableLaws.{final_well}
 use Rattle.table_seed.specs.SeedCall.{SeedCall}
 use Rattle.table_seed.specs.SeedRulesLaws.{seed_accepted}
 use Rattle.table_convert.specs.ConvertCall.{ConvertCall}

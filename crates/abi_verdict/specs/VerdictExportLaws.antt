@@ -2,7 +2,7 @@
 use Rattle.std.specs.Prelude.{◌≡◌, refl, List, [], ◌∷◌, ℕ, take}
 use Rattle.std.proofs.Common.{sym, ap, subst}
 use Rattle.theory.specs.Classes.Reduction.{reduced}
-use Rattle.theory.specs.Classes.SizeLaws.{reduced_size, reduced_edges}
+use Rattle.theory.proofs.Classes.SizeLaws.{reduced_size, reduced_edges}
 use Rattle.table.specs.Answers.{Answer, accepted}
 use Rattle.reduction.specs.TableCall.{table_counts, TableCall}
 use Rattle.reduction.specs.declared.TableCounts.{TableCounts}
@@ -10,7 +10,7 @@ use Rattle.reduction.specs.declared.Tabulation.{Tabulation}
 use Rattle.abi_answer.specs.Fields.{SmallCounts}
 use Rattle.abi_answer.specs.FieldsLaws.{tabulation_small}
 use Rattle.verdict.specs.VerdictCall.{verdict_answer, VerdictCall}
-use Rattle.verdict.specs.VerdictRulesLaws.{front_fits, verdict_accepted, verdict_table}
+use Rattle.verdict.proofs.VerdictRulesLaws.{front_fits, verdict_accepted, verdict_table}
 use Rattle.verdict.specs.declared.Verdict.{Verdict}
 use Rattle.abi_verdict.specs.VerdictExport.{SmallVerdict}
 

@@ -1,9 +1,4 @@
 pub mod CarryCall
 pub mod ReducedMemory
-pub mod CarryCallLaws
 pub mod CarryRules
-pub mod CarryRulesLaws
 pub mod WrittenPlan
-pub mod WrittenPlanLaws
-pub mod CarryMemoryLaws
-pub mod SameCarryLaws

@@ -7,14 +7,14 @@ use Rattle.std.proofs.Math.Decide.{dec_lt}
 use Rattle.std.proofs.Math.ListN.{length, get_or, get_or-eq_default}
 use Rattle.theory.specs.Logic.Bools.{◌&◌}
 use Rattle.theory.specs.Logic.Range.{tabulate}
-use Rattle.theory.specs.Logic.ListLaws.{length_tabulate, get_d_tabulate, tabulate_ext}
+use Rattle.theory.proofs.Logic.ListLaws.{length_tabulate, get_d_tabulate, tabulate_ext}
 use Rattle.theory.specs.Order.Order.{order}
 use Rattle.theory.specs.Plans.Plan.{Plan}
 use Rattle.theory.specs.Classes.Reduction.{representative}
-use Rattle.theory.specs.Classes.QuotientLaws.{order_preorder, rep_lt}
-use Rattle.theory.specs.Classes.ClassLaws.{class_count_le}
+use Rattle.theory.proofs.Classes.QuotientLaws.{order_preorder, rep_lt}
+use Rattle.theory.proofs.Classes.ClassLaws.{class_count_le}
 use Rattle.theory.specs.Carry.Carry.{carried_plan, class_no_better}
-use Rattle.theory.specs.Carry.CarryClassLaws.{representative_zero, carried_at_lowest}
+use Rattle.theory.proofs.Carry.CarryClassLaws.{representative_zero, carried_at_lowest}
 use Rattle.table.specs.Table.{vertex_count, player_of, game_of}
 use Rattle.table.specs.Placing.{placed}
 use Rattle.table.specs.PlacingLaws.{placed_written}

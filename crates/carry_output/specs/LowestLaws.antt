@@ -6,7 +6,7 @@ use Rattle.std.proofs.Math.Decide.{dec_lt}
 use Rattle.theory.specs.Order.Passes.{Rel}
 use Rattle.theory.specs.Order.Order.{Preorder}
 use Rattle.theory.specs.Classes.Reduction.{class_count, class_number, representative}
-use Rattle.theory.specs.Classes.ClassLaws.{
+use Rattle.theory.proofs.Classes.ClassLaws.{
   same_class_refl,
   lowest_le,
   class_count_le,

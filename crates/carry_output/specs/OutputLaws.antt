@@ -8,9 +8,9 @@ use Rattle.std.proofs.Math.Dec.{ltb}
 use Rattle.std.proofs.Math.ListN.{get_or}
 use borrow.Author.Tests.{lt-ltb, le-ltb}
 use Rattle.theory.specs.Logic.Bools.{◌or◌}
-use Rattle.theory.specs.Logic.BoolsLaws.{or_left, or_right}
+use Rattle.theory.proofs.Logic.BoolsLaws.{or_left, or_right}
 use Rattle.theory.specs.Logic.Range.{tabulate}
-use Rattle.theory.specs.Logic.ListLaws.{length_tabulate, map_tabulate}
+use Rattle.theory.proofs.Logic.ListLaws.{length_tabulate, map_tabulate}
 use Rattle.theory.specs.Plans.Plan.{Plan}
 use Rattle.table.specs.Limits.{position_limit, link_limit}
 use Rattle.table.specs.Placing.{placed}

@@ -6,7 +6,7 @@ use Prim.Native.Nat.{ℕ, ◌<◌}
 use Rattle.std.proofs.Math.Decide.{dec_lt}
 use Rattle.std.proofs.Math.ListN.{get_or}
 use Rattle.std.proofs.lemmas.List.{length-map}
-use Rattle.theory.specs.Logic.ListLaws.{length_tabulate, map_tabulate}
+use Rattle.theory.proofs.Logic.ListLaws.{length_tabulate, map_tabulate}
 use Rattle.theory.specs.Plans.Plan.{Plan}
 use Rattle.theory.specs.Carry.BreadthFirst.{Found}
 use Rattle.theory.specs.Carry.Carry.{found_from, carried}

@@ -5,10 +5,10 @@ use Rattle.std.proofs.Math.Bool.{So}
 use Rattle.std.proofs.Math.Decide.{dec_lt, ℕ_discrete}
 use borrow.Author.Tests.{eqb-true, eq-eqb, ne_eqb}
 use Rattle.theory.specs.Logic.Bools.{◌&◌, imp}
-use Rattle.theory.specs.Logic.BoolsLaws.{and_in, and_out, imp_in, imp_out, So_not, clash}
+use Rattle.theory.proofs.Logic.BoolsLaws.{and_in, and_out, imp_in, imp_out, So_not, clash}
 use Rattle.theory.specs.Logic.Range.{first, tabulate}
-use Rattle.theory.specs.Logic.RangeLaws.{first_is, first_none, first_le, first_ge, first_end_lem, first_hit, first_step, first_passes, first_before}
-use Rattle.theory.specs.Logic.ListLaws.{length_tabulate, get_d_tabulate}
+use Rattle.theory.proofs.Logic.RangeLaws.{first_is, first_none, first_le, first_ge, first_end_lem, first_hit, first_step, first_passes, first_before}
+use Rattle.theory.proofs.Logic.ListLaws.{length_tabulate, get_d_tabulate}
 use Rattle.table.specs.Placing.{placed}
 use Rattle.table.specs.PlacingLaws.{placed_written}
 use Rattle.table.specs.AnswersLaws.{get_d_written}

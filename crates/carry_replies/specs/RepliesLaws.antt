@@ -12,15 +12,15 @@ use native.Mathlib.Omega.{arith}
 use Rattle.std.proofs.Math.Dec.{ltb}
 use borrow.Author.Tests.{lt-ltb, le-ltb, ltb-true}
 use Rattle.theory.specs.Logic.Bools.{◌&◌}
-use Rattle.theory.specs.Logic.BoolsLaws.{decide, and_out, So_not}
+use Rattle.theory.proofs.Logic.BoolsLaws.{decide, and_out, So_not}
 use Rattle.theory.specs.Logic.Range.{first}
-use Rattle.theory.specs.Logic.RangeLaws.{first_ext}
+use Rattle.theory.proofs.Logic.RangeLaws.{first_ext}
 use Rattle.theory.specs.Games.Game.{Player, even, odd, own}
 use Rattle.theory.specs.Order.Order.{order}
 use Rattle.theory.specs.Plans.Plan.{linked}
 use Rattle.theory.specs.Classes.Reduction.{no_better}
-use Rattle.theory.specs.Plans.LinkLaws.{linked_append, linked_one_out}
-use Rattle.theory.specs.Carry.BreadthFirstLaws.{Among}
+use Rattle.theory.proofs.Plans.LinkLaws.{linked_append, linked_one_out}
+use Rattle.theory.proofs.Carry.BreadthFirstLaws.{Among}
 use Rattle.theory.specs.Carry.Carry.{source_of, target_of, first_link, usable, answer, answer_to, moves_below}
 use Rattle.table.specs.Table.{vertex_count, player_of, game_of}
 use Rattle.marks.specs.Marks.{relation}

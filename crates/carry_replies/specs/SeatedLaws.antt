@@ -2,7 +2,7 @@
 use Rattle.std.specs.Prelude.{◌≡◌, List, ℕ, ◌<◌, length}
 use Rattle.std.proofs.Common.{ap}
 use Rattle.std.proofs.Math.ListN.{get_or}
-use Rattle.theory.specs.Logic.ListLaws.{length_tabulate, get_d_tabulate}
+use Rattle.theory.proofs.Logic.ListLaws.{length_tabulate, get_d_tabulate}
 use Rattle.theory.specs.Carry.Carry.{source_of, target_of}
 use Rattle.plan_links.specs.PlanTable.{position_count, link_count, link_source, link_target, plan_of}
 use Rattle.carry_replies.specs.Replies.{seated}

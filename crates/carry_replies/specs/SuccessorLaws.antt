@@ -4,7 +4,7 @@ use Rattle.std.proofs.Common.{sym, ap, ◌∙◌, arith}
 use Rattle.std.proofs.Math.Decide.{dec_lt}
 use Rattle.theory.specs.Logic.Bools.{◌&◌}
 use Rattle.theory.specs.Logic.Range.{first}
-use Rattle.theory.specs.Logic.RangeLaws.{first_is, first_ge, first_le, first_none, first_passes, first_before}
+use Rattle.theory.proofs.Logic.RangeLaws.{first_is, first_ge, first_le, first_none, first_passes, first_before}
 use Rattle.theory.specs.Carry.Carry.{moves_below}
 use Rattle.table.specs.Table.{vertex_count, player_of, game_of}
 use Rattle.table.specs.Limits.{vertex_limit, pair_limit}

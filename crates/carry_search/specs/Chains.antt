@@ -1,7 +1,7 @@
 -- The pairs found, in two arrays, and for each value of a hash a chain of the pairs that have it, from the latest back.
 use Rattle.std.specs.Prelude.{◌≡◌, List, ℕ, ◌+◌, ◌*◌, ◌%◌, ◌<◌, eqb, get_or, set}
 use Rattle.theory.specs.Logic.Range.{tabulate}
-use Rattle.theory.specs.Plans.LinkLaws.{Single}
+use Rattle.theory.proofs.Plans.LinkLaws.{Single}
 use Rattle.table.specs.Limits.{position_limit}
 use Rattle.carry_search.specs.LastBelow.{last}
 

@@ -10,10 +10,10 @@ use Rattle.std.proofs.Math.Dec.{eqb}
 use Rattle.std.proofs.Math.ListN.{get_or}
 use Rattle.std.proofs.Math.Seq.{get_or-set_same, get_or-set_other}
 use borrow.Author.Tests.{eqb-true, eq-eqb, ne_eqb, le-ltb}
-use Rattle.theory.specs.Logic.BoolsLaws.{So_not, clash}
-use Rattle.theory.specs.Logic.RangeLaws.{below_suc, first_le, first_is, first_none}
+use Rattle.theory.proofs.Logic.BoolsLaws.{So_not, clash}
+use Rattle.theory.proofs.Logic.RangeLaws.{below_suc, first_le, first_is, first_none}
 use Rattle.theory.specs.Carry.BreadthFirst.{is_at, number_of}
-use Rattle.theory.specs.Carry.BreadthFirstLaws.{is_at_out, grown}
+use Rattle.theory.proofs.Carry.BreadthFirstLaws.{is_at_out, grown}
 use Rattle.table.specs.Limits.{position_limit}
 use Rattle.carry_search.specs.LastBelow.{last}
 use Rattle.carry_search.specs.LastBelowLaws.{last_ext, last_is}

@@ -2,7 +2,7 @@
 use Rattle.std.specs.Prelude.{◌≡◌, refl, Bool, true, false, cond, ℕ, zero, suc, ◌-◌, ◌≤◌, ◌<◌}
 use Rattle.std.proofs.Math.Bool.{So}
 use Rattle.std.proofs.Common.{arith}
-use Rattle.theory.specs.Logic.RangeLaws.{below_suc}
+use Rattle.theory.proofs.Logic.RangeLaws.{below_suc}
 use Rattle.carry_search.specs.LastBelow.{last}
 
 pub last_ext : (p q : ℕ → Bool) (n : ℕ) → ((k : ℕ) → k < n → p k ≡ q k) → last p n ≡ last q n

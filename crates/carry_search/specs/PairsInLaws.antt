@@ -3,11 +3,11 @@ use Rattle.std.specs.Prelude.{◌≡◌, false, List, [], ◌∷◌, ◌++◌, �
 use Rattle.std.proofs.Common.{sym, ap, ◌∙◌, add-one, arith, get_or-set_same, get_or-set_other}
 use Rattle.std.proofs.Math.Bool.{So}
 use Rattle.std.proofs.Math.ListN.{get_or}
-use Rattle.theory.specs.Logic.BoolsLaws.{So_not}
-use Rattle.theory.specs.Logic.ListLaws.{length_tabulate, get_d_tabulate, tabulate_ext, tabulate_snoc}
-use Rattle.theory.specs.Plans.LinkLaws.{pair_is_lem}
+use Rattle.theory.proofs.Logic.BoolsLaws.{So_not}
+use Rattle.theory.proofs.Logic.ListLaws.{length_tabulate, get_d_tabulate, tabulate_ext, tabulate_snoc}
+use Rattle.theory.proofs.Plans.LinkLaws.{pair_is_lem}
 use Rattle.theory.specs.Carry.BreadthFirst.{is_at}
-use Rattle.theory.specs.Carry.BreadthFirstLaws.{is_at_in, is_at_out}
+use Rattle.theory.proofs.Carry.BreadthFirstLaws.{is_at_in, is_at_out}
 use Rattle.carry_search.specs.Chains.{pairs_in}
 
 module _ (xs ys : List ℕ) (c : ℕ) where

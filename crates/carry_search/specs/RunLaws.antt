@@ -3,11 +3,11 @@ use Rattle.std.specs.Prelude.{◌≡◌, Bool, true, false, cond, ℕ, ◌+◌, 
 use mathlib.Core.List.{List, [], ◌∷◌}
 use Rattle.std.proofs.Common.{arith}
 use Rattle.std.proofs.Math.ListN.{get_or}
-use Rattle.theory.specs.Logic.ListLaws.{length_tabulate}
+use Rattle.theory.proofs.Logic.ListLaws.{length_tabulate}
 use Rattle.theory.specs.Games.Game.{own}
-use Rattle.theory.specs.Plans.LinkLaws.{linked_left}
+use Rattle.theory.proofs.Plans.LinkLaws.{linked_left}
 use Rattle.theory.specs.Carry.BreadthFirst.{start_at, search}
-use Rattle.theory.specs.Carry.BreadthFirstLaws.{Among}
+use Rattle.theory.proofs.Carry.BreadthFirstLaws.{Among}
 use Rattle.theory.specs.Carry.Carry.{moves_of, found_from}
 use Rattle.table.specs.Table.{vertex_count, player_of, game_of}
 use Rattle.plan_links.specs.PlanTable.{position_count}

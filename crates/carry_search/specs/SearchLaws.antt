@@ -2,12 +2,12 @@
 use Rattle.std.specs.Prelude.{◌≡◌, refl, ◌⊎◌, List, [], ◌++◌, ℕ, suc, ◌+◌, ◌-◌, ◌*◌, ◌≤◌, ◌<◌, get_or}
 use Rattle.std.proofs.Common.{sym, ap, ◌∙◌, inl, inr, append-nil, not-suc-le-zero, add-one, arith}
 use Rattle.std.proofs.Math.Arith.{digits_lt}
-use Rattle.theory.specs.Logic.CountLaws.{digits_one}
+use Rattle.theory.proofs.Logic.CountLaws.{digits_one}
 use Rattle.theory.specs.Logic.Range.{tabulate}
-use Rattle.theory.specs.Plans.LinkLaws.{pair_is_lem}
+use Rattle.theory.proofs.Plans.LinkLaws.{pair_is_lem}
 use Rattle.theory.specs.Carry.BreadthFirst.{Found, start_at, visits, search}
-use Rattle.theory.specs.Carry.BreadthFirstLaws.{size, pair_at, Among, visits_append, Done, done_start, done_step, few}
-use Rattle.theory.specs.Carry.BreadthFirstLaws.{NoFewer, visits_no_fewer, no_fewer_trans, search_step, search_end, search_no_fewer}
+use Rattle.theory.proofs.Carry.BreadthFirstLaws.{size, pair_at, Among, visits_append, Done, done_start, done_step, few}
+use Rattle.theory.proofs.Carry.BreadthFirstLaws.{NoFewer, visits_no_fewer, no_fewer_trans, search_step, search_end, search_no_fewer}
 use Rattle.carry_search.specs.Chains.{pairs_in}
 use Rattle.carry_search.specs.PairsInLaws.{length_pairs_in, get_d_pairs_in}
 use Rattle.carry_search.specs.SearchMemory.{Memory, found_in, SearchRoom, Within}

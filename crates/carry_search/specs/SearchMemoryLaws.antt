@@ -4,7 +4,7 @@ use Rattle.std.proofs.Math.Path.{sym}
 use Rattle.std.proofs.Common.{ap, ◌∙◌, arith, length-append, lt-ltb, le-ltb}
 use Rattle.std.proofs.Math.ListN.{length, length-set}
 use Rattle.theory.specs.Carry.BreadthFirst.{Found, number_of, visit, visits}
-use Rattle.theory.specs.Carry.BreadthFirstLaws.{visits_append}
+use Rattle.theory.proofs.Carry.BreadthFirstLaws.{visits_append}
 use Rattle.table.specs.Limits.{position_limit}
 use Rattle.carry_search.specs.Chains.{pairs_in, chain_of, Added}
 use Rattle.carry_search.specs.PairsInLaws.{length_pairs_in, pairs_in_push}

@@ -4,16 +4,16 @@ use Rattle.std.specs.Prelude.{◌≡◌, refl, ◌↔◌, List, [], ◌∷◌, �
 use Rattle.std.proofs.Common.{sym, ap₂, ◌∙◌, arith, length-append, take_at}
 use Rattle.std.proofs.Math.Bool.{So}
 use Rattle.theory.specs.Logic.Range.{Before}
-use Rattle.theory.specs.Logic.ListLaws.{length_tabulate, get_d_tabulate}
+use Rattle.theory.proofs.Logic.ListLaws.{length_tabulate, get_d_tabulate}
 use Rattle.theory.specs.Games.Game.{Player, even, odd, Game, Succ, edge_count}
 use Rattle.theory.specs.Order.Order.{order}
-use Rattle.theory.specs.Order.OrderLaws.{order_in}
+use Rattle.theory.proofs.Order.OrderLaws.{order_in}
 use Rattle.theory.specs.Plans.Plan.{Won}
 use Rattle.theory.specs.Classes.Reduction.{quotient, reduced, class_of}
-use Rattle.theory.specs.Classes.ReductionLaws.{quotient_total, reduced_total, class_of_quotient, class_of_reduced}
-use Rattle.theory.specs.Classes.SizeLaws.{quotient_size, reduced_size, quotient_edges, reduced_edges}
-use Rattle.theory.specs.Winners.KeptWinners as games
-use Rattle.theory.specs.Games.AgreementLaws.{agree_winner, agree_sym, agree_edge_count}
+use Rattle.theory.proofs.Classes.ReductionLaws.{quotient_total, reduced_total, class_of_quotient, class_of_reduced}
+use Rattle.theory.proofs.Classes.SizeLaws.{quotient_size, reduced_size, quotient_edges, reduced_edges}
+use Rattle.theory.proofs.Winners.KeptWinners as games
+use Rattle.theory.proofs.Games.AgreementLaws.{agree_winner, agree_sym, agree_edge_count}
 use Rattle.table.specs.Limits.{vertex_limit, edge_limit}
 use Rattle.table.specs.Table.{vertex_count, table_edges, source_at, target_at, table_length, game_of}
 use Rattle.table.specs.Answers.{Row, Answer, accepted, Clean, written, after}
@@ -31,7 +31,7 @@ use Rattle.order_acceptor.specs.RelationCall.{relation_answer}
 use Rattle.order_acceptor.specs.RelationRulesLaws.{passed_below}
 use Rattle.classes.specs.ClassesCall.{class_rows, class_words, ClassesCall}
 use Rattle.reduction.specs.TableCall.{table_rows, TableCall}
-use Rattle.reduction.specs.TableRulesLaws.{table_accepted}
+use Rattle.reduction.proofs.TableRulesLaws.{table_accepted}
 use Rattle.claims.specs.WrittenMemory.{LeavesOrder, LeavesClasses, written_table, Faithful}
 
 -- ---- which calls leave the order and the classes: a line for each call and buffer

@@ -1,11 +1,6 @@
 pub mod Cases
-pub mod CasesLaws
 pub mod WrittenMemory
 pub mod Demands
 pub mod Sentences
-pub mod SentencesLaws
 pub mod Smallest
-pub mod SmallestLaws
-pub mod WorkedGames
 pub mod GovernedSentences
-pub mod GovernedSentencesLaws

@@ -1,3 +1,1 @@
 pub mod ReducedTwice
-pub mod ReducedTwiceLaws
-pub mod WorkedGames

@@ -2,7 +2,7 @@
 -- same player has. The functions of this crate promise it of the order call and of each call that leaves a game of classes.
 use Rattle.std.specs.Prelude.{◌≡◌, List, [], ◌∷◌, ℕ, ◌<◌, get_or}
 use Rattle.theory.specs.Games.Game.{even, odd, Game, edge_count}
-use Rattle.theory.specs.Winners.DeterminacyLaws.{winner}
+use Rattle.theory.proofs.Winners.DeterminacyLaws.{winner}
 use Rattle.theory.specs.Classes.Reduction.{reduced}
 use Rattle.table.specs.Table.{vertex_count, game_of}
 use Rattle.table.specs.TableWords.{owner_word}

@@ -5,9 +5,9 @@ use Rattle.std.proofs.Common.{◌∙◌}
 use Rattle.std.proofs.Math.Bool.{So}
 use Rattle.std.proofs.Math.Decide.{dec_lt, ℕ_discrete}
 use native.Mathlib.Omega.{arith}
-use Rattle.theory.specs.Logic.BoolsLaws.{clash, So_not, and_in, and_out}
+use Rattle.theory.proofs.Logic.BoolsLaws.{clash, So_not, and_in, and_out}
 use Rattle.theory.specs.Logic.Range.{first}
-use Rattle.theory.specs.Logic.RangeLaws.{first_is, first_ge, first_le, first_none, first_passes, first_before, first_skip}
+use Rattle.theory.proofs.Logic.RangeLaws.{first_is, first_ge, first_le, first_none, first_passes, first_before, first_skip}
 use Rattle.theory.specs.Classes.Reduction.{same_class}
 use Rattle.words.specs.Word.{digit, lowest_bit, Lowest, Rest}
 use Rattle.words.specs.LeftLaws.{Onward, onward_between, lowest_none}

@@ -9,11 +9,11 @@ use Rattle.std.proofs.Math.Seq.{get_or-set_other}
 use borrow.Author.Tests.{eq-eqb, ne_eqb}
 use Rattle.theory.specs.Logic.Bools.{bit}
 use Rattle.theory.specs.Logic.Range.{count, nth}
-use Rattle.theory.specs.Logic.CountLaws.{nth_count, count_le}
+use Rattle.theory.proofs.Logic.CountLaws.{nth_count, count_le}
 use Rattle.theory.specs.Order.Passes.{Rel}
 use Rattle.theory.specs.Order.Order.{Preorder}
 use Rattle.theory.specs.Classes.Reduction.{lowest, is_lowest, class_count, class_number, representative}
-use Rattle.theory.specs.Classes.ClassLaws.{lowest_le, lowest_lt, lowest_one, lowest_same, same_class_refl, class_count_le, representative_lt}
+use Rattle.theory.proofs.Classes.ClassLaws.{lowest_le, lowest_lt, lowest_one, lowest_same, same_class_refl, class_count_le, representative_lt}
 use Rattle.classes.specs.Numbering.{Numbered, Classed, Represented}
 
 pub numbered_start : (n : ℕ) (le : Rel) (classes reps : List ℕ) → Numbered n le 0 0 classes reps

@@ -8,16 +8,16 @@ use Rattle.std.proofs.Math.Arith.{digits_lt}
 use Rattle.std.proofs.Math.Dec.{eqb}
 use Rattle.theory.specs.Logic.Bools.{◌&◌}
 use Rattle.theory.specs.Logic.Range.{count, nth, tabulate}
-use Rattle.theory.specs.Logic.RangeLaws.{first_ext, first_le}
-use Rattle.theory.specs.Logic.CountLaws.{count_ext}
-use Rattle.theory.specs.Logic.ListLaws.{tabulate_ext}
+use Rattle.theory.proofs.Logic.RangeLaws.{first_ext, first_le}
+use Rattle.theory.proofs.Logic.CountLaws.{count_ext}
+use Rattle.theory.proofs.Logic.ListLaws.{tabulate_ext}
 use Rattle.theory.specs.Order.Passes.{Rel, rel_of}
 use Rattle.theory.specs.Order.Order.{order, Preorder}
 use Rattle.theory.specs.Order.Governed.{marks_by, relation_by, passes_by}
-use Rattle.theory.specs.Order.GovernedLaws.{relation_by_lem, preorder_by, length_by}
+use Rattle.theory.proofs.Order.GovernedLaws.{relation_by_lem, preorder_by, length_by}
 use Rattle.theory.specs.Classes.Reduction.{same_class, lowest, is_lowest, class_count, class_number, representative, class_of}
-use Rattle.theory.specs.Classes.ClassLaws.{class_count_le}
-use Rattle.theory.specs.Classes.QuotientLaws.{order_preorder}
+use Rattle.theory.proofs.Classes.ClassLaws.{class_count_le}
+use Rattle.theory.proofs.Classes.QuotientLaws.{order_preorder}
 use Rattle.table.specs.Limits.{vertex_limit}
 use Rattle.table.specs.Table.{vertex_count, game_of}
 use Rattle.table.specs.TableLaws.{game_n}

@@ -3,11 +3,11 @@
 use Rattle.std.specs.Prelude.{◌≡◌, List, [], ◌∷◌, ℕ}
 use Rattle.std.proofs.Common.{sym, ap, ◌∙◌}
 use Rattle.std.proofs.Math.Path.{ap₂}
-use Rattle.theory.specs.Logic.ListLaws.{tabulate_ext}
+use Rattle.theory.proofs.Logic.ListLaws.{tabulate_ext}
 use Rattle.theory.specs.Order.Passes.{Marks}
 use Rattle.theory.specs.Games.Game.{Game}
 use Rattle.theory.specs.Classes.Reduction.{class_count}
-use Rattle.theory.specs.Games.AgreementLaws.{agree_order, agree_class}
+use Rattle.theory.proofs.Games.AgreementLaws.{agree_order, agree_class}
 use Rattle.table.specs.Table.{vertex_count}
 use Rattle.table.specs.Answers.{Answer, judge, after}
 use Rattle.table.specs.AnswersLaws.{judge_past, after_past}

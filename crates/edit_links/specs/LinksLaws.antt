@@ -9,10 +9,10 @@ use native.Mathlib.Omega.{arith}
 use Rattle.std.proofs.Math.Seq.{get_or-set_same}
 use borrow.Author.Tests.{eqb-true, eq-eqb, ne_eqb, le-leb, lt-leb}
 use Rattle.theory.specs.Logic.Bools.{◌&◌}
-use Rattle.theory.specs.Logic.BoolsLaws.{clash, So_not, and_in, and_out}
+use Rattle.theory.proofs.Logic.BoolsLaws.{clash, So_not, and_in, and_out}
 use Rattle.theory.specs.Logic.Range.{first, tabulate}
-use Rattle.theory.specs.Logic.RangeLaws.{first_step, first_hit, first_end_lem, first_skip}
-use Rattle.theory.specs.Logic.ListLaws.{length_tabulate, get_d_tabulate}
+use Rattle.theory.proofs.Logic.RangeLaws.{first_step, first_hit, first_end_lem, first_skip}
+use Rattle.theory.proofs.Logic.ListLaws.{length_tabulate, get_d_tabulate}
 use Rattle.table.specs.Placing.{placed}
 use Rattle.table.specs.PlacingLaws.{placed_written}
 use Rattle.table.specs.AnswersLaws.{get_d_written}

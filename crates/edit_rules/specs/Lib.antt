@@ -1,13 +1,4 @@
 pub mod Edges
 pub mod EditParts
 pub mod Buffer
-pub mod BufferLaws
-pub mod EdgesLaws
-pub mod ListedPartLaws
-pub mod EditedLaws
-pub mod SearchLaws
-pub mod ScanLaws
-pub mod EditPartsLaws
-pub mod JudgeLaws
 pub mod EdgesRules
-pub mod EdgesRulesLaws

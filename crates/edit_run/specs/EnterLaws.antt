@@ -7,7 +7,7 @@ use Rattle.std.proofs.Math.Decide.{ℕ_discrete}
 use Rattle.std.proofs.Math.Numerals.{add-one}
 use Rattle.std.proofs.Math.ListN.{length}
 use Rattle.theory.specs.Logic.Bools.{bit}
-use Rattle.theory.specs.Logic.BoolsLaws.{bit_le, or_fails}
+use Rattle.theory.proofs.Logic.BoolsLaws.{bit_le, or_fails}
 use Rattle.table.specs.Limits.{edge_limit}
 use Rattle.table.specs.Table.{table_length}
 use Rattle.table.specs.Answers.{Row, row, accepted, refused, judge, Clean}

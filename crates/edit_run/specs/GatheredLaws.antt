@@ -4,7 +4,7 @@ use Rattle.std.proofs.Common.{sym, ap, ◌∙◌, append_assoc, arith, length-ap
 use Rattle.std.proofs.Math.ListN.{get_or-append}
 use Rattle.std.proofs.lemmas.List.{set-get_or}
 use Rattle.theory.specs.Logic.Range.{tabulate}
-use Rattle.theory.specs.Logic.ListLaws.{length_tabulate, get_d_tabulate, tabulate_ext, drop_tabulate}
+use Rattle.theory.proofs.Logic.ListLaws.{length_tabulate, get_d_tabulate, tabulate_ext, drop_tabulate}
 use Rattle.table.specs.Table.{vertex_count, table_edges, priority_at, owner_at, source_at, target_at, table_length, table_in}
 use Rattle.table.specs.TableLaws.{in_word}
 use Rattle.table.specs.Answers.{written}
@@ -12,9 +12,9 @@ use Rattle.table.specs.AnswersLaws.{get_d_written}
 use Rattle.table.specs.Placing.{placed}
 use Rattle.table.specs.PlacingLaws.{placed_written, placed_join, written_two, written_join}
 use Rattle.edit_rules.specs.EditParts.{Formed}
-use Rattle.edit_rules.specs.EditPartsLaws.{formed_room}
-use Rattle.edit_rules.specs.BufferLaws.{in_vertices, in_edges}
-use Rattle.edit_rules.specs.ListedPartLaws.{head, length_head, head_kept}
+use Rattle.edit_rules.proofs.EditPartsLaws.{formed_room}
+use Rattle.edit_rules.proofs.BufferLaws.{in_vertices, in_edges}
+use Rattle.edit_rules.proofs.ListedPartLaws.{head, length_head, head_kept}
 use Rattle.edit_trace.specs.Trace.{entry_count}
 use Rattle.edit_run.specs.Gathered.{JoinedWords, Gathered, edge_words}
 

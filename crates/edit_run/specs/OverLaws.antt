@@ -7,11 +7,11 @@ use mathlib.Core.List.{List, [], ◌∷◌}
 use Prim.Native.Nat.{ℕ, zero, suc, ◌+◌, ◌*◌, ◌≤◌, ◌<◌, max}
 use Rattle.std.proofs.Math.ListN.{length}
 use Rattle.theory.specs.Logic.Bools.{◌or◌, bit}
-use Rattle.theory.specs.Logic.BoolsLaws.{So_ext, or_false, or_out}
+use Rattle.theory.proofs.Logic.BoolsLaws.{So_ext, or_false, or_out}
 use Rattle.theory.specs.Logic.Range.{any_below, count, first, tabulate}
-use Rattle.theory.specs.Logic.RangeLaws.{first_passes}
-use Rattle.theory.specs.Logic.ListLaws.{tabulate_ext}
-use Rattle.theory.specs.Plans.LinkLaws.{pair_is_lem}
+use Rattle.theory.proofs.Logic.RangeLaws.{first_passes}
+use Rattle.theory.proofs.Logic.ListLaws.{tabulate_ext}
+use Rattle.theory.proofs.Plans.LinkLaws.{pair_is_lem}
 use Rattle.table.specs.Table.{vertex_count, table_edges, source_at, target_at, table_length, game_of}
 use Rattle.table.specs.Answers.{Row, accepted, refused, judge, Clean}
 use Rattle.table.specs.Acceptance.{acceptance_answer}
@@ -19,17 +19,17 @@ use Rattle.table.specs.declared.Acceptance.{Acceptance}
 use Rattle.table.specs.Reading.{lacks_edge}
 use Rattle.table.specs.WellFormed.{WellFormed}
 use Rattle.edit_rules.specs.Edges.{edges_in, with_edges, others, edited_edges, edited, edit_rows}
-use Rattle.edit_rules.specs.EdgesLaws.{with_vertices, with_edges_lem, length_with, edges_with, with_linked}
-use Rattle.edit_rules.specs.ListedPartLaws.{with_own}
-use Rattle.edit_rules.specs.EditedLaws.{edited_well}
+use Rattle.edit_rules.proofs.EdgesLaws.{with_vertices, with_edges_lem, length_with, edges_with, with_linked}
+use Rattle.edit_rules.proofs.ListedPartLaws.{with_own}
+use Rattle.edit_rules.proofs.EditedLaws.{edited_well}
 use Rattle.edit_rules.specs.EditParts.{Formed, edit_facts}
-use Rattle.edit_rules.specs.JudgeLaws.{facts_rows, source_outside, target_outside}
+use Rattle.edit_rules.proofs.JudgeLaws.{facts_rows, source_outside, target_outside}
 use Rattle.edit_rules.specs.declared.Edit.{Edit}
 use Rattle.edit_rules.specs.declared.Edit.TheVariants.{Arrival, Leaving}
 use Rattle.edit_trace.specs.Trace.{entry_count, entry_at, entries_in, entries_from, entries_of}
-use Rattle.edit_trace.specs.TraceLaws.{entries_all, entries_next, entries_none}
+use Rattle.edit_trace.proofs.TraceLaws.{entries_all, entries_next, entries_none}
 use Rattle.edit_trace.specs.Run.{toggle, toggled, entry_rows, run_from, run_over}
-use Rattle.edit_trace.specs.RunLaws.{toggle_is, run_next, run_stops, run_ends}
+use Rattle.edit_trace.proofs.RunLaws.{toggle_is, run_next, run_stops, run_ends}
 use Rattle.edit_run.specs.Gathered.{outside, Gathered}
 use Rattle.edit_run.specs.Turned.{leaving, turned, pair_at, edges_after}
 use Rattle.edit_run.specs.TurnedLaws.{leaving_tabulate, leaving_left, linked_counted, toggled_turned}

@@ -6,10 +6,10 @@ use Prim.Native.Nat.{ℕ, zero, suc, ◌+◌, ◌-◌, ◌*◌, ◌≤◌, ◌<�
 use Rattle.std.proofs.Math.Decide.{dec_lt, ℕ_discrete}
 use native.Mathlib.Omega.{arith}
 use Rattle.std.proofs.Math.ListN.{length}
-use Rattle.theory.specs.Logic.BoolsLaws.{or_fails}
+use Rattle.theory.proofs.Logic.BoolsLaws.{or_fails}
 use Rattle.theory.specs.Logic.Range.{first, tabulate}
-use Rattle.theory.specs.Logic.RangeLaws.{first_le, first_before}
-use Rattle.theory.specs.Logic.ListLaws.{length_tabulate, tabulate_ext}
+use Rattle.theory.proofs.Logic.RangeLaws.{first_le, first_before}
+use Rattle.theory.proofs.Logic.ListLaws.{length_tabulate, tabulate_ext}
 use Rattle.table.specs.Limits.{vertex_limit, edge_limit}
 use Rattle.table.specs.Table.{vertex_count, table_edges, priority_at, owner_at, table_length, table_in}
 use Rattle.table.specs.TableLaws.{in_word}
@@ -17,13 +17,13 @@ use Rattle.table.specs.Answers.{Clean, written}
 use Rattle.table.specs.Listing.{Appended}
 use Rattle.table.specs.ListingLaws.{listed_sources, listed_targets}
 use Rattle.edit_rules.specs.Edges.{with_edges}
-use Rattle.edit_rules.specs.EdgesLaws.{with_vertices, with_edges_lem, length_with}
-use Rattle.edit_rules.specs.EditPartsLaws.{formed_room}
-use Rattle.edit_rules.specs.ListedPartLaws.{head, with_parts}
-use Rattle.edit_rules.specs.BufferLaws.{in_vertices}
+use Rattle.edit_rules.proofs.EdgesLaws.{with_vertices, with_edges_lem, length_with}
+use Rattle.edit_rules.proofs.EditPartsLaws.{formed_room}
+use Rattle.edit_rules.proofs.ListedPartLaws.{head, with_parts}
+use Rattle.edit_rules.proofs.BufferLaws.{in_vertices}
 use Rattle.edit_rules.specs.EditParts.{Formed}
 use Rattle.edit_links.specs.Links.{Pairs, Linked}
-use Rattle.edit_trace.specs.PaddedLaws.{padded_in}
+use Rattle.edit_trace.proofs.PaddedLaws.{padded_in}
 use Rattle.edit_run.specs.RunResult.{RunResult}
 use Rattle.edit_trace.specs.Trace.{entry_count, entry_at, entries_of}
 use Rattle.edit_trace.specs.Run.{padded}

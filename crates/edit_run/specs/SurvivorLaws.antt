@@ -11,12 +11,12 @@ use native.Mathlib.Omega.{arith}
 use Rattle.std.proofs.Math.Dec.{eqb}
 use borrow.Author.Tests.{eqb-true, eqb-false, eq-eqb, ne_eqb, le-leb, lt-leb, leb-true, leb-false, le-ltb}
 use Rattle.theory.specs.Logic.Bools.{◌&◌}
-use Rattle.theory.specs.Logic.BoolsLaws.{decide, clash, So_ext, So_not, and_in, and_out, not_in, not_out}
+use Rattle.theory.proofs.Logic.BoolsLaws.{decide, clash, So_ext, So_not, and_in, and_out, not_in, not_out}
 use Rattle.theory.specs.Logic.Range.{first, tabulate}
-use Rattle.theory.specs.Logic.RangeLaws.{first_ge, first_passes, first_least}
-use Rattle.theory.specs.Logic.ListLaws.{tabulate_snoc}
+use Rattle.theory.proofs.Logic.RangeLaws.{first_ge, first_passes, first_least}
+use Rattle.theory.proofs.Logic.ListLaws.{tabulate_snoc}
 use Rattle.edit_rules.specs.Edges.{others}
-use Rattle.edit_rules.specs.EdgesLaws.{others_append, others_all}
+use Rattle.edit_rules.proofs.EdgesLaws.{others_append, others_all}
 use Rattle.edit_links.specs.Links.{pair_is, link_of, Linked}
 use Rattle.edit_trace.specs.Trace.{entries_of}
 use Rattle.edit_run.specs.Turned.{turned, pair_at, edges_after, passing_below}

@@ -9,11 +9,11 @@ use native.Mathlib.Omega.{arith}
 use Rattle.std.proofs.Math.Dec.{eqb}
 use borrow.Author.Tests.{eqb-true, eq-eqb, ne_eqb}
 use Rattle.theory.specs.Logic.Bools.{◌&◌, bit}
-use Rattle.theory.specs.Logic.BoolsLaws.{decide, clash, So_ext, So_not, and_in, and_out}
+use Rattle.theory.proofs.Logic.BoolsLaws.{decide, clash, So_ext, So_not, and_in, and_out}
 use Rattle.theory.specs.Logic.Range.{first, count, tabulate}
-use Rattle.theory.specs.Logic.RangeLaws.{first_ge, first_le, first_passes, first_hit, first_step}
-use Rattle.theory.specs.Logic.CountLaws.{count_ext, count_none}
-use Rattle.theory.specs.Logic.ListLaws.{length_tabulate}
+use Rattle.theory.proofs.Logic.RangeLaws.{first_ge, first_le, first_passes, first_hit, first_step}
+use Rattle.theory.proofs.Logic.CountLaws.{count_ext, count_none}
+use Rattle.theory.proofs.Logic.ListLaws.{length_tabulate}
 use Rattle.table.specs.Limits.{edge_limit, link_limit}
 use Rattle.index.specs.Index.{from, source_count, Column}
 use Rattle.edit_links.specs.Links.{pair_is, link_of, Pairs, Linked}

@@ -3,10 +3,10 @@
 use Rattle.std.specs.Prelude.{◌≡◌, ◌↔◌, List, [], ◌∷◌, ℕ, suc, ◌+◌, ◌*◌, ◌≤◌, ◌<◌}
 use Rattle.std.proofs.Common.{sym, ◌∙◌, arith}
 use Rattle.std.proofs.Math.Bool.{So}
-use Rattle.theory.specs.Logic.BoolsLaws.{and_in, and_out}
-use Rattle.theory.specs.Order.SimulationLaws.{moves_mono}
+use Rattle.theory.proofs.Logic.BoolsLaws.{and_in, and_out}
+use Rattle.theory.proofs.Order.SimulationLaws.{moves_mono}
 use Rattle.theory.specs.Order.Governed.{GovernedBisimulation, Bisimilar, governed, governed_passes}
-use Rattle.theory.specs.Order.GovernedLaws.{governed_in, governed_out, length_governed_marks, governed_passes_le}
+use Rattle.theory.proofs.Order.GovernedLaws.{governed_in, governed_out, length_governed_marks, governed_passes_le}
 use Rattle.table.specs.Table.{vertex_count, pair_count, game_of}
 use Rattle.table.specs.TableLaws.{game_n}
 use Rattle.table.specs.Answers.{accepted, refused}

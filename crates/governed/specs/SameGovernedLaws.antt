@@ -7,7 +7,7 @@ use Rattle.theory.specs.Logic.Range.{tabulate}
 use Rattle.theory.specs.Order.Passes.{Rel}
 use Rattle.theory.specs.Classes.Reduction.{class_count, class_number}
 use Rattle.theory.specs.Order.Governed.{governed_marks, governed, governed_passes, marks_by, passes_by}
-use Rattle.theory.specs.Games.AgreementLaws.{agree_marks_by, agree_passes_by, agree_governed}
+use Rattle.theory.proofs.Games.AgreementLaws.{agree_marks_by, agree_passes_by, agree_governed}
 use Rattle.table.specs.Table.{game_of}
 use Rattle.table.specs.Answers.{Answer}
 use Rattle.table.specs.WellFormed.{WellFormed}

@@ -1,4 +1,2 @@
 pub mod Images
-pub mod ImagesLaws
 pub mod ImagesRules
-pub mod ImagesRulesLaws

@@ -7,13 +7,13 @@ use native.Mathlib.Omega.{arith}
 use Rattle.std.proofs.Math.Dec.{eqb}
 use borrow.Author.Tests.{lt-ltb, le-ltb, eqb-true, eqb-false, eq-eqb}
 use Rattle.theory.specs.Logic.Bools.{◌&◌}
-use Rattle.theory.specs.Logic.BoolsLaws.{and_in, and_out}
-use Rattle.theory.specs.Logic.RangeLaws.{first_found, first_before, first_le}
-use Rattle.theory.specs.Logic.ListLaws.{length_tabulate, get_d_tabulate}
+use Rattle.theory.proofs.Logic.BoolsLaws.{and_in, and_out}
+use Rattle.theory.proofs.Logic.RangeLaws.{first_found, first_before, first_le}
+use Rattle.theory.proofs.Logic.ListLaws.{length_tabulate, get_d_tabulate}
 use Rattle.theory.specs.Games.Game.{same, Succ}
 use Rattle.theory.specs.Merges.Merged.{Single, Merged, Onto, GovernedQuotient}
-use Rattle.theory.specs.Merges.MergedLaws.{merged_agree, onto_agree}
-use Rattle.theory.specs.Merges.GovernedMergeLaws.{quotient_merged, quotient_onto}
+use Rattle.theory.proofs.Merges.MergedLaws.{merged_agree, onto_agree}
+use Rattle.theory.proofs.Merges.GovernedMergeLaws.{quotient_merged, quotient_onto}
 use Rattle.table.specs.Table.{vertex_count, table_edges, owner_at, source_at, target_at, player_of, is_edge, Listed, game_of}
 use Rattle.table.specs.TableLaws.{edge_out}
 use Rattle.table.specs.Answers.{accepted}
@@ -23,8 +23,8 @@ use Rattle.large_images.specs.Images.{class_at, start_at, certificate_length}
 use Rattle.large_images.specs.ImagesRules.{Inner, GoesOn, member_of, image_of, after_of, Member, Start, After, Certified}
 use Rattle.large_reduction.specs.ReductionCall.{reduction_answer}
 use Rattle.large_reduction.specs.ReductionRules.{Classed}
-use Rattle.large_reduction.specs.ReductionRulesLaws.{reduction_accepted, reduction_accepts}
-use Rattle.large_reduction.specs.ReductionLaws.{listed_succ, reduction_merged, reduction_onto, chain_merged, chain_onto}
+use Rattle.large_reduction.proofs.ReductionRulesLaws.{reduction_accepted, reduction_accepts}
+use Rattle.large_reduction.proofs.ReductionLaws.{listed_succ, reduction_merged, reduction_onto, chain_merged, chain_onto}
 use Rattle.large_merges.specs.Certificate.{Rowed, first_image, row_start, edge_to, lowest_member, reduction_word, reduction_words, chained_classes}
 
 module _ (g r l : List ℕ) (gf : LargeFormed g) (rf : LargeFormed r) (rows : Rowed r) (x : Merged (game_of g) (game_of r) (class_at l)) where

@@ -1,11 +1,4 @@
 pub mod Places
-pub mod PlacesLaws
 pub mod Runs
-pub mod RunLaws
-pub mod SolutionLaws
 pub mod Certificate
-pub mod CertificateLaws
 pub mod PlaceRules
-pub mod PlaceRulesLaws
-pub mod Worked
-pub mod RefusalLaws

@@ -4,15 +4,15 @@ use Rattle.std.specs.Prelude.{◌≡◌, List, ℕ, ◌<◌}
 use Rattle.std.proofs.Common.{◌∙◌}
 use Rattle.theory.specs.Games.Game.{other}
 use Rattle.theory.specs.Plans.Plan.{Won, WonSmall}
-use Rattle.theory.specs.Winners.DeterminacyLaws.{winner, won_small}
+use Rattle.theory.proofs.Winners.DeterminacyLaws.{winner, won_small}
 use Rattle.table.specs.Table.{vertex_count, game_of}
 use Rattle.table.specs.Answers.{accepted}
 use Rattle.large_moves.specs.Chosen.{winner_of}
 use Rattle.large_solution.specs.Places.{solution_answer}
-use Rattle.large_solution.specs.SolutionLaws.{solution_won, solution_lost, solution_winner}
+use Rattle.large_solution.proofs.SolutionLaws.{solution_won, solution_lost, solution_winner}
 use Rattle.large_images.specs.Images.{class_at}
 use Rattle.large_reduction.specs.ReductionCall.{reduction_answer}
-use Rattle.large_reduction.specs.ReductionLaws.{reduction_merged, reduction_total, reduction_won, reduction_winner}
+use Rattle.large_reduction.proofs.ReductionLaws.{reduction_merged, reduction_total, reduction_won, reduction_winner}
 
 module _ (g r l c counts : List ℕ) (reduction : reduction_answer g r l c ≡ accepted counts) where
   class_lt : (v : ℕ) → v < vertex_count g → class_at l v < vertex_count r

@@ -3,15 +3,15 @@
 use Rattle.std.specs.Prelude.{◌≡◌, refl, List, [], ◌∷◌, ℕ}
 use Rattle.std.proofs.Common.{arith}
 use Rattle.theory.specs.Games.Game.{even, odd}
-use Rattle.theory.specs.Winners.DeterminacyLaws.{winner}
-use Rattle.theory.specs.Examples.Compute.{compute}
+use Rattle.theory.proofs.Winners.DeterminacyLaws.{winner}
+use Rattle.theory.proofs.Examples.Compute.{compute}
 use Rattle.table.specs.Table.{player_of, game_of}
 use Rattle.table.specs.Answers.{judge, accepted}
 use Rattle.table.specs.Reading.{first_owner, first_end}
 use Rattle.large_table.specs.Reading.{large_rows}
 use Rattle.large_moves.specs.Moves.{move_strays, keeps_edge, edge_leaves, first_winner, first_stray, first_leaving, move_rows}
 use Rattle.large_solution.specs.Places.{is_misplaced, is_over, place_over, run_stop, run_fails, climbs_by, edge_climbs, first_beyond, first_misplaced, first_bad_run, first_climb, place_rows, solution_answer}
-use Rattle.large_reduction.specs.Worked.{six, four, classes, certificate, six_accepted}
+use Rattle.large_reduction.proofs.Worked.{six, four, classes, certificate, six_accepted}
 use Rattle.large_winners.specs.WinnersLaws.{class_winner}
 
 -- the winners, and the moves by edges 0, 2, 3 and 4

@@ -6,7 +6,7 @@ use Rattle.std.specs.Int.Bits.{bit_and, bit_or}
 use Rattle.std.proofs.lemmas.Nat.{and_mask}
 use Rattle.std.proofs.Math.ListN.{get_or-eq_default}
 use Rattle.theory.specs.Logic.Bools.{◌or◌}
-use Rattle.theory.specs.Logic.BoolsLaws.{or_first, or_false}
+use Rattle.theory.proofs.Logic.BoolsLaws.{or_first, or_false}
 use Rattle.words.specs.Word.{word_bits, digit}
 use Rattle.words.specs.WordLaws.{digit_zero, digit_or, digit_shift, digit_high, digit_mod, digit_up, digit_up_low}
 use Rattle.marks.specs.Marks.{is_mark}

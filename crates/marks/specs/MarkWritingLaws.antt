@@ -8,10 +8,10 @@ use Rattle.std.specs.Int.Bits.{bit_and, or_zero_l}
 use Rattle.std.proofs.lemmas.Nat.{or_lt, and_mask}
 use Rattle.std.proofs.Math.ListN.{get_or-eq_default}
 use Rattle.theory.specs.Logic.Bools.{◌or◌}
-use Rattle.theory.specs.Logic.BoolsLaws.{or_first, or_false}
+use Rattle.theory.proofs.Logic.BoolsLaws.{or_first, or_false}
 use Rattle.theory.specs.Logic.Range.{tabulate}
-use Rattle.theory.specs.Logic.ListLaws.{length_tabulate, get_d_tabulate, tabulate_by, after_set}
-use Rattle.theory.specs.Logic.CountLaws.{row_lt, col_lt}
+use Rattle.theory.proofs.Logic.ListLaws.{length_tabulate, get_d_tabulate, tabulate_by, after_set}
+use Rattle.theory.proofs.Logic.CountLaws.{row_lt, col_lt}
 use Rattle.theory.specs.Order.Passes.{Rel, Marks, marked}
 use Rattle.table.specs.Answers.{written}
 use Rattle.table.specs.AnswersLaws.{length_written, get_d_written, get_d_written_beyond}

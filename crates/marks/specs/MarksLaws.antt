@@ -6,10 +6,10 @@ use Rattle.std.proofs.Math.Bool.{So}
 use Rattle.std.proofs.Math.Decide.{dec_lt}
 use Rattle.std.proofs.lemmas.Nat.{shr_le}
 use Rattle.std.proofs.Math.ListN.{get_or-eq_default}
-use Rattle.theory.specs.Logic.BoolsLaws.{clash, So_ext, So_not}
+use Rattle.theory.proofs.Logic.BoolsLaws.{clash, So_ext, So_not}
 use Rattle.theory.specs.Logic.Range.{any_below}
-use Rattle.theory.specs.Logic.RangeLaws.{any_in, any_out, from_in, from_out, from_end}
-use Rattle.theory.specs.Logic.ListLaws.{length_tabulate, get_d_tabulate}
+use Rattle.theory.proofs.Logic.RangeLaws.{any_in, any_out, from_in, from_out, from_end}
+use Rattle.theory.proofs.Logic.ListLaws.{length_tabulate, get_d_tabulate}
 use Rattle.theory.specs.Order.Passes.{Marks, marked, rel_of}
 use Rattle.words.specs.Word.{word_bits, digit}
 use Rattle.words.specs.WordLaws.{digit_zero, digit_shift, digit_high, word_some}

@@ -4,12 +4,12 @@ use Rattle.std.proofs.Math.Path.{ap, fun_ext}
 use Rattle.std.proofs.Common.{◌∙◌, mul-one, add_comm}
 use Rattle.std.proofs.Math.Bool.{true, false, beq, not-not}
 use Rattle.std.proofs.Math.Arith.{digits_lt}
-use Rattle.theory.specs.Logic.BoolsLaws.{So_ext, So_not, clash, not_in, not_out, imp_fails}
-use Rattle.theory.specs.Logic.RangeLaws.{all_fails}
+use Rattle.theory.proofs.Logic.BoolsLaws.{So_ext, So_not, clash, not_in, not_out, imp_fails}
+use Rattle.theory.proofs.Logic.RangeLaws.{all_fails}
 use Rattle.theory.specs.Order.Passes.{rel_of}
 use Rattle.theory.specs.Games.Game.{even, same, Game, Succ}
 use Rattle.theory.specs.Order.Order.{all_next, any_next, moves, test}
-use Rattle.theory.specs.Order.OrderLaws.{all_next_out, any_next_in, any_next_out}
+use Rattle.theory.proofs.Order.OrderLaws.{all_next_out, any_next_in, any_next_out}
 use Rattle.table.specs.Limits.{vertex_limit}
 use Rattle.table.specs.Table.{vertex_count, owner_at, game_of}
 use Rattle.table.specs.TableLaws.{own_even}

@@ -9,7 +9,7 @@ use Rattle.theory.specs.Order.Passes.{Marks, marked, rel_of}
 use Rattle.theory.specs.Games.Game.{even, Game}
 use Rattle.theory.specs.Order.Simulation.{Below}
 use Rattle.theory.specs.Order.Order.{order, order_marks, order_passes}
-use Rattle.theory.specs.Order.OrderLaws.{order_in, order_out, length_order_marks}
+use Rattle.theory.proofs.Order.OrderLaws.{order_in, order_out, length_order_marks}
 use Rattle.table.specs.Table.{vertex_count, pair_count, game_of}
 use Rattle.table.specs.TableLaws.{game_n}
 use Rattle.table.specs.Answers.{accepted, refused, written}

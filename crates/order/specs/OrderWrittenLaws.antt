@@ -3,7 +3,7 @@ use Rattle.std.specs.Prelude.{◌≡◌, Bool, List, ℕ, length}
 use Rattle.std.proofs.Common.{ap, ◌∙◌}
 use Rattle.theory.specs.Order.Passes.{Rel}
 use Rattle.theory.specs.Order.Governed.{marks_by, passes_by}
-use Rattle.theory.specs.Order.GovernedLaws.{length_by}
+use Rattle.theory.proofs.Order.GovernedLaws.{length_by}
 use Rattle.table.specs.Table.{vertex_count, game_of}
 use Rattle.marks.specs.Marks.{bytes_for, marks_length}
 use Rattle.marks.specs.MarksLaws.{length_bytes}

@@ -4,7 +4,7 @@ use Rattle.std.proofs.Common.{sym, ap, ◌∙◌}
 use Rattle.theory.specs.Order.Passes.{Marks}
 use Rattle.theory.specs.Games.Game.{Game}
 use Rattle.theory.specs.Order.Order.{order_marks, order_passes}
-use Rattle.theory.specs.Games.AgreementLaws.{agree_order_marks, agree_passes}
+use Rattle.theory.proofs.Games.AgreementLaws.{agree_order_marks, agree_passes}
 use Rattle.table.specs.Table.{game_of}
 use Rattle.table.specs.Answers.{Answer, after}
 use Rattle.table.specs.AnswersLaws.{judge_past, after_past}

@@ -5,8 +5,8 @@ use Rattle.std.proofs.Common.{◌∙◌, arith, lt-ltb, le-ltb}
 use Rattle.std.proofs.Math.Logic.{inl, inr}
 use Rattle.std.proofs.Math.Bool.{true, false, not, So}
 use mathlib.Core.List.{List, [], ◌∷◌}
-use Rattle.theory.specs.Logic.BoolsLaws.{decide, clash, and_in, and_out, and_first, and_one, not_in, not_out}
-use Rattle.theory.specs.Logic.RangeLaws.{first_le}
+use Rattle.theory.proofs.Logic.BoolsLaws.{decide, clash, and_in, and_out, and_first, and_one, not_in, not_out}
+use Rattle.theory.proofs.Logic.RangeLaws.{first_le}
 use Rattle.theory.specs.Order.Passes.{Rel}
 use Rattle.theory.specs.Games.Game.{Game}
 use Rattle.table.specs.Table.{vertex_count, pair_count, game_of}

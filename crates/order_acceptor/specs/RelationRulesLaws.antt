@@ -8,14 +8,14 @@ use Rattle.std.proofs.Math.Bool.{false, So}
 use mathlib.Core.List.{List, []}
 use Rattle.std.proofs.Math.Arith.{digits_lt, digits_div, digits_mod}
 use borrow.Author.Tests.{ltb-false, le-ltb}
-use Rattle.theory.specs.Logic.BoolsLaws.{clash, decide, So_not, and_in, and_out, not_in, not_out}
-use Rattle.theory.specs.Logic.RangeLaws.{none_found, found_none}
-use Rattle.theory.specs.Logic.CountLaws.{row_lt, col_lt}
+use Rattle.theory.proofs.Logic.BoolsLaws.{clash, decide, So_not, and_in, and_out, not_in, not_out}
+use Rattle.theory.proofs.Logic.RangeLaws.{none_found, found_none}
+use Rattle.theory.proofs.Logic.CountLaws.{row_lt, col_lt}
 use Rattle.theory.specs.Order.Passes.{Rel}
 use Rattle.theory.specs.Games.Game.{even, Game}
 use Rattle.theory.specs.Order.Simulation.{Below}
-use Rattle.theory.specs.Order.SimulationLaws.{moves_mono}
-use Rattle.theory.specs.Order.OrderLaws.{passes_in, passes_out, length_order_marks}
+use Rattle.theory.proofs.Order.SimulationLaws.{moves_mono}
+use Rattle.theory.proofs.Order.OrderLaws.{passes_in, passes_out, length_order_marks}
 use Rattle.table.specs.Table.{vertex_count, game_of}
 use Rattle.table.specs.TableLaws.{game_n}
 use Rattle.table.specs.Answers.{accepted, refused}

@@ -6,7 +6,7 @@ use Rattle.std.proofs.Math.Bool.{So}
 use Rattle.std.proofs.Math.Nat.{add-mul, mul-le-mul_right}
 use Rattle.std.proofs.Math.Arith.{digits_lt, digits_div, digits_mod}
 use Rattle.theory.specs.Logic.Range.{first}
-use Rattle.theory.specs.Logic.RangeLaws.{first_step, first_hit, first_end_lem}
+use Rattle.theory.proofs.Logic.RangeLaws.{first_step, first_hit, first_end_lem}
 use Rattle.theory.specs.Order.Passes.{Rel}
 use Rattle.theory.specs.Games.Game.{Game}
 use Rattle.table.specs.Table.{vertex_count, pair_count}

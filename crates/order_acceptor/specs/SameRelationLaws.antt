@@ -4,11 +4,11 @@ use Rattle.std.proofs.Common.{sym, ◌∙◌}
 use Rattle.std.proofs.Math.Path.{ap, ap₂}
 use Rattle.std.proofs.Math.Bool.{not}
 use Rattle.theory.specs.Logic.Bools.{◌&◌}
-use Rattle.theory.specs.Logic.RangeLaws.{first_ext}
-use Rattle.theory.specs.Logic.CountLaws.{row_lt, col_lt}
+use Rattle.theory.proofs.Logic.RangeLaws.{first_ext}
+use Rattle.theory.proofs.Logic.CountLaws.{row_lt, col_lt}
 use Rattle.theory.specs.Order.Passes.{Rel}
 use Rattle.theory.specs.Games.Game.{even, Game}
-use Rattle.theory.specs.Games.AgreementLaws.{equal_priority_agree, test_agree}
+use Rattle.theory.proofs.Games.AgreementLaws.{equal_priority_agree, test_agree}
 use Rattle.table.specs.Table.{vertex_count, pair_count, game_of}
 use Rattle.table.specs.TableLaws.{game_n}
 use Rattle.table.specs.AnswersLaws.{judge_past}

@@ -6,7 +6,7 @@ use Rattle.std.proofs.Math.Bool.{not}
 use Rattle.std.proofs.Math.Decide.{ℕ_discrete}
 use borrow.Author.Tests.{eqb-true, eq-eqb, ltb-true, lt-ltb, le-ltb}
 use Rattle.theory.specs.Logic.Bools.{◌&◌, ◌or◌}
-use Rattle.theory.specs.Logic.BoolsLaws.{So_ext, and_in, and_out, or_left, or_right, or_out, and_first}
+use Rattle.theory.proofs.Logic.BoolsLaws.{So_ext, and_in, and_out, or_left, or_right, or_out, and_first}
 use Rattle.order_sets.specs.Losses.{differs}
 
 module _ (words : List ℕ) (from value base : ℕ) where

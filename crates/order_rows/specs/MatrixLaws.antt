@@ -5,11 +5,11 @@ use Rattle.std.proofs.Common.{sym, ap, ap₂, ◌∙◌, arith, get_or-set_same,
 use Rattle.std.proofs.Math.Decide.{ℕ_discrete}
 use Rattle.std.proofs.Math.Arith.{digits_div, digits_mod}
 use Rattle.theory.specs.Logic.Bools.{◌&◌, ◌or◌}
-use Rattle.theory.specs.Logic.BoolsLaws.{and_assoc, and_neither, and_one}
+use Rattle.theory.proofs.Logic.BoolsLaws.{and_assoc, and_neither, and_one}
 use Rattle.theory.specs.Logic.Range.{any_below}
-use Rattle.theory.specs.Logic.RangeLaws.{any_append, any_ext}
-use Rattle.theory.specs.Logic.CountLaws.{digits_one, digits_same}
-use Rattle.theory.specs.Logic.ListLaws.{zeros}
+use Rattle.theory.proofs.Logic.RangeLaws.{any_append, any_ext}
+use Rattle.theory.proofs.Logic.CountLaws.{digits_one, digits_same}
+use Rattle.theory.proofs.Logic.ListLaws.{zeros}
 use Rattle.words.specs.Word.{word_bits, digit}
 use Rattle.words.specs.Words.{has}
 use Rattle.order_sets.specs.Sets.{Is, With, united_in}

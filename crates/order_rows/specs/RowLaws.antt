@@ -5,10 +5,10 @@ use Rattle.std.proofs.Math.Decide.{ℕ_discrete}
 use native.Mathlib.Omega.{arith}
 use Rattle.std.proofs.Math.Arith.{digits_mod}
 use Rattle.theory.specs.Logic.Bools.{◌or◌}
-use Rattle.theory.specs.Logic.BoolsLaws.{So_ext, or_left, or_right, or_out}
+use Rattle.theory.proofs.Logic.BoolsLaws.{So_ext, or_left, or_right, or_out}
 use Rattle.theory.specs.Logic.Range.{any_below, count, first}
-use Rattle.theory.specs.Logic.RangeLaws.{any_in, any_out, any_append, any_ext, first_is, first_ge, first_passes, first_before, first_skip}
-use Rattle.theory.specs.Logic.CountLaws.{count_append, count_ext}
+use Rattle.theory.proofs.Logic.RangeLaws.{any_in, any_out, any_append, any_ext, first_is, first_ge, first_passes, first_before, first_skip}
+use Rattle.theory.proofs.Logic.CountLaws.{count_append, count_ext}
 use Rattle.words.specs.Word.{word_bits, digit}
 use Rattle.words.specs.Words.{has}
 use Rattle.words.specs.WordsLaws.{has_at}

@@ -3,9 +3,9 @@ use Rattle.std.specs.Prelude.{◌≡◌, Bool, true, false, not, List, ℕ, ◌+
 use Rattle.std.proofs.Math.Path.{sym, ap}
 use Rattle.std.proofs.Common.{ap₂, ◌∙◌, subst, arith, eqb-true, eq-eqb, lt-ltb}
 use Rattle.theory.specs.Logic.Bools.{◌&◌, ◌or◌}
-use Rattle.theory.specs.Logic.BoolsLaws.{So_ext, eqb_flip, So_not, and_out, and_true, and_one, and_flip, or_first, or_flip}
+use Rattle.theory.proofs.Logic.BoolsLaws.{So_ext, eqb_flip, So_not, and_out, and_true, and_one, and_flip, or_first, or_flip}
 use Rattle.theory.specs.Logic.Range.{any_below}
-use Rattle.theory.specs.Logic.RangeLaws.{any_more}
+use Rattle.theory.proofs.Logic.RangeLaws.{any_more}
 use Rattle.theory.specs.Order.Passes.{Rel}
 use Rattle.table.specs.Table.{vertex_count, table_edges, source_at, target_at, is_edge, game_of}
 use Rattle.table.specs.TableLaws.{edge_out, edge_target, own_even}

@@ -7,15 +7,15 @@ use Rattle.std.proofs.Math.Bool.{true, false, not, So}
 use native.Mathlib.Omega.{arith}
 use borrow.Author.Tests.{ltb-true, lt-ltb}
 use Rattle.theory.specs.Logic.Bools.{◌&◌, ◌or◌, imp}
-use Rattle.theory.specs.Logic.BoolsLaws.{decide, clash, So_ext, So_not, or_left, or_right, or_out, and_in, and_out, and_fails, not_out, and_first, and_one, and_assoc}
+use Rattle.theory.proofs.Logic.BoolsLaws.{decide, clash, So_ext, So_not, or_left, or_right, or_out, and_in, and_out, and_fails, not_out, and_first, and_one, and_assoc}
 use Rattle.theory.specs.Logic.Range.{any_below}
-use Rattle.theory.specs.Logic.RangeLaws.{any_in, any_out, any_ext, any_fails, first_le, first_before}
+use Rattle.theory.proofs.Logic.RangeLaws.{any_in, any_out, any_ext, any_fails, first_le, first_before}
 use Rattle.theory.specs.Order.Passes.{Rel}
 use Rattle.theory.specs.Games.Game.{even, Game, own, Succ, Total}
 use Rattle.theory.specs.Order.Order.{any_next}
-use Rattle.theory.specs.Order.OrderLaws.{any_next_in, any_next_out}
+use Rattle.theory.proofs.Order.OrderLaws.{any_next_in, any_next_out}
 use Rattle.theory.specs.Order.Rows.{united, fall, united_lost, fails, loses}
-use Rattle.theory.specs.Order.RowsLaws.{any_same, fall_same, fall_none}
+use Rattle.theory.proofs.Order.RowsLaws.{any_same, fall_same, fall_none}
 use Rattle.words.specs.Word.{word_bits, digit, lowest_bit, Lowest, Rest}
 use Rattle.words.specs.LeftLaws.{Onward, rest_above, onward_between}
 use Rattle.order_sets.specs.Sets.{Is, With, PutIn, united_in, apart_in, struck}

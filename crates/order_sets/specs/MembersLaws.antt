@@ -5,9 +5,9 @@ use Rattle.std.proofs.Common.{sym, ◌∙◌, subst, inl, inr, arith, eqb-true, 
 use Rattle.std.proofs.Math.Bool.{So}
 use Rattle.std.proofs.Math.Decide.{dec_lt, ℕ_discrete}
 use Rattle.theory.specs.Logic.Bools.{◌&◌, ◌or◌}
-use Rattle.theory.specs.Logic.BoolsLaws.{clash, So_ext, So_not, and_in, and_out, or_left, or_right, or_out}
+use Rattle.theory.proofs.Logic.BoolsLaws.{clash, So_ext, So_not, and_in, and_out, or_left, or_right, or_out}
 use Rattle.theory.specs.Logic.Range.{first}
-use Rattle.theory.specs.Logic.RangeLaws.{first_ge, first_le, first_before, first_passes}
+use Rattle.theory.proofs.Logic.RangeLaws.{first_ge, first_le, first_before, first_passes}
 
 module _ (p : ℕ → Bool) (e : ℕ) where
   -- where the loop stands: at a member, or at the end

@@ -6,16 +6,16 @@ use Rattle.std.proofs.Math.Bool.{So}
 use Rattle.std.proofs.Math.Decide.{ℕ_discrete}
 use Rattle.std.proofs.Math.Arith.{digits_div, digits_mod}
 use Rattle.theory.specs.Logic.Bools.{◌&◌, ◌or◌}
-use Rattle.theory.specs.Logic.BoolsLaws.{decide, clash, So_ext, So_not, and_in, and_out, and_fails, and_true, or_false, not_in, not_out, and_one, and_first, or_first}
+use Rattle.theory.proofs.Logic.BoolsLaws.{decide, clash, So_ext, So_not, and_in, and_out, and_fails, and_true, or_false, not_in, not_out, and_one, and_first, or_first}
 use Rattle.theory.specs.Logic.Range.{any_below, first, count, sum}
-use Rattle.theory.specs.Logic.RangeLaws.{any_in, any_fails, first_ge, first_before}
-use Rattle.theory.specs.Logic.CountLaws.{count_ext, count_none, count_append}
-use Rattle.theory.specs.Logic.SumLaws.{sum_none, sum_next, sum_ext, sum_skip, count_rows}
+use Rattle.theory.proofs.Logic.RangeLaws.{any_in, any_fails, first_ge, first_before}
+use Rattle.theory.proofs.Logic.CountLaws.{count_ext, count_none, count_append}
+use Rattle.theory.proofs.Logic.SumLaws.{sum_none, sum_next, sum_ext, sum_skip, count_rows}
 use Rattle.theory.specs.Order.Passes.{Rel}
 use Rattle.theory.specs.Games.Game.{even, Game, own}
 use Rattle.theory.specs.Order.Rounds.{cleared}
 use Rattle.theory.specs.Order.Rows.{fall}
-use Rattle.theory.specs.Order.RowsLaws.{fall_same}
+use Rattle.theory.proofs.Order.RowsLaws.{fall_same}
 use Rattle.order_sets.specs.Sets.{Is, PutIn, united_in, struck}
 use Rattle.order_sets.specs.MembersLaws.{kept, kept_start, kept_next, members_start, members_next}
 use Rattle.order_sets.specs.Losses.{EdgeSets}

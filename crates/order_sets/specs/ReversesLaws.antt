@@ -5,9 +5,9 @@ use Rattle.std.proofs.Common.{ap₂, ◌∙◌, subst, inl, inr, arith, eqb-true
 use Rattle.std.proofs.Math.Bool.{true, false, So}
 use Rattle.std.proofs.Math.Decide.{ℕ_discrete}
 use Rattle.theory.specs.Logic.Bools.{◌&◌, ◌or◌}
-use Rattle.theory.specs.Logic.BoolsLaws.{clash, So_ext, and_in, and_out, and_true, and_one, or_left, or_right, or_out, or_first, or_false}
+use Rattle.theory.proofs.Logic.BoolsLaws.{clash, So_ext, and_in, and_out, and_true, and_one, or_left, or_right, or_out, or_first, or_false}
 use Rattle.theory.specs.Logic.Range.{any_below, first}
-use Rattle.theory.specs.Logic.RangeLaws.{any_in, any_out, any_ext, any_append}
+use Rattle.theory.proofs.Logic.RangeLaws.{any_in, any_out, any_ext, any_append}
 use Rattle.theory.specs.Order.Passes.{Rel}
 use Rattle.theory.specs.Order.Rows.{mirrored_by}
 use Rattle.words.specs.Word.{word_bits, digit, Lowest, Rest}

@@ -5,17 +5,17 @@ use Rattle.std.proofs.Math.Path.{ap₂}
 use Rattle.std.proofs.Math.Bool.{not, So, not-not}
 use Rattle.std.proofs.Math.Decide.{ℕ_discrete}
 use Rattle.theory.specs.Logic.Bools.{◌&◌, ◌or◌}
-use Rattle.theory.specs.Logic.BoolsLaws.{decide, clash, So_ext, eqb_flip, So_not, and_in, and_out, and_fails, and_true, or_left, or_right, or_out, not_in, not_out, and_one, and_first}
+use Rattle.theory.proofs.Logic.BoolsLaws.{decide, clash, So_ext, eqb_flip, So_not, and_in, and_out, and_fails, and_true, or_left, or_right, or_out, not_in, not_out, and_one, and_first}
 use Rattle.theory.specs.Logic.Range.{any_below}
-use Rattle.theory.specs.Logic.RangeLaws.{any_in, any_ext}
+use Rattle.theory.proofs.Logic.RangeLaws.{any_in, any_ext}
 use Rattle.theory.specs.Order.Passes.{Rel}
 use Rattle.theory.specs.Order.Rounds.{cleared}
-use Rattle.theory.specs.Order.RoundsLaws.{cleared_none, cleared_some, cleared_le}
+use Rattle.theory.proofs.Order.RoundsLaws.{cleared_none, cleared_some, cleared_le}
 use Rattle.theory.specs.Games.Game.{Game, Total}
 use Rattle.theory.specs.Order.Order.{any_next, equal_priority}
-use Rattle.theory.specs.Order.OrderLaws.{any_next_in}
+use Rattle.theory.proofs.Order.OrderLaws.{any_next_in}
 use Rattle.theory.specs.Order.Rows.{fall, loses, taken, Mirrored, AfterRound}
-use Rattle.theory.specs.Order.RowsLaws.{fall_same, loses_same, loses_none, mirrored_by_same, mirrored_by_out, taken_in, round_start, round_next, last_count, last_left}
+use Rattle.theory.proofs.Order.RowsLaws.{fall_same, loses_same, loses_none, mirrored_by_same, mirrored_by_out, taken_in, round_start, round_next, last_count, last_left}
 use Rattle.table.specs.Table.{vertex_count, priority_at, owner_at, game_of}
 use Rattle.table.specs.WellFormed.{WellFormed}
 use Rattle.order_sets.specs.Sets.{Is, With, PutIn, united_in, struck}

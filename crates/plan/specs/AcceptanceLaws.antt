@@ -6,12 +6,12 @@ use Rattle.std.proofs.Common.{⊎_elim, arith, ltb-true, ltb-false, lt-ltb, le-l
 use Rattle.std.proofs.Math.Bool.{true, false, cond, So}
 use Rattle.std.proofs.Math.Decide.{dec_lt}
 use Rattle.std.proofs.lemmas.Bool.{eqb-false}
-use Rattle.theory.specs.Logic.BoolsLaws.{clash, So_not, not_in, not_out, or_left, or_right, or_out, imp_out, imp_fails}
-use Rattle.theory.specs.Logic.RangeLaws.{all_out, all_fails}
+use Rattle.theory.proofs.Logic.BoolsLaws.{clash, So_not, not_in, not_out, or_left, or_right, or_out, imp_out, imp_fails}
+use Rattle.theory.proofs.Logic.RangeLaws.{all_out, all_fails}
 use Rattle.theory.specs.Games.Game.{own, Succ}
 use Rattle.theory.specs.Plans.Plan.{linked}
 use Rattle.theory.specs.Plans.Returns.{WrongWalk}
-use Rattle.theory.specs.Plans.ReturnsLaws.{wrong_walk_return}
+use Rattle.theory.proofs.Plans.ReturnsLaws.{wrong_walk_return}
 use Rattle.table.specs.Limits.{position_limit, link_limit}
 use Rattle.table.specs.Table.{vertex_count, player_of, game_of}
 use Rattle.table.specs.Answers.{Row, refused, Clean}

@@ -5,9 +5,9 @@ use Rattle.std.proofs.Common.{sym, ◌∙◌, le_refl, arith}
 use Rattle.std.proofs.Math.Bool.{So}
 use Rattle.std.proofs.Math.Decide.{ℕ_discrete}
 use borrow.Author.Tests.{eqb-true, eq-eqb, ne_eqb}
-use Rattle.theory.specs.Logic.BoolsLaws.{clash, So_ext, So_not, and_in, and_out, not_in, not_out, imp_out, imp_fails}
+use Rattle.theory.proofs.Logic.BoolsLaws.{clash, So_ext, So_not, and_in, and_out, not_in, not_out, imp_out, imp_fails}
 use Rattle.theory.specs.Logic.Range.{any_from}
-use Rattle.theory.specs.Logic.RangeLaws.{all_out, all_fails, any_in, any_out, from_in, from_end}
+use Rattle.theory.proofs.Logic.RangeLaws.{all_out, all_fails, any_in, any_out, from_in, from_end}
 use Rattle.theory.specs.Games.Game.{own}
 use Rattle.table.specs.Table.{vertex_count, table_edges, owner_at, source_at, target_at, player_of, game_of}
 use Rattle.table.specs.TableLaws.{own_number, edge_in, edge_out}

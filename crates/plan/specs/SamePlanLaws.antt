@@ -7,7 +7,7 @@ use Rattle.std.proofs.Math.Bool.{not}
 use mathlib.Core.List.{List, []}
 use Rattle.std.proofs.Math.Dec.{eqb}
 use Rattle.theory.specs.Logic.Bools.{◌&◌, imp}
-use Rattle.theory.specs.Logic.RangeLaws.{all_ext, first_ext}
+use Rattle.theory.proofs.Logic.RangeLaws.{all_ext, first_ext}
 use Rattle.theory.specs.Games.Game.{parity, same}
 use Rattle.table.specs.Table.{vertex_count, player_of, game_of}
 use Rattle.table.specs.Answers.{Row, judge}

@@ -4,8 +4,8 @@ use Rattle.std.proofs.Common.{sym, ◌∙◌, le_refl, arith, eq-eqb, ne_eqb}
 use Rattle.std.proofs.Math.Path.{ap, fun_ext}
 use Rattle.std.proofs.Math.Bool.{true, false, not, So}
 use Rattle.theory.specs.Logic.Range.{any_from}
-use Rattle.theory.specs.Logic.RangeLaws.{from_in, from_end, from_same}
-use Rattle.theory.specs.Logic.ListLaws.{after_set}
+use Rattle.theory.proofs.Logic.RangeLaws.{from_in, from_end, from_same}
+use Rattle.theory.proofs.Logic.ListLaws.{after_set}
 use Rattle.index.specs.Index.{among}
 use Rattle.plan_links.specs.PlanTable.{vertex_at}
 use Rattle.plan.specs.Stamps.{stands_at, StampedTo, Stamped, unstamped, unstamped_target, unanswered}

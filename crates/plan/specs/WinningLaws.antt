@@ -6,12 +6,12 @@ use Rattle.std.proofs.Math.Bool.{not, So}
 use mathlib.Core.List.{List, [], ◌∷◌, ◌++◌}
 use borrow.Author.Tests.{le-ltb, not-false}
 use Rattle.theory.specs.Logic.Bools.{◌&◌}
-use Rattle.theory.specs.Logic.BoolsLaws.{clash, So_not}
-use Rattle.theory.specs.Logic.RangeLaws.{none_found, found_none}
+use Rattle.theory.proofs.Logic.BoolsLaws.{clash, So_not}
+use Rattle.theory.proofs.Logic.RangeLaws.{none_found, found_none}
 use Rattle.theory.specs.Games.Game.{own, Succ, parity}
 use Rattle.theory.specs.Plans.Plan.{linked, Walk, Winning, Wins}
 use Rattle.theory.specs.Plans.Returns.{Return}
-use Rattle.theory.specs.Plans.ReturnsLaws.{closed_in, closed_out}
+use Rattle.theory.proofs.Plans.ReturnsLaws.{closed_in, closed_out}
 use Rattle.table.specs.Table.{vertex_count, player_of, game_of}
 use Rattle.table.specs.Answers.{accepted, Clean}
 use Rattle.table.specs.AnswersLaws.{judge_clean, judge_accepted, clean_split, clean_append}

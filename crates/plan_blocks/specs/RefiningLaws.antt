@@ -8,9 +8,9 @@ use Rattle.std.proofs.Math.Decide.{ℕ_discrete, dec_le}
 use Rattle.std.proofs.Math.ListN.{get_or}
 use borrow.Author.Tests.{eqb-true, eq-eqb, ne_eqb, leb-true, le-leb, lt-leb}
 use Rattle.theory.specs.Logic.Bools.{◌&◌, ◌or◌}
-use Rattle.theory.specs.Logic.BoolsLaws.{clash, and_in, and_out, or_left, or_out, not_out}
-use Rattle.theory.specs.Logic.RangeLaws.{from_in, from_out}
-use Rattle.theory.specs.Logic.ListLaws.{after_set}
+use Rattle.theory.proofs.Logic.BoolsLaws.{clash, and_in, and_out, or_left, or_out, not_out}
+use Rattle.theory.proofs.Logic.RangeLaws.{from_in, from_out}
+use Rattle.theory.proofs.Logic.ListLaws.{after_set}
 use Rattle.index.specs.Index.{among}
 use Rattle.plan_blocks.specs.Blocks.{gone, link_by, Confined}
 use Rattle.plan_blocks.specs.BlocksLaws.{confined_split, confined_stuck, confined_lowest}

@@ -6,8 +6,8 @@ use Rattle.std.proofs.Math.Decide.{dec_lt}
 use Rattle.std.proofs.Math.Nat.{add-sub_of_le}
 use borrow.Author.Tests.{ltb-false, lt-ltb, le-ltb, leb-false, lt-leb, eqb-true, eqb-false, eq-eqb, ne_eqb, not-false}
 use Rattle.theory.specs.Logic.Bools.{◌or◌}
-use Rattle.theory.specs.Logic.BoolsLaws.{clash}
-use Rattle.theory.specs.Logic.RangeLaws.{first_before, first_none}
+use Rattle.theory.proofs.Logic.BoolsLaws.{clash}
+use Rattle.theory.proofs.Logic.RangeLaws.{first_before, first_none}
 use Rattle.table.specs.Limits.{position_limit, link_limit}
 use Rattle.plan_links.specs.PlanTable.{position_count, link_count, vertex_at, link_source, link_target, plan_length, has_link}
 use Rattle.plan_links.specs.PlanTableLaws.{link_out}

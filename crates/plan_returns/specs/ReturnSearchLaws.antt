@@ -8,12 +8,12 @@ use Rattle.std.proofs.Math.Decide.{ℕ_discrete}
 use Rattle.std.proofs.Math.Dec.{eqb}
 use borrow.Author.Tests.{eq-eqb, ne_eqb, leb-true, le-leb, lt-leb}
 use Rattle.theory.specs.Logic.Bools.{◌&◌}
-use Rattle.theory.specs.Logic.BoolsLaws.{So_ext, So_not, and_in, and_out, and_first, and_fails}
+use Rattle.theory.proofs.Logic.BoolsLaws.{So_ext, So_not, and_in, and_out, and_first, and_fails}
 use Rattle.theory.specs.Logic.Range.{first}
-use Rattle.theory.specs.Logic.RangeLaws.{first_ext}
+use Rattle.theory.proofs.Logic.RangeLaws.{first_ext}
 use Rattle.theory.specs.Games.Game.{parity}
 use Rattle.theory.specs.Plans.Reach.{Reach, reaches}
-use Rattle.theory.specs.Plans.ReachLaws.{each_in, each_out, reaches_in, reaches_out}
+use Rattle.theory.proofs.Plans.ReachLaws.{each_in, each_out, reaches_in, reaches_out}
 use Rattle.table.specs.Table.{player_of}
 use Rattle.plan_links.specs.PlanTable.{position_count, has_link}
 use Rattle.plan_links.specs.LinkIndex.{LinkIndex}

@@ -5,12 +5,12 @@ use Rattle.std.proofs.Math.Bool.{So}
 use Rattle.std.proofs.Math.Dec.{leb}
 use borrow.Author.Tests.{leb-true, le-leb}
 use Rattle.theory.specs.Logic.Bools.{◌&◌}
-use Rattle.theory.specs.Logic.BoolsLaws.{and_in, and_out, not_in, not_out}
+use Rattle.theory.proofs.Logic.BoolsLaws.{and_in, and_out, not_in, not_out}
 use Rattle.theory.specs.Games.Game.{Player, parity}
 use Rattle.theory.specs.Plans.Plan.{Walk}
 use Rattle.theory.specs.Plans.Returns.{Return}
 use Rattle.theory.specs.Plans.Reach.{Each}
-use Rattle.theory.specs.Plans.ReachLaws.{each_in, each_out, reaches_in, reaches_out, reaches_ext}
+use Rattle.theory.proofs.Plans.ReachLaws.{each_in, each_out, reaches_in, reaches_out, reaches_ext}
 use Rattle.plan_returns.specs.Returns.{returns}
 
 module _ (p : ℕ) (link : ℕ → ℕ → Bool) (inside : (i j : ℕ) → So (link i j) → (i < p) × (j < p)) (a : Player) (c : ℕ → ℕ) where

@@ -10,14 +10,14 @@ use Rattle.std.proofs.Math.Dec.{eqb}
 use Rattle.std.proofs.Math.ListN.{get_or}
 use Rattle.std.proofs.Math.Seq.{get_or-set_other}
 use Rattle.theory.specs.Logic.Bools.{◌&◌, bit}
-use Rattle.theory.specs.Logic.BoolsLaws.{decide, clash, So_ext, and_in, and_out, and_fails, not_in, not_out}
+use Rattle.theory.proofs.Logic.BoolsLaws.{decide, clash, So_ext, and_in, and_out, and_fails, not_in, not_out}
 use Rattle.theory.specs.Logic.Range.{any_from, count}
-use Rattle.theory.specs.Logic.RangeLaws.{from_in, from_end, from_more, from_less}
-use Rattle.theory.specs.Logic.CountLaws.{count_ext, count_none, count_le}
-use Rattle.theory.specs.Logic.ListLaws.{after_set}
+use Rattle.theory.proofs.Logic.RangeLaws.{from_in, from_end, from_more, from_less}
+use Rattle.theory.proofs.Logic.CountLaws.{count_ext, count_none, count_le}
+use Rattle.theory.proofs.Logic.ListLaws.{after_set}
 use Rattle.theory.specs.Plans.Plan.{Walk}
 use Rattle.theory.specs.Plans.Reach.{Each, Reach, reaches}
-use Rattle.theory.specs.Plans.ReachLaws.{reaches_in, reaches_out, reach_more}
+use Rattle.theory.proofs.Plans.ReachLaws.{reaches_in, reaches_out, reach_more}
 use Rattle.index.specs.Index.{among}
 use Rattle.plan_blocks.specs.Blocks.{link_by}
 use Rattle.plan_returns.specs.Search.{stamped, fresh, Visited, Queued, Grown, followed, follows, Searched}

@@ -1,6 +1,2 @@
 pub mod Rows
-pub mod PickedLaws
 pub mod LittleBrothers
-pub mod LittleBrothersLaws
-pub mod WordsLaws
-pub mod ListingLaws

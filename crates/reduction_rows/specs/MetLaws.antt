@@ -7,15 +7,15 @@ use Rattle.std.proofs.Math.Decide.{ℕ_discrete}
 use Rattle.std.specs.Int.Bits.{bit_and}
 use borrow.Author.Tests.{eqb-true, eq-eqb, ltb-true, lt-ltb, le-ltb}
 use Rattle.theory.specs.Logic.Bools.{◌&◌, imp}
-use Rattle.theory.specs.Logic.BoolsLaws.{So_ext, and_in, and_out, and_true, and_fails, imp_in, imp_out}
+use Rattle.theory.proofs.Logic.BoolsLaws.{So_ext, and_in, and_out, and_true, and_fails, imp_in, imp_out}
 use Rattle.theory.specs.Logic.Range.{all_below}
-use Rattle.theory.specs.Logic.RangeLaws.{all_in, all_out, all_more}
-use Rattle.theory.specs.Logic.CountLaws.{digits_one}
+use Rattle.theory.proofs.Logic.RangeLaws.{all_in, all_out, all_more}
+use Rattle.theory.proofs.Logic.CountLaws.{digits_one}
 use Rattle.theory.specs.Games.Game.{Game}
 use Rattle.theory.specs.Order.Order.{order}
 use Rattle.theory.specs.Classes.Reduction.{lowest, is_lowest}
-use Rattle.theory.specs.Classes.ClassLaws.{is_lowest_lowest}
-use Rattle.theory.specs.Classes.QuotientLaws.{order_preorder}
+use Rattle.theory.proofs.Classes.ClassLaws.{is_lowest_lowest}
+use Rattle.theory.proofs.Classes.QuotientLaws.{order_preorder}
 use Rattle.words.specs.Word.{digit}
 use Rattle.words.specs.WordLaws.{digit_and}
 use Rattle.words.specs.Words.{has}

@@ -6,16 +6,16 @@ use Rattle.std.proofs.Math.Bool.{So}
 use Rattle.std.proofs.Math.Nat.{mul-le-mul, mul-le-mul_right, suc-mul}
 use borrow.Author.Tests.{eqb-true, eq-eqb}
 use Rattle.theory.specs.Logic.Bools.{◌&◌, ◌or◌, imp}
-use Rattle.theory.specs.Logic.BoolsLaws.{So_ext, and_in, and_out, imp_out}
+use Rattle.theory.proofs.Logic.BoolsLaws.{So_ext, and_in, and_out, imp_out}
 use Rattle.theory.specs.Logic.Range.{all_below, any_below}
-use Rattle.theory.specs.Logic.RangeLaws.{all_in, all_out, all_ext, any_in, any_out, any_ext, any_more}
-use Rattle.theory.specs.Logic.CountLaws.{digits_one}
+use Rattle.theory.proofs.Logic.RangeLaws.{all_in, all_out, all_ext, any_in, any_out, any_ext, any_more}
+use Rattle.theory.proofs.Logic.CountLaws.{digits_one}
 use Rattle.theory.specs.Games.Game.{Game}
 use Rattle.theory.specs.Order.Order.{any_next, order}
-use Rattle.theory.specs.Order.OrderLaws.{any_next_in, any_next_out}
+use Rattle.theory.proofs.Order.OrderLaws.{any_next_in, any_next_out}
 use Rattle.theory.specs.Classes.Reduction.{same_class, lowest, is_lowest, class_number, representative, quotient_edge}
-use Rattle.theory.specs.Classes.ClassLaws.{same_class_sym, same_class_trans, lowest_lt, lowest_same, lowest_one, is_lowest_lowest, class_number_lt, class_count_le, representative_at, representative_class}
-use Rattle.theory.specs.Classes.QuotientLaws.{order_preorder}
+use Rattle.theory.proofs.Classes.ClassLaws.{same_class_sym, same_class_trans, lowest_lt, lowest_same, lowest_one, is_lowest_lowest, class_number_lt, class_count_le, representative_at, representative_class}
+use Rattle.theory.proofs.Classes.QuotientLaws.{order_preorder}
 use Rattle.words.specs.WordLaws.{digit_zero}
 use Rattle.words.specs.Words.{has}
 use Rattle.table.specs.Limits.{pair_limit}

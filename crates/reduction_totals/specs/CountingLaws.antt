@@ -5,16 +5,16 @@ use Rattle.std.proofs.Common.{sym, ◌∙◌, zero-add, arith, length-append}
 use Rattle.std.proofs.Math.Dec.{eqb}
 use Rattle.std.proofs.Math.ListN.{get_or}
 use Rattle.theory.specs.Logic.Range.{count, sum, tabulate}
-use Rattle.theory.specs.Logic.CountLaws.{count_ext}
-use Rattle.theory.specs.Logic.SumLaws.{sum_ext}
-use Rattle.theory.specs.Logic.ListLaws.{length_tabulate, get_d_tabulate, tabulate_ext}
-use Rattle.theory.specs.Plans.LinkLaws.{linked_at}
+use Rattle.theory.proofs.Logic.CountLaws.{count_ext}
+use Rattle.theory.proofs.Logic.SumLaws.{sum_ext}
+use Rattle.theory.proofs.Logic.ListLaws.{length_tabulate, get_d_tabulate, tabulate_ext}
+use Rattle.theory.proofs.Plans.LinkLaws.{linked_at}
 use Rattle.theory.specs.Games.Game.{Game, edge_count}
 use Rattle.theory.specs.Order.Order.{order}
 use Rattle.theory.specs.Classes.Reduction.{class_game, reduced, class_of}
-use Rattle.theory.specs.Classes.ClassLaws.{class_count_le, class_number_lt}
-use Rattle.theory.specs.Classes.QuotientLaws.{order_preorder}
-use Rattle.theory.specs.Classes.SizeLaws.{reduced_edges}
+use Rattle.theory.proofs.Classes.ClassLaws.{class_count_le, class_number_lt}
+use Rattle.theory.proofs.Classes.QuotientLaws.{order_preorder}
+use Rattle.theory.proofs.Classes.SizeLaws.{reduced_edges}
 use Rattle.theory.specs.Classes.Totals.{member_count, out_degree}
 use Rattle.table.specs.Limits.{vertex_limit}
 use Rattle.table.specs.Table.{vertex_count, table_edges, source_at, game_of}

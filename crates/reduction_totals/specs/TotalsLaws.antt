@@ -2,7 +2,7 @@
 use Rattle.std.specs.Prelude.{◌≡◌, List, ℕ}
 use Rattle.theory.specs.Games.Game.{edge_count}
 use Rattle.theory.specs.Classes.Reduction.{class_game, reduced}
-use Rattle.theory.specs.Classes.TotalsLaws.{sum_member_count, sum_out_degree}
+use Rattle.theory.proofs.Classes.TotalsLaws.{sum_member_count, sum_out_degree}
 use Rattle.table.specs.Table.{vertex_count, game_of}
 use Rattle.classes.specs.ClassesCall.{class_total}
 use Rattle.reduction_totals.specs.Totals.{member_total, edge_total}

@@ -5,7 +5,7 @@ use Rattle.std.proofs.Math.Bool.{So}
 use Rattle.std.proofs.Math.ListN.{get_or-append}
 use Rattle.std.proofs.Math.Seq.{set-append_seam}
 use Rattle.theory.specs.Logic.Range.{tabulate}
-use Rattle.theory.specs.Logic.ListLaws.{length_tabulate, tabulate_snoc}
+use Rattle.theory.proofs.Logic.ListLaws.{length_tabulate, tabulate_snoc}
 use Rattle.table.specs.Answers.{Row, Answer, accepted, refused, judge, Clean, written, after}
 
 -- ---- answers

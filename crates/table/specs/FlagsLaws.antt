@@ -7,11 +7,11 @@ use Rattle.std.proofs.Math.Arith.{digits_lt}
 use Rattle.std.proofs.Math.Dec.{eqb}
 use Rattle.std.proofs.lemmas.List.{length-replicate, get_or-replicate}
 use Rattle.theory.specs.Logic.Bools.{◌or◌, bit}
-use Rattle.theory.specs.Logic.BoolsLaws.{bit_is_some}
+use Rattle.theory.proofs.Logic.BoolsLaws.{bit_is_some}
 use Rattle.theory.specs.Logic.Range.{any_below, first, tabulate}
-use Rattle.theory.specs.Logic.RangeLaws.{any_in, any_ext, any_more, any_same, first_before, first_ext}
-use Rattle.theory.specs.Logic.CountLaws.{count_ext, count_none, count_add, col_lt, digits_same}
-use Rattle.theory.specs.Logic.ListLaws.{tabulate_by, get_d_tabulate}
+use Rattle.theory.proofs.Logic.RangeLaws.{any_in, any_ext, any_more, any_same, first_before, first_ext}
+use Rattle.theory.proofs.Logic.CountLaws.{count_ext, count_none, count_add, col_lt, digits_same}
+use Rattle.theory.proofs.Logic.ListLaws.{tabulate_by, get_d_tabulate}
 use Rattle.theory.specs.Games.Game.{edge_count}
 use Rattle.words.specs.WordLaws.{digit_zero}
 use Rattle.words.specs.Words.{has}

@@ -5,7 +5,7 @@ use Rattle.std.proofs.Math.Decide.{dec_lt}
 use Rattle.std.proofs.Common.{add-one, arith}
 use Rattle.std.proofs.lemmas.Bool.{lt-leb}
 use Rattle.theory.specs.Logic.Range.{first}
-use Rattle.theory.specs.Logic.RangeLaws.{first_le, first_none}
+use Rattle.theory.proofs.Logic.RangeLaws.{first_le, first_none}
 use Rattle.table.specs.Highest.{highest_of}
 use Rattle.table.specs.Flags.{at_least}
 

@@ -2,7 +2,7 @@
 use Rattle.std.specs.Prelude.{◌≡◌, false, ℕ, ◌≤◌}
 use Rattle.std.proofs.Math.Bool.{So}
 use Rattle.std.proofs.Common.{le-leb, leb-true}
-use Rattle.theory.specs.Logic.BoolsLaws.{and_in, and_out, So_not}
+use Rattle.theory.proofs.Logic.BoolsLaws.{and_in, and_out, So_not}
 use Rattle.table.specs.Kind.{within}
 
 pub within_in : (a b k : ℕ) → a ≤ k → k ≤ b → So (within a b k)

@@ -3,7 +3,7 @@ use Rattle.std.specs.Prelude.{◌≡◌, refl, List, [], ◌∷◌, ◌++◌, ma
 use Rattle.std.proofs.Common.{sym, ◌∙◌, arith, length-append}
 use Rattle.std.proofs.lemmas.List.{map-append, length-map}
 use Rattle.theory.specs.Logic.Range.{tabulate}
-use Rattle.theory.specs.Logic.ListLaws.{tabulate_by}
+use Rattle.theory.proofs.Logic.ListLaws.{tabulate_by}
 use Rattle.table.specs.AnswersLaws.{get_d_written}
 use Rattle.table.specs.Placing.{placed}
 use Rattle.table.specs.PlacingLaws.{placed_written, placed_start, placed_one, placed_join}

@@ -2,7 +2,7 @@
 use Rattle.std.specs.Prelude.{◌≡◌, List, [], ◌∷◌, ◌++◌, ℕ, ◌+◌, ◌≤◌, ◌<◌, length, take, drop, set}
 use Rattle.std.proofs.Common.{sym, ap, ◌∙◌, append_assoc, zero-add, add-zero, add-one, arith, length-append, take-append-drop, length-take-le, take_at, drop_at, drop-drop}
 use Rattle.theory.specs.Logic.Range.{tabulate}
-use Rattle.theory.specs.Logic.ListLaws.{length_tabulate, tabulate_snoc}
+use Rattle.theory.proofs.Logic.ListLaws.{length_tabulate, tabulate_snoc}
 use Rattle.table.specs.Answers.{written}
 use Rattle.table.specs.AnswersLaws.{written_snoc}
 use Rattle.table.specs.Placing.{placed}

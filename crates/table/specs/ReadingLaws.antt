@@ -6,9 +6,9 @@ use Rattle.std.proofs.Math.Bool.{So}
 use Rattle.std.proofs.Math.Decide.{dec_lt, dec_le, ℕ_discrete}
 use Rattle.std.proofs.lemmas.Bool.{eqb-false, not-false}
 use Rattle.theory.specs.Logic.Bools.{◌or◌}
-use Rattle.theory.specs.Logic.BoolsLaws.{decide, So_not, not_in, not_out, or_left, or_right, or_out}
+use Rattle.theory.proofs.Logic.BoolsLaws.{decide, So_not, not_in, not_out, or_left, or_right, or_out}
 use Rattle.theory.specs.Logic.Range.{any_below}
-use Rattle.theory.specs.Logic.RangeLaws.{any_out, any_fails}
+use Rattle.theory.proofs.Logic.RangeLaws.{any_out, any_fails}
 use Rattle.theory.specs.Games.Game.{edge_count}
 use Rattle.table.specs.Limits.{vertex_limit, edge_limit}
 use Rattle.table.specs.Table.{vertex_count, table_edges, owner_at, source_at, table_length, game_of}

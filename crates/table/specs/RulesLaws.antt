@@ -2,9 +2,9 @@
 use Rattle.std.specs.Prelude.{◌≡◌, refl, ◌↔◌, Bool, true, false, cond, List, ◌∷◌, ◌++◌, ℕ, ◌≤◌, ltb, length}
 use Rattle.std.proofs.Common.{sym, ap, ◌∙◌, arith, ltb-true, lt-ltb}
 use Rattle.std.proofs.Math.Bool.{So}
-use Rattle.theory.specs.Logic.BoolsLaws.{clash, So_not}
+use Rattle.theory.proofs.Logic.BoolsLaws.{clash, So_not}
 use Rattle.theory.specs.Logic.Range.{first}
-use Rattle.theory.specs.Logic.RangeLaws.{first_ge, first_before, first_passes, first_least, first_is}
+use Rattle.theory.proofs.Logic.RangeLaws.{first_ge, first_before, first_passes, first_least, first_is}
 use Rattle.table.specs.Answers.{Row, memory_row, Answer, refused, judge, Clean}
 use Rattle.table.specs.AnswersLaws.{refused_inj, not_both, judge_hit, judge_next}
 use Rattle.table.specs.Rules.{Rule, Some, First, placed, memory_rule, first_such, FirstRule, here, later, NoRule, no_rule, fails, Renders, Rendered, none, next}

@@ -3,10 +3,10 @@
 use Rattle.std.specs.Prelude.{◌≡◌, refl, List, [], ◌∷◌, ℕ, ◌≤◌, ◌<◌, length}
 use Rattle.std.proofs.Math.Path.{ap}
 use Rattle.std.proofs.Common.{◌∙◌, arith}
-use Rattle.theory.specs.Logic.BoolsLaws.{So_ext}
+use Rattle.theory.proofs.Logic.BoolsLaws.{So_ext}
 use Rattle.theory.specs.Games.Game.{edge_count}
 use Rattle.theory.specs.Games.Agreement.{Agree}
-use Rattle.theory.specs.Games.AgreementLaws.{agree_edge_count}
+use Rattle.theory.proofs.Games.AgreementLaws.{agree_edge_count}
 use Rattle.table.specs.Limits.{edge_limit}
 use Rattle.table.specs.Table.{vertex_count, table_edges, source_at, target_at, table_length, player_of, Listed, game_of}
 use Rattle.table.specs.TableLaws.{edge_in, edge_out}

@@ -5,9 +5,9 @@ use Rattle.std.proofs.Math.Path.{refl}
 use Rattle.std.proofs.Common.{sym, ◌∙◌, arith, get_or-take, eqb-true, eq-eqb}
 use Rattle.std.proofs.Math.Bool.{So}
 use Rattle.std.proofs.Math.Decide.{ℕ_discrete}
-use Rattle.theory.specs.Logic.BoolsLaws.{and_in, and_out}
-use Rattle.theory.specs.Logic.RangeLaws.{any_in, any_out}
-use Rattle.theory.specs.Logic.CountLaws.{count_inject, count_all, pair_ext}
+use Rattle.theory.proofs.Logic.BoolsLaws.{and_in, and_out}
+use Rattle.theory.proofs.Logic.RangeLaws.{any_in, any_out}
+use Rattle.theory.proofs.Logic.CountLaws.{count_inject, count_all, pair_ext}
 use Rattle.theory.specs.Games.Game.{even, odd, same, own, Succ, Total, edge_count}
 use Rattle.table.specs.Table.{vertex_count, table_edges, owner_at, source_at, target_at, table_length, table_in, player_of, is_edge, Listed, game_of}
 use Rattle.table.specs.WellFormed.{WellFormed}

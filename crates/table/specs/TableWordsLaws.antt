@@ -9,13 +9,13 @@ use Rattle.std.proofs.Math.Decide.{dec_lt}
 use Rattle.std.proofs.Math.ListN.{length, get_or, get_or-map}
 use Rattle.std.proofs.lemmas.List.{length-map}
 use borrow.Author.Tests.{eqb-true, eq-eqb}
-use Rattle.theory.specs.Logic.BoolsLaws.{So_ext, and_in, and_out}
+use Rattle.theory.proofs.Logic.BoolsLaws.{So_ext, and_in, and_out}
 use Rattle.theory.specs.Logic.Range.{count, tabulate, pairs_of, Before}
-use Rattle.theory.specs.Logic.RangeLaws.{any_in, any_out}
-use Rattle.theory.specs.Logic.CountLaws.{count_inject}
-use Rattle.theory.specs.Logic.ListLaws.{length_tabulate, get_d_tabulate, tabulate_ext}
+use Rattle.theory.proofs.Logic.RangeLaws.{any_in, any_out}
+use Rattle.theory.proofs.Logic.CountLaws.{count_inject}
+use Rattle.theory.proofs.Logic.ListLaws.{length_tabulate, get_d_tabulate, tabulate_ext}
 use Rattle.theory.specs.Games.Game.{Player, even, odd, Game, Succ, Total, edge_count}
-use Rattle.theory.specs.Plans.LinkLaws.{pair_is_lem, linked_at, linked_find, pairs_of_in, pairs_of_out, pairs_of_single, pairs_of_ascend, length_pairs_below}
+use Rattle.theory.proofs.Plans.LinkLaws.{pair_is_lem, linked_at, linked_find, pairs_of_in, pairs_of_out, pairs_of_single, pairs_of_ascend, length_pairs_below}
 use Rattle.theory.specs.Classes.Totals.{out_degree}
 use Rattle.theory.specs.Games.Agreement.{Agree}
 use Rattle.table.specs.Limits.{vertex_limit, edge_limit}

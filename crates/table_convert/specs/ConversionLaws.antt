@@ -5,12 +5,12 @@ use Rattle.std.proofs.Common.{arith}
 use Rattle.theory.specs.Games.Game.{Player, edge_count}
 use Rattle.theory.specs.Plans.Plan.{Plan, WinsBy, Won}
 use Rattle.theory.specs.Games.ParityMap.{ParityMap}
-use Rattle.theory.specs.Games.ParityMapLaws.{highest_lowest, lowest_highest}
+use Rattle.theory.proofs.Games.ParityMapLaws.{highest_lowest, lowest_highest}
 use Rattle.theory.specs.Games.Agreement.{AgreeBy}
-use Rattle.theory.specs.Games.AgreementLaws.{agree_by_wins, agree_order_marks, agree_passes, agree_order, agree_class, agree_quotient, agree_reduced}
+use Rattle.theory.proofs.Games.AgreementLaws.{agree_by_wins, agree_order_marks, agree_passes, agree_order, agree_class, agree_quotient, agree_reduced}
 use Rattle.theory.specs.Order.Order.{order, order_marks, order_passes}
 use Rattle.theory.specs.Classes.Reduction.{quotient, reduced, class_of}
-use Rattle.theory.specs.Winners.KeptWinners.{reduced_winner}
+use Rattle.theory.proofs.Winners.KeptWinners.{reduced_winner}
 use Rattle.table.specs.Table.{vertex_count, table_edges, priority_at, table_in, game_of}
 use Rattle.table.specs.Answers.{accepted}
 use Rattle.table.specs.Reading.{read_answer}

@@ -4,7 +4,7 @@ use Rattle.std.proofs.Math.Path.{sym}
 use Rattle.std.proofs.Common.{◌∙◌, eqb-true, eq-eqb, lt-ltb, le-ltb}
 use Rattle.std.proofs.Math.Bool.{So}
 use mathlib.Core.List.{List, [], ◌∷◌}
-use Rattle.theory.specs.Logic.BoolsLaws.{and_in, and_out}
+use Rattle.theory.proofs.Logic.BoolsLaws.{and_in, and_out}
 use Rattle.table.specs.Table.{vertex_count, table_edges, table_length}
 use Rattle.table.specs.Answers.{Row, row, memory_row, accepted, refused, written, judge}
 use Rattle.table.specs.AnswersLaws.{judge_hit, judge_next, judge_past, after_accepted, after_refused}

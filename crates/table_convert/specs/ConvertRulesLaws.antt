@@ -7,9 +7,9 @@ use Rattle.std.proofs.Math.Bool.{false, So}
 use Rattle.std.proofs.Math.Decide.{dec_lt}
 use native.Mathlib.Omega.{arith}
 use borrow.Author.Tests.{ltb-false, le-ltb}
-use Rattle.theory.specs.Logic.BoolsLaws.{So_not, clash}
+use Rattle.theory.proofs.Logic.BoolsLaws.{So_not, clash}
 use Rattle.theory.specs.Logic.Range.{first}
-use Rattle.theory.specs.Logic.RangeLaws.{first_before, first_none}
+use Rattle.theory.proofs.Logic.RangeLaws.{first_before, first_none}
 use Rattle.table.specs.Table.{vertex_count, table_edges, priority_at, table_length, table_in}
 use Rattle.table.specs.Answers.{Answer, accepted, refused, written, Clean}
 use Rattle.table.specs.AnswersLaws.{judge_clean, judge_accepted, length_written, get_d_written, get_d_written_beyond, after_accepted, after_refused, clean_append, clean_split}

@@ -8,11 +8,11 @@ use Rattle.std.proofs.Math.Dec.{eqb}
 use Rattle.std.proofs.Math.ListN.{get_or, drop}
 use Rattle.theory.specs.Logic.Bools.{◌&◌}
 use Rattle.theory.specs.Logic.Range.{tabulate}
-use Rattle.theory.specs.Logic.RangeLaws.{any_ext}
-use Rattle.theory.specs.Logic.ListLaws.{length_tabulate, get_d_tabulate}
+use Rattle.theory.proofs.Logic.RangeLaws.{any_ext}
+use Rattle.theory.proofs.Logic.ListLaws.{length_tabulate, get_d_tabulate}
 use Rattle.theory.specs.Games.Game.{edge_count}
 use Rattle.theory.specs.Games.Agreement.{AgreeBy}
-use Rattle.theory.specs.Games.AgreementLaws.{agree_edge_count}
+use Rattle.theory.proofs.Games.AgreementLaws.{agree_edge_count}
 use Rattle.table.specs.Table.{vertex_count, table_edges, priority_at, owner_at, source_at, target_at, table_length, player_of, is_edge, game_of}
 use Rattle.table.specs.Answers.{accepted, written}
 use Rattle.table.specs.AnswersLaws.{length_written, get_d_written, get_d_written_beyond}

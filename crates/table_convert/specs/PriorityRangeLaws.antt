@@ -2,10 +2,10 @@
 use Rattle.std.specs.Prelude.{◌≡◌, refl, List, [], ◌∷◌, ◌++◌, ℕ, ◌+◌, ◌-◌, ◌*◌, ◌≤◌, ◌<◌, length, get_or, take, drop, set}
 use Rattle.std.proofs.Common.{sym, ap, ◌∙◌, arith, length-drop, get_or-take}
 use Rattle.std.proofs.Math.Decide.{ℕ_discrete}
-use Rattle.theory.specs.Logic.BoolsLaws.{clash}
+use Rattle.theory.proofs.Logic.BoolsLaws.{clash}
 use Rattle.theory.specs.Logic.Range.{tabulate}
-use Rattle.theory.specs.Logic.RangeLaws.{first_before}
-use Rattle.theory.specs.Logic.ListLaws.{length_tabulate, tabulate_by}
+use Rattle.theory.proofs.Logic.RangeLaws.{first_before}
+use Rattle.theory.proofs.Logic.ListLaws.{length_tabulate, tabulate_by}
 use Rattle.table.specs.Table.{vertex_count, table_edges, priority_at, table_length}
 use Rattle.table.specs.Answers.{written}
 use Rattle.table.specs.WellFormed.{WellFormed}

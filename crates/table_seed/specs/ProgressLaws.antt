@@ -3,7 +3,7 @@ use Rattle.std.specs.Prelude.{◌≡◌, ℕ, ◌+◌, ◌*◌, ◌/◌, ◌%◌
 use Rattle.std.proofs.Common.{sym, ap, ◌∙◌, add-zero, arith, length-set, ext_get_or}
 use Rattle.std.proofs.Math.Decide.{dec_lt}
 use Rattle.std.proofs.Math.Arith.{digits_lt, digits_div, digits_mod}
-use Rattle.theory.specs.Logic.ListLaws.{after_set}
+use Rattle.theory.proofs.Logic.ListLaws.{after_set}
 use Rattle.table.specs.Table.{table_length}
 use Rattle.table.specs.Answers.{written}
 use Rattle.table.specs.AnswersLaws.{length_written, get_d_written, get_d_written_beyond}

@@ -7,7 +7,7 @@ use Rattle.std.proofs.Math.Decide.{dec_lt}
 use Rattle.std.proofs.lemmas.Bool.{eqb-false}
 use Rattle.theory.specs.Games.Game.{edge_count}
 use Rattle.theory.specs.Logic.Bools.{◌or◌}
-use Rattle.theory.specs.Logic.BoolsLaws.{or_left, or_right, or_out, or_says, or_fails}
+use Rattle.theory.proofs.Logic.BoolsLaws.{or_left, or_right, or_out, or_says, or_fails}
 use Rattle.table.specs.Limits.{vertex_limit, edge_limit}
 use Rattle.table.specs.Table.{table_length, table_in, game_of}
 use Rattle.table.specs.Answers.{accepted, refused, judge, written}

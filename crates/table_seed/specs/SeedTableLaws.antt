@@ -4,7 +4,7 @@ use Rattle.std.proofs.Math.Path.{refl}
 use Rattle.std.proofs.Common.{◌∙◌, mod-lt, div-lt_iff_lt-mul, arith}
 use Rattle.std.proofs.Math.Arith.{digits_lt, digits_div}
 use Rattle.theory.specs.Logic.Range.{tabulate}
-use Rattle.theory.specs.Logic.ListLaws.{length_tabulate, get_d_tabulate}
+use Rattle.theory.proofs.Logic.ListLaws.{length_tabulate, get_d_tabulate}
 use Rattle.table.specs.Table.{vertex_count, table_edges, priority_at, owner_at, source_at, target_at, table_length}
 use Rattle.table.specs.ColumnsLaws.{Columns, length_columns, priority_column, owner_column, source_column, target_column}
 use Rattle.table_seed.specs.Generator.{step, draw_of, state_after}

@@ -10,4 +10,3 @@ pub mod Solutions
 pub mod Classes
 pub mod Carry
 pub mod Merges
-pub mod Examples

@@ -2,10 +2,5 @@
 
 -- bounded "each", "some", "the first", "how many", "the c-th"
 pub mod Bools
-pub mod BoolsLaws
 pub mod Range
-pub mod RangeLaws
 -- counting, and the `pigeonhole`; sums; lists
-pub mod CountLaws
-pub mod SumLaws
-pub mod ListLaws

@@ -5,9 +5,9 @@ use Rattle.std.proofs.Common.{ap, ◌∙◌, subst, inl, inr, arith, eqb-true, e
 use Rattle.std.proofs.Math.Bool.{true, false, So}
 use Rattle.std.proofs.Math.Decide.{dec_lt, ℕ_discrete}
 use Rattle.theory.specs.Logic.Bools.{◌&◌, ◌or◌}
-use Rattle.theory.specs.Logic.BoolsLaws.{clash, So_ext, So_not, and_in, and_out, and_true, or_left, or_right, or_out, or_false, not_in, not_out, and_neither}
+use Rattle.theory.proofs.Logic.BoolsLaws.{clash, So_ext, So_not, and_in, and_out, and_true, or_left, or_right, or_out, or_false, not_in, not_out, and_neither}
 use Rattle.theory.specs.Logic.Range.{any_below}
-use Rattle.theory.specs.Logic.RangeLaws.{any_in, any_out, any_ext, first_le, first_before, first_passes, first_none}
+use Rattle.theory.proofs.Logic.RangeLaws.{any_in, any_out, any_ext, first_le, first_before, first_passes, first_none}
 use Rattle.words.specs.Word.{word_bits, digit, lowest_bit, Lowest, Rest}
 use Rattle.words.specs.WordLaws.{digit_zero}
 

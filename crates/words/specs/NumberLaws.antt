@@ -3,7 +3,7 @@ use Rattle.std.specs.Prelude.{◌≡◌, Bool, ℕ, zero, suc, ◌+◌, ◌*◌,
 use Rattle.std.proofs.Common.{sym, ap, ◌∙◌, pow-suc, arith}
 use Rattle.std.proofs.Math.Arith.{lt-one}
 use Rattle.theory.specs.Logic.Bools.{bit}
-use Rattle.theory.specs.Logic.BoolsLaws.{bit_le, bit_is_one}
+use Rattle.theory.proofs.Logic.BoolsLaws.{bit_le, bit_is_one}
 use Rattle.words.specs.Word.{digit, number}
 use Rattle.words.specs.WordLaws.{digit_first, digit_suc, digit_bit}
 

@@ -11,10 +11,10 @@ use Rattle.std.specs.Int.Count.{count_trailing_zeros, under, ones, ones_step}
 use Rattle.std.proofs.Math.Pow.{pow-lt, field, mod-mod-pow}
 use Rattle.std.proofs.lemmas.Bool.{eqb-false}
 use Rattle.theory.specs.Logic.Bools.{◌&◌, ◌or◌, bit}
-use Rattle.theory.specs.Logic.BoolsLaws.{clash, So_ext, So_not, not_in, not_out, and_true, and_fails, or_flip}
+use Rattle.theory.proofs.Logic.BoolsLaws.{clash, So_ext, So_not, not_in, not_out, and_true, and_fails, or_flip}
 use Rattle.theory.specs.Logic.Range.{any_below, count, first}
-use Rattle.theory.specs.Logic.RangeLaws.{any_in, any_out, first_is, first_le, first_none}
-use Rattle.theory.specs.Logic.CountLaws.{count_ext, count_append}
+use Rattle.theory.proofs.Logic.RangeLaws.{any_in, any_out, first_is, first_le, first_none}
+use Rattle.theory.proofs.Logic.CountLaws.{count_ext, count_append}
 use Rattle.words.specs.Word.{word_bits, digit, lowest_bit, Lowest, Rest}
 
 -- ---- bitwise operations

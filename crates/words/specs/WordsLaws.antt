@@ -4,8 +4,8 @@ use Rattle.std.proofs.Common.{ap, ◌∙◌, arith, get_or-set_same, get_or-set_
 use Rattle.std.proofs.Math.Decide.{ℕ_discrete}
 use Rattle.std.proofs.Math.Arith.{digits_div, digits_mod}
 use Rattle.theory.specs.Logic.Bools.{◌&◌, ◌or◌}
-use Rattle.theory.specs.Logic.BoolsLaws.{So_ext, eqb_flip, and_in, and_out, and_true, or_flip}
-use Rattle.theory.specs.Logic.ListLaws.{zeros}
+use Rattle.theory.proofs.Logic.BoolsLaws.{So_ext, eqb_flip, and_in, and_out, and_true, or_flip}
+use Rattle.theory.proofs.Logic.ListLaws.{zeros}
 use Rattle.words.specs.Word.{word_bits, digit}
 use Rattle.words.specs.WordLaws.{digit_zero}
 use Rattle.words.specs.Words.{has}

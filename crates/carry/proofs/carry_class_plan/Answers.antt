@@ -3,8 +3,8 @@ use mathlib.Core.Path.{ap, refl}
 use Rattle.theory.specs.Classes.Reduction.{reduced}
 use Rattle.reduction_edges.specs.Rows.{game_by}
 use Rattle.reduction.specs.TableCall.{tabulation_answer, TableCall}
-use Rattle.reduction.specs.TableCallLaws.{sized, table_handed}
-use Rattle.carry.specs.CarryCallLaws.{class_refused, class_held, class_arrived}
+use Rattle.reduction.proofs.TableCallLaws.{sized, table_handed}
+use Rattle.carry.proofs.CarryCallLaws.{class_refused, class_held, class_arrived}
 use Rattle.carry.proofs.carry_class_plan.Goals as goal
 use Rattle.carry.proofs.carry_class_plan.Lts as lts
 use Rattle.carry.proofs.carry_class_plan.Reads as reads

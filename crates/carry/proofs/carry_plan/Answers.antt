@@ -16,7 +16,7 @@ use Rattle.order.specs.OrderRules.{OrderFits}
 use Rattle.order.specs.OrderCallLaws.{order_handed, order_short_marks, order_short_spare}
 use Rattle.classes.specs.OrderedMarksLaws.{ordered_done}
 use Rattle.plan.specs.Acceptance.{plan_rows}
-use Rattle.carry.specs.CarryCallLaws.{carry_order, carry_judged, own_can, carry_arrived}
+use Rattle.carry.proofs.CarryCallLaws.{carry_order, carry_judged, own_can, carry_arrived}
 use Rattle.carry.proofs.carry_plan.Goals as goal
 use Rattle.carry.proofs.carry_plan.Lts as lts
 use Rattle.carry.proofs.carry_plan.Reads as reads

@@ -8,7 +8,7 @@ use Rattle.table.specs.WellFormed.{WellFormed}
 use Rattle.table.specs.Acceptance.{acceptance_answer}
 use Rattle.reduction.specs.TableCall.{class_table}
 use Rattle.plan.specs.Acceptance.{plan_rows}
-use Rattle.carry.specs.CarryCallLaws.{reduced_well, reduced_judged, class_can, reduced_refused, reduced_accepted}
+use Rattle.carry.proofs.CarryCallLaws.{reduced_well, reduced_judged, class_can, reduced_refused, reduced_accepted}
 use Rattle.carry.proofs.carry_reduced.Goals as goal
 use Rattle.carry.proofs.carry_reduced.Lts as lts
 use Rattle.carry.proofs.carry_reduced.Reads as reads

@@ -2,7 +2,7 @@
 use Prim.Native.Nat.{ℕ, ◌+◌}
 use native.Mathlib.Omega.{arith}
 use lib.ListN.{length-replicate}
-use Rattle.theory.specs.Logic.ListLaws.{zeros}
+use Rattle.theory.proofs.Logic.ListLaws.{zeros}
 use Rattle.carry_search.specs.Work.{heads_at, work_length}
 use Rattle.carry_output.specs.SearchResultLaws.{found_arrives}
 use Rattle.carry_output.proofs.carry_seated.Goals as goal

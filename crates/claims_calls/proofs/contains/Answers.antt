@@ -1,5 +1,5 @@
 -- The sentence follows from what the two calls promise.
-use Rattle.claims.specs.SentencesLaws as laws
+use Rattle.claims.proofs.SentencesLaws as laws
 use Rattle.claims_calls.proofs.contains.Goals as goal
 
 pub returns : goal.returns

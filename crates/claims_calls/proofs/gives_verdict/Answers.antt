@@ -1,5 +1,5 @@
 -- The sentences follow from what the call promises.
-use Rattle.verdict.specs.VerdictsLaws as laws
+use Rattle.verdict.proofs.VerdictsLaws as laws
 use Rattle.claims_calls.proofs.gives_verdict.Goals as goal
 use Rattle.claims_calls.proofs.gives_verdict.Lts as lts
 use Rattle.claims_calls.proofs.gives_verdict.Reads as reads

@@ -1,5 +1,5 @@
 -- The sentences follow from what the call promises.
-use Rattle.claims.specs.GovernedSentencesLaws as laws
+use Rattle.claims.proofs.GovernedSentencesLaws as laws
 use Rattle.claims_calls.proofs.governs_classes.Goals as goal
 
 pub returns : goal.returns

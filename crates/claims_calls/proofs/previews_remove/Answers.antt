@@ -1,5 +1,5 @@
 -- The sentences follow from what the call promises.
-use Rattle.claims.specs.SentencesLaws as laws
+use Rattle.claims.proofs.SentencesLaws as laws
 use Rattle.claims_calls.proofs.previews_remove.Goals as goal
 use Rattle.claims_calls.proofs.previews_remove.Lts as lts
 use Rattle.claims_calls.proofs.previews_remove.Reads as reads

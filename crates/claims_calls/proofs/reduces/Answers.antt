@@ -1,5 +1,5 @@
 -- The sentences follow from what the call promises.
-use Rattle.claims.specs.SentencesLaws as laws
+use Rattle.claims.proofs.SentencesLaws as laws
 use Rattle.claims.specs.Demands.{reduced_faithful}
 use Rattle.claims_calls.proofs.reduces.Goals as goal
 use Rattle.claims_calls.proofs.reduces.Lts as lts

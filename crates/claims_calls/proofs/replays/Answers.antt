@@ -1,5 +1,5 @@
 -- The sentences follow from what the call promises.
-use Rattle.claims.specs.SentencesLaws as laws
+use Rattle.claims.proofs.SentencesLaws as laws
 use Rattle.claims_calls.proofs.replays.Goals as goal
 use Rattle.claims_calls.proofs.replays.Lts as lts
 use Rattle.claims_calls.proofs.replays.Reads as reads

@@ -3,7 +3,7 @@ use mathlib.Core.Path.{sym, ap}
 use native.Mathlib.Omega.{arith}
 use lib.Seq.{length-take-le}
 use Rattle.reduction.specs.TableCall.{tabulation_answer}
-use Rattle.claims_twice.specs.ReducedTwiceLaws.{Held, held, twice_refused, twice_accepted}
+use Rattle.claims_twice.proofs.ReducedTwiceLaws.{Held, held, twice_refused, twice_accepted}
 use Rattle.claims_twice.proofs.reduces_twice.Goals as goal
 use Rattle.claims_twice.proofs.reduces_twice.Lts as lts
 use Rattle.claims_twice.proofs.reduces_twice.Reads as reads

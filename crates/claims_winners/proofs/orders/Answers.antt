@@ -1,5 +1,5 @@
 -- The sentences follow from what the call promises.
-use Rattle.claims_winners.specs.WinnersLaws as laws
+use Rattle.claims_winners.proofs.WinnersLaws as laws
 use Rattle.claims_winners.proofs.orders.Goals as goal
 
 pub returns : goal.returns

@@ -1,5 +1,5 @@
 -- The sentences follow from what the call promises.
-use Rattle.claims_winners.specs.WinnersLaws as laws
+use Rattle.claims_winners.proofs.WinnersLaws as laws
 use Rattle.claims.specs.Demands.{reduced_faithful}
 use Rattle.claims_winners.proofs.reduces.Goals as goal
 use Rattle.claims_winners.proofs.reduces.Lts as lts

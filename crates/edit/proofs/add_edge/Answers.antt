@@ -1,5 +1,5 @@
 -- The reader's refusal is handed on; the rest is `edit_table`'s.
-use Rattle.edit.specs.EditCallLaws.{formed, call_handed}
+use Rattle.edit.proofs.EditCallLaws.{formed, call_handed}
 use Rattle.edit.proofs.add_edge.Goals as goal
 
 pub returns-in_default : goal.returns-in_default

@@ -9,7 +9,7 @@ use Rattle.table.specs.Limits.{vertex_limit, edge_limit}
 use Rattle.table.specs.Table.{vertex_count, table_length, table_in}
 use Rattle.classes.specs.ClassesRules.{ClassesFit}
 use Rattle.edit_rules.specs.Edges.{edited}
-use Rattle.edit.specs.EditCallLaws.{made_vertices, made_well, made_fits, made_part, made_room}
+use Rattle.edit.proofs.EditCallLaws.{made_vertices, made_well, made_fits, made_part, made_room}
 use Rattle.edit.proofs.apply_edit.Goals as goal
 use Rattle.edit.proofs.apply_edit.Lts as lts
 use Rattle.edit.proofs.apply_edit.Reads as reads

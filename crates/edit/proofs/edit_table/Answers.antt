@@ -12,9 +12,9 @@ use Rattle.classes.specs.ClassesCall.{memory_rows, memory_answer}
 use Rattle.classes.specs.declared.Memory.TheVariants.{Enough}
 use Rattle.edit_rules.specs.Edges.{edit_rows}
 use Rattle.edit_rules.specs.EditParts.{Formed, Scanned}
-use Rattle.edit_rules.specs.JudgeLaws.{scanned_rows}
-use Rattle.edit_rules.specs.EditPartsLaws.{formed_room, formed_part}
-use Rattle.edit.specs.EditCallLaws.{passed_clean, call_short, call_judged, call_fits, call_done}
+use Rattle.edit_rules.proofs.JudgeLaws.{scanned_rows}
+use Rattle.edit_rules.proofs.EditPartsLaws.{formed_room, formed_part}
+use Rattle.edit.proofs.EditCallLaws.{passed_clean, call_short, call_judged, call_fits, call_done}
 use Rattle.edit.proofs.edit_table.Goals as goal
 use Rattle.edit.proofs.edit_table.Lts as lts
 use Rattle.edit.proofs.edit_table.Reads as reads

@@ -2,7 +2,7 @@
 use mathlib.Core.Path.{◌≡◌, refl, ◌∙◌}
 use native.Mathlib.Omega.{arith}
 use lib.ListN.{length, length-set}
-use Rattle.edit_rules.specs.EditPartsLaws.{arrival_made}
+use Rattle.edit_rules.proofs.EditPartsLaws.{arrival_made}
 use Rattle.std.proofs.Common.{rules}
 use Rattle.edit_buffer.proofs.arrive.Goals as goal
 use Rattle.edit_buffer.proofs.arrive.Lts as lts

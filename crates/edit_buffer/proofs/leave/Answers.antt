@@ -10,7 +10,7 @@ use Rattle.theory.specs.Logic.Range.{first}
 use Rattle.table.specs.Limits.{edge_limit}
 use Rattle.table.specs.Table.{table_length, table_in}
 use Rattle.edit_rules.specs.EditParts.{Formed, leads}
-use Rattle.edit_rules.specs.EditPartsLaws.{formed_room, formed_part, leaving_few, leaving_made}
+use Rattle.edit_rules.proofs.EditPartsLaws.{formed_room, formed_part, leaving_few, leaving_made}
 use Rattle.edit_buffer.proofs.leave.Goals as goal
 use Rattle.edit_buffer.proofs.leave.Lts as lts
 use Rattle.edit_buffer.proofs.leave.Reads as reads

@@ -5,7 +5,7 @@ use lib.ListN.{length}
 use Rattle.table.specs.Table.{table_in}
 use Rattle.table.specs.Answers.{Clean}
 use Rattle.edit_rules.specs.Edges.{edit_rows}
-use Rattle.edit_rules.specs.EditedLaws.{Placed, edit_placed, arrival_fits}
+use Rattle.edit_rules.proofs.EditedLaws.{Placed, edit_placed, arrival_fits}
 use Rattle.edit_rules.specs.declared.Edit.{Edit}
 use Rattle.edit_rules.specs.declared.Edit.TheVariants.{Arrival}
 use Rattle.edit_buffer.proofs.make_edit.Goals as goal

@@ -1,5 +1,5 @@
 -- The reader's refusal is handed on; the rest is `preview_table`'s.
-use Rattle.edit.specs.EditCallLaws.{formed, call_handed}
+use Rattle.edit.proofs.EditCallLaws.{formed, call_handed}
 use Rattle.edit_preview.proofs.preview_add.Goals as goal
 
 pub returns-in_default : goal.returns-in_default

@@ -13,10 +13,10 @@ use Rattle.classes.specs.ClassesRules.{ClassesFit}
 use Rattle.classes.specs.declared.Memory.TheVariants.{Enough}
 use Rattle.edit_rules.specs.Edges.{edit_rows}
 use Rattle.edit_rules.specs.EditParts.{Formed, leads, Scanned}
-use Rattle.edit_rules.specs.JudgeLaws.{scanned_rows}
-use Rattle.edit_rules.specs.EditPartsLaws.{formed_room, formed_part}
-use Rattle.edit.specs.EditCallLaws.{passed_clean, call_fits, call_short, call_judged, call_done}
-use Rattle.edit_preview.specs.PreviewCallLaws.{table_short, table_long, table_clean, copied_in, copied_length, copied_over}
+use Rattle.edit_rules.proofs.JudgeLaws.{scanned_rows}
+use Rattle.edit_rules.proofs.EditPartsLaws.{formed_room, formed_part}
+use Rattle.edit.proofs.EditCallLaws.{passed_clean, call_fits, call_short, call_judged, call_done}
+use Rattle.edit_preview.proofs.PreviewCallLaws.{table_short, table_long, table_clean, copied_in, copied_length, copied_over}
 use Rattle.std.proofs.Common.{rules}
 use Rattle.edit_preview.proofs.preview_table.Goals as goal
 use Rattle.edit_preview.proofs.preview_table.Lts as lts

@@ -7,7 +7,7 @@ use lib.Seq.{length-take-le}
 use Rattle.table.specs.Limits.{vertex_limit, edge_limit}
 use Rattle.table.specs.Table.{vertex_count}
 use Rattle.classes.specs.ClassesRules.{ClassesFit}
-use Rattle.edit_replay.specs.ReplayCallLaws.{ran_room, ran_part, ran_fits, ran_refused, ran_accepted}
+use Rattle.edit_replay.proofs.ReplayCallLaws.{ran_room, ran_part, ran_fits, ran_refused, ran_accepted}
 use Rattle.edit_replay.proofs.apply_trace.Goals as goal
 use Rattle.edit_replay.proofs.apply_trace.Lts as lts
 use Rattle.edit_replay.proofs.apply_trace.Reads as reads

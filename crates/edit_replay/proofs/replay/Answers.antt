@@ -1,6 +1,6 @@
 -- The reader's refusal is handed on; the rest is `replay_table`'s.
-use Rattle.edit.specs.EditCallLaws.{formed}
-use Rattle.edit_replay.specs.ReplayCallLaws.{start_handed}
+use Rattle.edit.proofs.EditCallLaws.{formed}
+use Rattle.edit_replay.proofs.ReplayCallLaws.{start_handed}
 use Rattle.edit_replay.proofs.replay.Goals as goal
 
 pub returns-in_default : goal.returns-in_default

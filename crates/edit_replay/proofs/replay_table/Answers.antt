@@ -8,7 +8,7 @@ use Rattle.table.specs.Acceptance.{acceptance_answer}
 use Rattle.classes.specs.ClassesCall.{memory_rows, memory_answer}
 use Rattle.classes.specs.declared.Memory.TheVariants.{Enough}
 use Rattle.edit_trace.specs.Trace.{trace_rows}
-use Rattle.edit_replay.specs.ReplayCallLaws.{start_short, start_unfit, start_fits, trace_passed, start_done}
+use Rattle.edit_replay.proofs.ReplayCallLaws.{start_short, start_unfit, start_fits, trace_passed, start_done}
 use Rattle.edit_replay.proofs.replay_table.Goals as goal
 use Rattle.edit_replay.proofs.replay_table.Lts as lts
 use Rattle.edit_replay.proofs.replay_table.Reads as reads

@@ -1,6 +1,6 @@
 -- Each way out is the edit's row, or its passing.
 use mathlib.Core.Bool.{false}
-use Rattle.edit_rules.specs.JudgeLaws.{arrival_full, arrival_short, arrival_accepted, leaving_refused, leaving_accepted}
+use Rattle.edit_rules.proofs.JudgeLaws.{arrival_full, arrival_short, arrival_accepted, leaving_refused, leaving_accepted}
 use Rattle.edit_rules.proofs.judge_change.Goals as goal
 
 pub returns-then-m-ge-EDGES : goal.returns-then-m-ge-EDGES

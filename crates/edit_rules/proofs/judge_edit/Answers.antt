@@ -1,6 +1,6 @@
 -- Each way out of this function is row 37; the rest is judged by `judge_change`.
 use mathlib.Core.Path.{sym, ◌∙◌}
-use Rattle.edit_rules.specs.JudgeLaws.{source_outside, target_outside, edit_misplaced, edit_placed}
+use Rattle.edit_rules.proofs.JudgeLaws.{source_outside, target_outside, edit_misplaced, edit_placed}
 use Rattle.edit_rules.proofs.judge_edit.Goals as goal
 
 pub returns-then-n-s : goal.returns-then-n-s

@@ -2,7 +2,7 @@
 use native.Mathlib.Omega.{arith}
 use lib.ListN.{length-replicate}
 use Prim.Native.Nat.{ℕ}
-use Rattle.theory.specs.Logic.ListLaws.{zeros}
+use Rattle.theory.proofs.Logic.ListLaws.{zeros}
 use Rattle.edit_run.specs.TallyLaws.{tallied_start, link_column, source_column}
 use Rattle.edit_run.proofs.link_all.Goals as goal
 

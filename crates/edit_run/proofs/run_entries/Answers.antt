@@ -2,7 +2,7 @@
 use mathlib.Core.Path.{sym}
 use borrow.Author.Tests.{lt-ltb, le-ltb}
 use native.Mathlib.Omega.{arith}
-use Rattle.edit_trace.specs.TraceLaws.{trace_length, trace_few}
+use Rattle.edit_trace.proofs.TraceLaws.{trace_length, trace_few}
 use Rattle.edit_run.proofs.run_entries.Goals as goal
 
 pub bounds-trace-0 : goal.bounds-trace-0

@@ -3,13 +3,13 @@ use mathlib.Core.Path.{◌≡◌, refl, sym, ◌∙◌}
 use Prim.Native.Nat.{ℕ, ◌+◌, ◌*◌, ◌≤◌}
 use native.Mathlib.Omega.{arith}
 use lib.ListN.{length, length-replicate}
-use Rattle.theory.specs.Logic.ListLaws.{zeros}
-use Rattle.theory.specs.Logic.RangeLaws.{first_le}
+use Rattle.theory.proofs.Logic.ListLaws.{zeros}
+use Rattle.theory.proofs.Logic.RangeLaws.{first_le}
 use Rattle.table.specs.Limits.{vertex_limit, edge_limit}
 use Rattle.edit_links.specs.Links.{Pairs}
-use Rattle.edit_rules.specs.EditPartsLaws.{formed_room}
+use Rattle.edit_rules.proofs.EditPartsLaws.{formed_room}
 use Rattle.edit_trace.specs.Trace.{entry_count}
-use Rattle.edit_trace.specs.TraceLaws.{trace_length, trace_few}
+use Rattle.edit_trace.proofs.TraceLaws.{trace_length, trace_few}
 use Rattle.edit_run.specs.Gathered.{outside}
 use Rattle.edit_run.specs.SettledLaws.{gathered_pairs}
 use Rattle.edit_run.proofs.run_first.Goals as goal

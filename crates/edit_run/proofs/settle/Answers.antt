@@ -5,7 +5,7 @@ use native.Mathlib.Omega.{arith}
 use lib.ListN.{length, length-replicate}
 use Rattle.table.specs.Limits.{edge_limit}
 use Rattle.table.specs.Table.{table_length, vertex_count, table_edges, table_in}
-use Rattle.edit_rules.specs.BufferLaws.{in_vertices, in_room}
+use Rattle.edit_rules.proofs.BufferLaws.{in_vertices, in_room}
 use Rattle.edit_trace.specs.Trace.{entry_count}
 use Rattle.edit_run.specs.SettledLaws.{settled_fits, settled_few, settled}
 use Rattle.edit_run.proofs.settle.Goals as goal

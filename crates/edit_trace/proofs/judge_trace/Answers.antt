@@ -1,6 +1,6 @@
 -- Each way out is row 40, or its passing.
 use native.Mathlib.Omega.{arith}
-use Rattle.edit_trace.specs.TraceLaws.{no_words, other_length, too_many, trace_accepted}
+use Rattle.edit_trace.proofs.TraceLaws.{no_words, other_length, too_many, trace_accepted}
 use Rattle.edit_trace.proofs.judge_trace.Goals as goal
 
 pub returns-then-len-eq0 : goal.returns-then-len-eq0

@@ -12,7 +12,7 @@ use Rattle.large_table.specs.Words.{TableOf}
 use Rattle.large_table.specs.WordsLaws.{formed_table}
 use Rattle.large_images.specs.Images.{Classes}
 use Rattle.large_reduction.specs.ReductionCall.{first_descent, first_beyond, first_different, class_rows, merge_rows}
-use Rattle.large_reduction.specs.ReductionCallLaws.{finds, misses, classes_by}
+use Rattle.large_reduction.proofs.ReductionCallLaws.{finds, misses, classes_by}
 use Rattle.large_reduction.proofs.judge_classes.Goals as goal
 use Rattle.large_reduction.proofs.judge_classes.Lts as lts
 use Rattle.large_reduction.proofs.judge_classes.Reads as reads

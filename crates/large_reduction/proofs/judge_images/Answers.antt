@@ -9,8 +9,8 @@ use Rattle.table.specs.Table.{vertex_count, table_edges}
 use Rattle.table.specs.Answers.{Answer, refused, judge}
 use Rattle.table.specs.AnswersLaws.{judge_hit, judge_next}
 use Rattle.large_images.specs.Images.{Long, Images, Starts, first_empty, first_image, first_start, first_owner, first_after, image_rows}
-use Rattle.large_images.specs.ImagesLaws.{images_by, starts_by}
-use Rattle.large_reduction.specs.ReductionCallLaws.{finds, misses}
+use Rattle.large_images.proofs.ImagesLaws.{images_by, starts_by}
+use Rattle.large_reduction.proofs.ReductionCallLaws.{finds, misses}
 use Rattle.large_reduction.proofs.judge_images.Goals as goal
 use Rattle.large_reduction.proofs.judge_images.Lts as lts
 use Rattle.large_reduction.proofs.judge_images.Reads as reads

@@ -5,7 +5,7 @@ use Rattle.table.specs.Filling.{filling_answer}
 use Rattle.table.specs.declared.Filling.TheVariants.{Accepted, Refused}
 use Rattle.large_table.specs.Reading.{large_answer}
 use Rattle.large_table.specs.ReadingLaws.{large_sized}
-use Rattle.large_reduction.specs.ReductionCallLaws.{shifted_past, shifted_refused, refusal_number}
+use Rattle.large_reduction.proofs.ReductionCallLaws.{shifted_past, shifted_refused, refusal_number}
 use Rattle.large_reduction.proofs.judge_reduced.Goals as goal
 use Rattle.large_reduction.proofs.judge_reduced.Lts as lts
 use Rattle.large_reduction.proofs.judge_reduced.Reads as reads

@@ -9,7 +9,7 @@ use Rattle.table.specs.declared.Filling.TheVariants.{Accepted}
 use Rattle.large_table.specs.Reading.{large_answer}
 use Rattle.large_table.specs.ReadingLaws.{large_sized, large_past, large_stays}
 use Rattle.large_moves.specs.Moves.{move_rows}
-use Rattle.large_moves.specs.MovesLaws.{clean_chosen, chosen_lengths}
+use Rattle.large_moves.proofs.MovesLaws.{clean_chosen, chosen_lengths}
 use Rattle.large_solution.specs.Places.{solution_answer}
 use Rattle.large_solution.proofs.check_solution.Reads as reads
 use Rattle.large_solution.proofs.check_solution.Lts as lts

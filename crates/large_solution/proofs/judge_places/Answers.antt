@@ -11,7 +11,7 @@ use Rattle.table.specs.Table.{vertex_count}
 use Rattle.table.specs.Answers.{Answer, refused, judge}
 use Rattle.table.specs.AnswersLaws.{judge_hit, judge_next}
 use Rattle.large_solution.specs.Places.{Placed, from_last, first_beyond, first_misplaced, first_bad_run, first_climb, place_rows}
-use Rattle.large_solution.specs.PlacesLaws.{placed_by}
+use Rattle.large_solution.proofs.PlacesLaws.{placed_by}
 use Rattle.large_solution.proofs.judge_places.Reads as reads
 use Rattle.large_solution.proofs.judge_places.Lts as lts
 use Rattle.large_solution.proofs.searches.first_bad_run.Reads as first-bad-run-reads

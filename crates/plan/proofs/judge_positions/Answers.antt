@@ -1,7 +1,7 @@
 -- The links of a well-formed plan are indexed, over zeros.
 use native.Mathlib.Omega.{arith}
 use Prim.Native.Nat.{◌+◌}
-use Rattle.theory.specs.Logic.ListLaws.{zeros}
+use Rattle.theory.proofs.Logic.ListLaws.{zeros}
 use Rattle.table.specs.Limits.{position_limit}
 use Rattle.plan.proofs.judge_positions.Goals as goal
 

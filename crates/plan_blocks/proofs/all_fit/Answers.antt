@@ -5,8 +5,8 @@ use Prim.Native.Nat.{ℕ, ◌<◌, ◌-◌}
 use mathlib.Core.Path.{sym, ◌∙◌}
 use mathlib.Core.Bool.{So}
 use borrow.Author.Count.{below_more}
-use Rattle.theory.specs.Logic.BoolsLaws.{So_not, clash}
-use Rattle.theory.specs.Logic.RangeLaws.{all_in, all_out}
+use Rattle.theory.proofs.Logic.BoolsLaws.{So_not, clash}
+use Rattle.theory.proofs.Logic.RangeLaws.{all_in, all_out}
 use Rattle.plan_blocks.specs.Refining.{fits}
 use Rattle.plan_blocks.proofs.all_fit.Goals as goal
 

@@ -3,7 +3,7 @@ use Prim.Native.Nat.{◌-◌}
 use mathlib.Core.Path.{◌≡◌, refl, sym, ◌∙◌}
 use lib.ListN.{get_or}
 use Rattle.theory.specs.Logic.Range.{any_from}
-use Rattle.theory.specs.Logic.RangeLaws.{from_in, from_step, from_end}
+use Rattle.theory.proofs.Logic.RangeLaws.{from_in, from_step, from_end}
 use Rattle.index.specs.Index.{among}
 use Rattle.plan_blocks.specs.Refining.{numbered, leads_to}
 use Rattle.plan_blocks.proofs.leads_to.Given as goal

@@ -1,7 +1,7 @@
 -- Numbers that fit split the blocks; what is listed for a number bounds the priorities of its block.
 use native.Mathlib.Omega.{arith}
 use mathlib.Core.Path.{sym, ◌∙◌}
-use Rattle.theory.specs.Logic.RangeLaws.{all_out}
+use Rattle.theory.proofs.Logic.RangeLaws.{all_out}
 use Rattle.plan_blocks.specs.RefiningLaws.{split_confined, split_bounded}
 use Rattle.plan_blocks.proofs.split.Goals as goal
 

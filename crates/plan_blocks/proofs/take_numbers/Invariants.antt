@@ -4,7 +4,7 @@ use Prim.Native.Nat.{ℕ, ◌≤◌, ◌<◌, ◌-◌, ◌+◌}
 use mathlib.Core.Path.{◌≡◌, refl, ap₂, ◌∙◌}
 use lib.ListN.{length, get_or, length-set}
 use lib.Seq.{get_or-set_other}
-use Rattle.theory.specs.Logic.ListLaws.{after_set}
+use Rattle.theory.proofs.Logic.ListLaws.{after_set}
 use Rattle.plan_blocks.specs.Refining.{taken, Taken}
 use Rattle.plan_blocks.proofs.take_numbers.Given as goal
 

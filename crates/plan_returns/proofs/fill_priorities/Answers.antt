@@ -4,7 +4,7 @@ use Prim.Native.Nat.{ℕ, ◌≤◌, ◌<◌, ◌-◌, ◌+◌}
 use mathlib.Core.Path.{◌≡◌}
 use lib.ListN.{length, get_or, length-set}
 use Rattle.plan_returns.specs.Returns.{position_priority}
-use Rattle.theory.specs.Logic.ListLaws.{after_set}
+use Rattle.theory.proofs.Logic.ListLaws.{after_set}
 use Rattle.plan_returns.proofs.fill_priorities.Goals as goal
 use Rattle.plan_returns.proofs.fill_priorities.Lts as lts
 use Rattle.plan_returns.proofs.fill_priorities.Reads as reads

@@ -3,7 +3,7 @@ use Prim.Native.Nat.{ℕ, ◌≤◌, ◌<◌, ◌-◌, ◌+◌}
 use mathlib.Core.Path.{◌≡◌}
 use lib.ListN.{length, get_or, length-set}
 use Rattle.plan_returns.specs.Returns.{position_priority}
-use Rattle.theory.specs.Logic.ListLaws.{after_set}
+use Rattle.theory.proofs.Logic.ListLaws.{after_set}
 use Rattle.plan_returns.proofs.fill_priorities.Given as goal
 
 abbrev pub invariant-loop-j : goal.invariant-loop-j

@@ -3,7 +3,7 @@ use native.Mathlib.Omega.{arith}
 use Prim.Native.Nat.{ℕ}
 use mathlib.Core.Path.{◌∙◌}
 use lib.ListN.{length-replicate}
-use Rattle.theory.specs.Logic.ListLaws.{zeros}
+use Rattle.theory.proofs.Logic.ListLaws.{zeros}
 use Rattle.table.specs.Limits.{position_limit}
 use Rattle.plan_returns.specs.ReturnSearchLaws.{first_return_same}
 use Rattle.plan_returns.proofs.first_return.Goals as goal

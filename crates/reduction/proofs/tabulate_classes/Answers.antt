@@ -9,7 +9,7 @@ use Rattle.classes.specs.ClassesCall.{memory_rows, memory_answer}
 use Rattle.classes.specs.ClassesCallLaws.{memory_fits}
 use Rattle.classes.specs.ClassesRules.{ClassesFit}
 use Rattle.reduction.specs.TableRules.{TableFits}
-use Rattle.reduction.specs.TableCallLaws.{table_short, table_output_short, table_written}
+use Rattle.reduction.proofs.TableCallLaws.{table_short, table_output_short, table_written}
 use Rattle.reduction.proofs.tabulate_classes.Goals as goal
 use Rattle.reduction.proofs.tabulate_classes.Lts as lts
 use Rattle.reduction.proofs.tabulate_classes.Reads as reads

@@ -1,6 +1,6 @@
 -- The reader's refusal is the call's; an accepted game is well-formed, which is what the rest needs.
 use Rattle.reduction_edges.specs.Rows.{game_by}
-use Rattle.reduction.specs.TableCallLaws.{sized, table_handed}
+use Rattle.reduction.proofs.TableCallLaws.{sized, table_handed}
 use Rattle.reduction.proofs.write_quotient.Goals as goal
 use Rattle.reduction.proofs.write_quotient.Lts as lts
 use Rattle.reduction.proofs.write_quotient.Reads as reads

@@ -1,6 +1,6 @@
 -- The local array holds a count for as many classes as there can be vertices.
 use mathlib.Core.Path.{◌∙◌}
-use Rattle.theory.specs.Logic.ListLaws.{zeros, tabulate_ext}
+use Rattle.theory.proofs.Logic.ListLaws.{zeros, tabulate_ext}
 use Rattle.table.specs.Limits.{vertex_limit}
 use Rattle.table.specs.PlacingLaws.{placed_written}
 use Rattle.reduction_totals.proofs.tally.Goals as goal

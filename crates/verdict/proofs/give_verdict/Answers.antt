@@ -10,7 +10,7 @@ use Rattle.table.specs.ReadingLaws.{well_clean}
 use Rattle.table.specs.WellFormed.{WellFormed, WellSized}
 use Rattle.reduction_edges.specs.Rows.{game_by}
 use Rattle.reduction.specs.TableCall.{tabulation_answer, TableCall}
-use Rattle.verdict.specs.VerdictCallLaws.{read_sized, written_well, reduced_small, reduced_long, classes_long, verdict_handed, verdict_beyond, verdict_short, verdict_judged}
+use Rattle.verdict.proofs.VerdictCallLaws.{read_sized, written_well, reduced_small, reduced_long, classes_long, verdict_handed, verdict_beyond, verdict_short, verdict_judged}
 use Rattle.verdict.proofs.give_verdict.Goals as goal
 use Rattle.verdict.proofs.give_verdict.Lts as lts
 use Rattle.verdict.proofs.give_verdict.Reads as reads

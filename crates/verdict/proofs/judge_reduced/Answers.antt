@@ -5,7 +5,7 @@ use native.Mathlib.Omega.{arith}
 use Rattle.table.specs.Answers.{accepted, judge}
 use Rattle.table.specs.Acceptance.{acceptance_answer}
 use Rattle.plan.specs.Acceptance.{plan_rows}
-use Rattle.verdict.specs.VerdictCallLaws.{start_there, start_refused, start_wins, start_elsewhere}
+use Rattle.verdict.proofs.VerdictCallLaws.{start_there, start_refused, start_wins, start_elsewhere}
 use Rattle.verdict.proofs.judge_reduced.Goals as goal
 use Rattle.verdict.proofs.judge_reduced.Lts as lts
 use Rattle.verdict.proofs.judge_reduced.Reads as reads

@@ -4,7 +4,7 @@ use lib.Count.{count_trailing_zeros}
 use Rattle.words.specs.Word.{word_bits, digit}
 use native.Mathlib.Omega.{arith}
 use Rattle.words.specs.WordLaws.{first_none_left, first_inside, first_digit}
-use Rattle.theory.specs.Logic.RangeLaws.{first_end_lem}
+use Rattle.theory.proofs.Logic.RangeLaws.{first_end_lem}
 use Rattle.words.proofs.first_from.Goals as goal
 use Rattle.words.proofs.first_from.Lts as lts
 use Rattle.words.proofs.first_from.Reads as reads

@@ -6,8 +6,8 @@ use native.Mathlib.Omega.{arith}
 use lib.ListN.{length, get_or, set, length-set}
 use Rattle.theory.specs.Order.Order.{order}
 use Rattle.theory.specs.Classes.Reduction.{class_number}
-use Rattle.theory.specs.Classes.QuotientLaws.{order_preorder}
-use Rattle.theory.specs.Classes.ClassLaws.{class_number_lt, class_count_le}
+use Rattle.theory.proofs.Classes.QuotientLaws.{order_preorder}
+use Rattle.theory.proofs.Classes.ClassLaws.{class_number_lt, class_count_le}
 use Rattle.table.specs.Table.{vertex_count, game_of}
 use Rattle.carry_output.specs.CarryParts.{LowestFrom}
 use Rattle.carry_output.specs.LowestLaws.{lowest_none, lowest_more, lowest_all}

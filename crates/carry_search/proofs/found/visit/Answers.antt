@@ -3,7 +3,7 @@ use mathlib.Core.Path.{◌∙◌}
 use Prim.Native.Nat.{◌+◌, ◌<◌}
 use native.Mathlib.Omega.{arith}
 use lib.ListN.{length, length-set}
-use Rattle.theory.specs.Carry.BreadthFirstLaws.{number_le}
+use Rattle.theory.proofs.Carry.BreadthFirstLaws.{number_le}
 use Rattle.carry_search.specs.PairsInLaws.{length_pairs_in}
 use Rattle.carry_search.specs.SearchMemory.{Memory, found_in}
 use Rattle.carry_search.specs.Work.{targets_at, memory_in}

@@ -1,5 +1,5 @@
 -- The sentences follow from what the call promises.
-use Rattle.claims.specs.SmallestLaws as laws
+use Rattle.claims.proofs.SmallestLaws as laws
 use Rattle.claims_calls.proofs.smallest.minimizes.Goals as goal
 use Rattle.claims_calls.proofs.smallest.minimizes.Lts as lts
 use Rattle.claims_calls.proofs.smallest.minimizes.Reads as reads

@@ -2,7 +2,7 @@
 use mathlib.Core.Path.{◌≡◌, refl, sym, ◌∙◌}
 use Prim.Native.Nat.{◌-◌, ◌<◌, ◌≤◌}
 use native.Mathlib.Omega.{arith}
-use Rattle.theory.specs.Logic.RangeLaws.{first_end_lem}
+use Rattle.theory.proofs.Logic.RangeLaws.{first_end_lem}
 use Rattle.theory.specs.Logic.Range.{first}
 use Rattle.theory.specs.Classes.Reduction.{same_class, lowest}
 use Rattle.marks.specs.Marks.{relation}

@@ -1,7 +1,7 @@
 -- The buffer ends before the table does, or the sizes tell.
 use native.Mathlib.Omega.{arith}
 use mathlib.Core.Path.{refl}
-use Rattle.edit_rules.specs.BufferLaws.{in_all}
+use Rattle.edit_rules.proofs.BufferLaws.{in_all}
 use Rattle.std.proofs.Common.{rules}
 use Rattle.edit_rules.proofs.buffer.table_end.Goals as goal
 

@@ -2,7 +2,7 @@
 use Prim.Native.Nat.{◌+◌, ◌*◌}
 use native.Mathlib.Omega.{arith}
 use mathlib.Core.Path.{sym, ◌∙◌}
-use Rattle.edit_rules.specs.SearchLaws.{leads_no, leads_by}
+use Rattle.edit_rules.proofs.SearchLaws.{leads_no, leads_by}
 use Rattle.edit_rules.proofs.listing.leads_so.Goals as goal
 
 pub overflow_cast-table : goal.overflow_cast-table

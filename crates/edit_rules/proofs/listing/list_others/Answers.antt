@@ -10,7 +10,7 @@ use Rattle.table.specs.Listing.{Appended}
 use Rattle.table.specs.ListingLaws.{appended_join}
 use Rattle.edit_rules.specs.Edges.{edges_in, others}
 use Rattle.edit_rules.specs.EditParts.{edges_part}
-use Rattle.edit_rules.specs.SearchLaws.{edges_below, others_few, others_start, part_low, part_high, others_part}
+use Rattle.edit_rules.proofs.SearchLaws.{edges_below, others_few, others_start, part_low, part_high, others_part}
 use Rattle.std.proofs.Common.{rules}
 use Rattle.edit_rules.proofs.listing.list_others.Goals as goal
 use Rattle.edit_rules.proofs.listing.list_others.Lts as lts

@@ -1,5 +1,5 @@
 -- The words of the part, put behind the others.
-use Rattle.edit_rules.specs.SearchLaws.{part_listed}
+use Rattle.edit_rules.proofs.SearchLaws.{part_listed}
 use Rattle.edit_rules.proofs.listing.list_part.Goals as goal
 
 pub returns : goal.returns

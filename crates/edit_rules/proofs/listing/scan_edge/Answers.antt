@@ -1,6 +1,6 @@
 -- An edge that leads elsewhere, a copy behind the first, the first copy, or neither.
 use mathlib.Core.Path.{sym, ◌∙◌}
-use Rattle.edit_rules.specs.ScanLaws.{scan_other, scan_known, scan_copy, scan_none}
+use Rattle.edit_rules.proofs.ScanLaws.{scan_other, scan_known, scan_copy, scan_none}
 use Rattle.edit_rules.proofs.listing.scan_edge.Goals as goal
 
 pub returns-then-leads_so : goal.returns-then-leads_so

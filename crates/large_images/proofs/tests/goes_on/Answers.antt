@@ -3,7 +3,7 @@ use mathlib.Core.Path.{sym}
 use borrow.Author.Tests.{lt-ltb}
 use Rattle.theory.specs.Logic.Bools.{◌&◌}
 use Rattle.large_images.specs.Images.{goes_on}
-use Rattle.large_images.specs.ImagesLaws.{goes_ends}
+use Rattle.large_images.proofs.ImagesLaws.{goes_ends}
 use Rattle.large_images.proofs.tests.goes_on.Goals as goal
 
 pub returns-then-q-e : goal.returns-then-q-e

@@ -2,7 +2,7 @@
 use mathlib.Core.Path.{sym, ap, ◌∙◌}
 use mathlib.Core.Bool.{not}
 use borrow.Author.Tests.{lt-ltb, le-ltb, le-leb, lt-leb, eq-eqb, ne_eqb}
-use Rattle.theory.specs.Logic.BoolsLaws.{not_in, and_first, and_one, or_left, or_first}
+use Rattle.theory.proofs.Logic.BoolsLaws.{not_in, and_first, and_one, or_left, or_first}
 use Rattle.large_solution.specs.Places.{climbs_by}
 use Rattle.large_solution.proofs.tests.climbs_by.Reads as reads
 use Rattle.large_solution.proofs.tests.climbs_by.Lts as lts

@@ -4,7 +4,7 @@ use Prim.Native.Nat.{ℕ, ◌+◌, ◌*◌, ◌<◌}
 use native.Mathlib.Omega.{arith}
 use borrow.Author.Tests.{not-false}
 use Rattle.theory.specs.Logic.Bools.{◌&◌}
-use Rattle.theory.specs.Logic.BoolsLaws.{not_out}
+use Rattle.theory.proofs.Logic.BoolsLaws.{not_out}
 use Rattle.large_table.specs.Words.{source_of, target_of}
 use Rattle.large_solution.specs.Places.{place_at, edge_climbs}
 use Rattle.large_solution.proofs.tests.edge_climbs.Reads as reads

@@ -1,6 +1,6 @@
 use Rattle.marks.specs.Marks.{InMarks}
 use Rattle.theory.specs.Logic.Range.{any_from}
-use Rattle.theory.specs.Logic.RangeLaws.{from_in, from_end, from_step}
+use Rattle.theory.proofs.Logic.RangeLaws.{from_in, from_end, from_step}
 use Rattle.marks.specs.MarkSearch.{has_mark}
 use native.Mathlib.Omega.{arith}
 use native.Mathlib.Nat.{le_refl}

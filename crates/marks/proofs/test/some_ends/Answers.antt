@@ -5,7 +5,7 @@ use mathlib.Core.Path.{◌≡◌, sym, ◌∙◌}
 use Prim.Native.Nat.{◌-◌, ◌≤◌}
 use lib.ListN.{get_or}
 use Rattle.theory.specs.Logic.Range.{any_from}
-use Rattle.theory.specs.Logic.RangeLaws.{from_in, from_end, from_step}
+use Rattle.theory.proofs.Logic.RangeLaws.{from_in, from_end, from_step}
 use Rattle.marks.specs.MarkSearch.{search_ends}
 use Rattle.std.proofs.Common.{rules}
 use Rattle.marks.proofs.test.some_ends.Goals as goal

@@ -4,7 +4,7 @@ use mathlib.Core.Bool.{false}
 use Prim.Native.Nat.{ℕ}
 use native.Mathlib.Omega.{arith}
 use lib.ListN.{replicate}
-use Rattle.theory.specs.Logic.ListLaws.{zeros}
+use Rattle.theory.proofs.Logic.ListLaws.{zeros}
 use Rattle.words.specs.WordLaws.{digit_zero}
 use Rattle.order_small_losses.specs.Words.{bit, small_edges}
 use Rattle.order.specs.OrderWrittenLaws.{rows_done}

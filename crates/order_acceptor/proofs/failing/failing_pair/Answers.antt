@@ -1,7 +1,7 @@
 -- The arrays hold the index of any well-formed table.
 use native.Mathlib.Omega.{arith}
 use Prim.Native.Nat.{◌+◌}
-use Rattle.theory.specs.Logic.ListLaws.{zeros}
+use Rattle.theory.proofs.Logic.ListLaws.{zeros}
 use Rattle.table.specs.Limits.{vertex_limit}
 use Rattle.order_acceptor.proofs.failing.failing_pair.Goals as goal
 

@@ -1,7 +1,7 @@
 -- `near` has the vertices with a successor in l; of these an Odd vertex falls, and an Even one if it has no successor in x, as defined.
 use mathlib.Core.Path.{refl, sym, ◌∙◌}
 use mathlib.Core.Bool.{true}
-use Rattle.theory.specs.Logic.BoolsLaws.{and_one}
+use Rattle.theory.proofs.Logic.BoolsLaws.{and_one}
 use Rattle.words.specs.Words.{has}
 use Rattle.order_sets.specs.LossesLaws.{near_is, fall_rows}
 use Rattle.order_rows.specs.Bits.{row_bits, cell}

@@ -3,7 +3,7 @@ use mathlib.Core.Path.{◌≡◌, sym, ap, ◌∙◌}
 use mathlib.Core.Bool.{not}
 use Prim.Native.Nat.{ℕ, ◌<◌}
 use Rattle.theory.specs.Logic.Bools.{◌&◌}
-use Rattle.theory.specs.Logic.BoolsLaws.{not_out}
+use Rattle.theory.proofs.Logic.BoolsLaws.{not_out}
 use Rattle.theory.specs.Games.Game.{Game}
 use Rattle.theory.specs.Order.Rows.{united, fall}
 use Rattle.words.specs.Words.{has}

@@ -4,7 +4,7 @@ use mathlib.Core.Path.{◌≡◌, refl, ◌∙◌}
 use Prim.Native.Nat.{◌+◌, ◌-◌}
 use native.Mathlib.Omega.{arith}
 use lib.ListN.{length}
-use Rattle.theory.specs.Logic.RangeLaws.{first_ge}
+use Rattle.theory.proofs.Logic.RangeLaws.{first_ge}
 use Rattle.words.specs.Words.{has}
 use Rattle.order_rows.specs.Bits.{row_bits, cell}
 use Rattle.order_rows.specs.MatrixLaws.{row_alone}

@@ -3,7 +3,7 @@ use mathlib.Core.Bool.{not}
 use Prim.Native.Nat.{◌-◌, ◌≤◌}
 use native.Mathlib.Omega.{arith}
 use Rattle.theory.specs.Logic.Bools.{◌&◌}
-use Rattle.theory.specs.Logic.BoolsLaws.{and_true}
+use Rattle.theory.proofs.Logic.BoolsLaws.{and_true}
 use Rattle.theory.specs.Logic.Range.{any_below}
 use Rattle.words.specs.Words.{has}
 use Rattle.order_rows.specs.Bits.{row_words, RowIs}

@@ -4,7 +4,7 @@ use native.Mathlib.Omega.{arith}
 use Rattle.theory.specs.Logic.Bools.{◌or◌}
 use lib.ListN.{get_or}
 use Rattle.theory.specs.Logic.Range.{any_below}
-use Rattle.theory.specs.Logic.RangeLaws.{any_ext}
+use Rattle.theory.proofs.Logic.RangeLaws.{any_ext}
 use Rattle.words.specs.Word.{word_bits, digit}
 use Rattle.words.specs.Words.{has}
 use Rattle.order_rows.specs.Bits.{row_words}

@@ -1,5 +1,5 @@
 -- `common` holds what is in both rows, so they meet exactly if something is in it.
-use Rattle.theory.specs.Logic.RangeLaws.{any_ext}
+use Rattle.theory.proofs.Logic.RangeLaws.{any_ext}
 use mathlib.Core.Path.{◌∙◌}
 use Rattle.order_rows.proofs.row.meets.Goals as goal
 

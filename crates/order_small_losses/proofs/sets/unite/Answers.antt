@@ -2,7 +2,7 @@
 use mathlib.Core.Path.{ap, ◌∙◌}
 use Prim.Native.Nat.{◌+◌}
 use Rattle.theory.specs.Logic.Bools.{◌or◌}
-use Rattle.theory.specs.Logic.BoolsLaws.{or_first}
+use Rattle.theory.proofs.Logic.BoolsLaws.{or_first}
 use Rattle.words.specs.Word.{word_bits, digit}
 use Rattle.words.specs.WordLaws.{digit_zero, digit_or}
 use Rattle.words.specs.LeftLaws.{Left, left_start, left_next, done, or_start, or_next, or_end}

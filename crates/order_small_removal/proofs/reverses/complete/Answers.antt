@@ -4,7 +4,7 @@ use mathlib.Core.Path.{◌≡◌, refl, ◌∙◌}
 use Prim.Native.Nat.{◌+◌, ◌-◌}
 use native.Mathlib.Omega.{arith}
 use lib.ListN.{length}
-use Rattle.theory.specs.Logic.RangeLaws.{first_ge}
+use Rattle.theory.proofs.Logic.RangeLaws.{first_ge}
 use Rattle.words.specs.Word.{word_bits, digit}
 use Rattle.order_sets.specs.MembersLaws.{Reached, reached_start, reached_next}
 use Rattle.order_sets.specs.ReversesLaws.{MirrorTo, mirror_start, mirror_next, mirror_end, mirror_none}

@@ -3,9 +3,9 @@ use Prim.Native.Nat.{◌+◌, ◌-◌}
 use native.Mathlib.Omega.{arith}
 use lib.ListN.{length}
 use Rattle.theory.specs.Logic.Range.{count}
-use Rattle.theory.specs.Logic.RangeLaws.{first_ge}
-use Rattle.theory.specs.Logic.CountLaws.{count_le}
-use Rattle.theory.specs.Logic.SumLaws.{sum_le}
+use Rattle.theory.proofs.Logic.RangeLaws.{first_ge}
+use Rattle.theory.proofs.Logic.CountLaws.{count_le}
+use Rattle.theory.proofs.Logic.SumLaws.{sum_le}
 use Rattle.words.specs.Word.{word_bits, digit}
 use Rattle.order_sets.specs.Sets.{struck}
 use Rattle.order_sets.specs.MembersLaws.{Reached, reached_start, reached_next}

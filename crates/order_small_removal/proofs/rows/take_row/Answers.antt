@@ -1,7 +1,7 @@
 -- Each store changes word a alone, and the fall is that of what is taken out with what is left, as far as Even's predecessors of a ask for it.
 use mathlib.Core.Path.{refl, ◌∙◌}
 use native.Mathlib.Omega.{arith}
-use Rattle.theory.specs.Logic.BoolsLaws.{and_one}
+use Rattle.theory.proofs.Logic.BoolsLaws.{and_one}
 use Rattle.words.specs.Word.{word_bits, digit}
 use Rattle.order_sets.specs.RemovalLaws.{row_taken, asking_covers}
 use Rattle.order_small_losses.specs.Words.{bit}

@@ -1,7 +1,7 @@
 -- The edges of a well-formed game are indexed, over zeros.
 use native.Mathlib.Omega.{arith}
 use Prim.Native.Nat.{◌+◌}
-use Rattle.theory.specs.Logic.ListLaws.{zeros}
+use Rattle.theory.proofs.Logic.ListLaws.{zeros}
 use Rattle.table.specs.Limits.{vertex_limit}
 use Rattle.plan.proofs.answers.first_lacking.Goals as goal
 

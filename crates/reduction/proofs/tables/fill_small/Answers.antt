@@ -2,7 +2,7 @@
 use Prim.Native.Nat.{◌≤◌}
 use native.Mathlib.Nat.{mul-le-mul}
 use native.Mathlib.Omega.{arith}
-use Rattle.theory.specs.Logic.ListLaws.{zeros}
+use Rattle.theory.proofs.Logic.ListLaws.{zeros}
 use Rattle.table.specs.Table.{vertex_count}
 use Rattle.reduction_rows.specs.Reached.{words_for}
 use Rattle.reduction.proofs.tables.fill_small.Goals as goal

@@ -7,16 +7,16 @@ use native.Mathlib.Omega.{arith}
 use lib.ListN.{length}
 use Rattle.theory.specs.Logic.Range.{pairs_of}
 use Rattle.theory.specs.Order.Order.{order}
-use Rattle.theory.specs.Classes.QuotientLaws.{order_preorder}
-use Rattle.theory.specs.Classes.ClassLaws.{class_count_le}
+use Rattle.theory.proofs.Classes.QuotientLaws.{order_preorder}
+use Rattle.theory.proofs.Classes.ClassLaws.{class_count_le}
 use Rattle.table.specs.Table.{vertex_count, table_edges, game_of}
 use Rattle.classes.specs.Numbering.{Numbered, Classed, classes_in, Represented}
 use Rattle.classes.specs.NumberingLaws.{numbered_classed, numbered_represented, numbered_total}
 use Rattle.classes.specs.OrderedMarksLaws.{ordered_preorder, ordered_words, ordered_numbered}
 use Rattle.reduction_edges.specs.Rows.{game_by}
-use Rattle.reduction_edges.specs.ListingLaws.{edges_few}
-use Rattle.reduction.specs.SourcesLaws.{listed_count, stops_ascend}
-use Rattle.reduction.specs.TablesLaws.{table_filled}
+use Rattle.reduction_edges.proofs.ListingLaws.{edges_few}
+use Rattle.reduction.proofs.SourcesLaws.{listed_count, stops_ascend}
+use Rattle.reduction.proofs.TablesLaws.{table_filled}
 use Rattle.reduction.proofs.tables.fill_within.Goals as goal
 use Rattle.reduction.proofs.tables.fill_within.Lts as lts
 use Rattle.reduction.proofs.tables.fill_within.Reads as reads

@@ -3,14 +3,14 @@ use mathlib.Core.Path.{◌≡◌, refl, ◌∙◌}
 use Prim.Native.Nat.{ℕ, ◌≤◌, ◌<◌}
 use native.Mathlib.Omega.{arith}
 use lib.ListN.{length, get_or, length-set}
-use Rattle.theory.specs.Logic.ListLaws.{length_tabulate}
-use Rattle.theory.specs.Classes.QuotientLaws.{order_preorder}
+use Rattle.theory.proofs.Logic.ListLaws.{length_tabulate}
+use Rattle.theory.proofs.Classes.QuotientLaws.{order_preorder}
 use Rattle.table.specs.Limits.{vertex_limit}
 use Rattle.table.specs.Table.{vertex_count, game_of}
 use Rattle.reduction.specs.Tables.{head_by}
 use Rattle.classes.specs.NumberingLaws.{represented_lt}
 use Rattle.classes.specs.OrderedMarksLaws.{classes_few}
-use Rattle.reduction.specs.TablesLaws.{head_parts}
+use Rattle.reduction.proofs.TablesLaws.{head_parts}
 use Rattle.reduction.proofs.tables.write_head.Goals as goal
 use Rattle.reduction.proofs.tables.write_head.Lts as lts
 use Rattle.reduction.proofs.tables.write_head.Reads as reads

@@ -6,7 +6,7 @@ use native.Mathlib.Omega.{arith}
 use lib.ListN.{length, get_or}
 use Rattle.table.specs.Placing.{placed}
 use Rattle.reduction.specs.Tables.{start_of, spread}
-use Rattle.reduction.specs.SourcesLaws.{spread_none, start_more, count_more, spread_put}
+use Rattle.reduction.proofs.SourcesLaws.{spread_none, start_more, count_more, spread_put}
 use Rattle.std.proofs.Common.{rules}
 use Rattle.reduction.proofs.tables.write_sources.Invariants.{start}
 use Rattle.reduction.proofs.tables.write_sources.Goals as goal

@@ -5,7 +5,7 @@ use native.Mathlib.Omega.{arith}
 use lib.ListN.{length, get_or}
 use Rattle.table.specs.Placing.{placed}
 use Rattle.reduction.specs.Tables.{start_of, spread}
-use Rattle.reduction.specs.SourcesLaws.{spread_none, start_more, count_more, spread_put}
+use Rattle.reduction.proofs.SourcesLaws.{spread_none, start_more, count_more, spread_put}
 use Rattle.reduction.proofs.tables.write_sources.Given as goal
 
 abbrev pub start : tie.In-loop invariant-loop decreases-loop → tie.Start invariant-loop decreases-loop

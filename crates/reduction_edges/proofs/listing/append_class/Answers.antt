@@ -4,16 +4,16 @@ use mathlib.Core.List.{List, map}
 use Prim.Native.Nat.{ℕ, ◌+◌, ◌-◌, ◌*◌, ◌≤◌, ◌<◌}
 use native.Mathlib.Omega.{arith}
 use lib.ListN.{length, get_or, take, drop}
-use Rattle.theory.specs.Logic.ListLaws.{zeros}
+use Rattle.theory.proofs.Logic.ListLaws.{zeros}
 use Rattle.theory.specs.Order.Order.{order}
 use Rattle.theory.specs.Classes.Reduction.{representative}
-use Rattle.theory.specs.Classes.QuotientLaws.{rep_lt}
+use Rattle.theory.proofs.Classes.QuotientLaws.{rep_lt}
 use Rattle.table.specs.Table.{vertex_count, game_of}
 use Rattle.classes.specs.Numbering.{classes_in}
 use Rattle.reduction_rows.specs.ReachedLaws.{row_inside}
 use Rattle.reduction_edges.specs.LittleBrothers.{RowFits}
 use Rattle.reduction_edges.specs.Rows.{keeps, picked, number_of, game_by}
-use Rattle.reduction_edges.specs.ListingLaws.{row_length, class_row, class_size}
+use Rattle.reduction_edges.proofs.ListingLaws.{row_length, class_row, class_size}
 use Rattle.reduction_edges.proofs.listing.append_class.Goals as goal
 use Rattle.reduction_edges.proofs.listing.append_class.Lts as lts
 use Rattle.reduction_edges.proofs.listing.append_class.Reads as reads

@@ -5,13 +5,13 @@ use mathlib.Core.List.{map}
 use Prim.Native.Nat.{◌+◌, ◌-◌, ◌≤◌, ◌<◌}
 use native.Mathlib.Omega.{arith}
 use lib.ListN.{length, length-map}
-use Rattle.theory.specs.Logic.BoolsLaws.{and_in, not_in}
+use Rattle.theory.proofs.Logic.BoolsLaws.{and_in, not_in}
 use Rattle.words.specs.Words.{has}
 use Rattle.order_sets.specs.MembersLaws.{Reached, reached_start, reached_next}
-use Rattle.theory.specs.Logic.RangeLaws.{first_ge}
+use Rattle.theory.proofs.Logic.RangeLaws.{first_ge}
 use Rattle.reduction_edges.specs.Rows.{keeps, picked, number_of, Put}
-use Rattle.reduction_edges.specs.PickedLaws.{picked_grows, picked_room}
-use Rattle.reduction_edges.specs.ListingLaws.{put_none, put_join, row_start_lem, row_next}
+use Rattle.reduction_edges.proofs.PickedLaws.{picked_grows, picked_room}
+use Rattle.reduction_edges.proofs.ListingLaws.{put_none, put_join, row_start_lem, row_next}
 use Rattle.reduction_edges.proofs.listing.append_row.Goals as goal
 use Rattle.reduction_edges.proofs.listing.append_row.Lts as lts
 use Rattle.reduction_edges.proofs.listing.append_row.Reads as reads

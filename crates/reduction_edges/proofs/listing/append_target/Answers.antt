@@ -5,7 +5,7 @@ use Prim.Native.Nat.{◌<◌}
 use native.Mathlib.Omega.{arith}
 use lib.ListN.{length}
 use Rattle.words.specs.Words.{has}
-use Rattle.reduction_edges.specs.ListingLaws.{put_none, put_one}
+use Rattle.reduction_edges.proofs.ListingLaws.{put_none, put_one}
 use Rattle.reduction_edges.proofs.listing.append_target.Goals as goal
 use Rattle.reduction_edges.proofs.listing.append_target.Lts as lts
 use Rattle.reduction_edges.proofs.listing.append_target.Reads as reads

@@ -5,7 +5,7 @@ use native.Mathlib.Omega.{arith}
 use lib.ListN.{length, length-map, length-set}
 use Rattle.theory.specs.Logic.Range.{pairs_below}
 use Rattle.table.specs.Table.{game_of, table_edges}
-use Rattle.reduction_edges.specs.ListingLaws.{rows_none, rows_more, rows_few}
+use Rattle.reduction_edges.proofs.ListingLaws.{rows_none, rows_more, rows_few}
 use Rattle.reduction_edges.proofs.listing.list_classes.Given as goal
 
 abbrev pub invariant-loop-c : goal.invariant-loop-c

@@ -1,5 +1,5 @@
 -- An empty word has none; else the marks of the word are compared with it.
-use Rattle.reduction_edges.specs.WordsLaws.{word_none, word_both}
+use Rattle.reduction_edges.proofs.WordsLaws.{word_none, word_both}
 use Rattle.reduction_edges.proofs.little_brothers.beaten_word.Goals as goal
 
 pub returns-then-here-eq0 : goal.returns-then-here-eq0

@@ -2,9 +2,9 @@
 use mathlib.Core.Path.{◌≡◌, sym, ap, ◌∙◌}
 use mathlib.Core.Bool.{Bool}
 use Rattle.theory.specs.Logic.Bools.{◌or◌}
-use Rattle.theory.specs.Logic.BoolsLaws.{or_false}
+use Rattle.theory.proofs.Logic.BoolsLaws.{or_false}
 use Rattle.words.specs.Words.{has}
-use Rattle.reduction_edges.specs.LittleBrothersLaws.{drops_odd, drops_none, drops_self}
+use Rattle.reduction_edges.proofs.LittleBrothersLaws.{drops_odd, drops_none, drops_self}
 use Rattle.reduction_edges.proofs.little_brothers.drop_by.Goals as goal
 
 pub returns-then-not-even : goal.returns-then-not-even

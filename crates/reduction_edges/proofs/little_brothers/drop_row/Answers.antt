@@ -1,7 +1,7 @@
 -- Without `drop` nothing is put over the zeros; with it what is dropped for the owner of r.
 use mathlib.Core.Path.{◌≡◌, sym, ◌∙◌}
 use native.Mathlib.Omega.{arith}
-use Rattle.reduction_edges.specs.LittleBrothersLaws.{nothing, drop_none, drop_some}
+use Rattle.reduction_edges.proofs.LittleBrothersLaws.{nothing, drop_none, drop_some}
 use Rattle.reduction_edges.proofs.little_brothers.drop_row.Goals as goal
 
 pub returns-then-not-drop : goal.returns-then-not-drop

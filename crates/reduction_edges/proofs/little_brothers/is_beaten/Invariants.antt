@@ -5,7 +5,7 @@ use native.Mathlib.Omega.{arith}
 use Rattle.theory.specs.Logic.Bools.{◌&◌}
 use Rattle.words.specs.Words.{has}
 use Rattle.reduction_edges.specs.LittleBrothers.{below_other}
-use Rattle.reduction_edges.specs.WordsLaws.{word_some, beaten_here, beaten_next, beaten_none}
+use Rattle.reduction_edges.proofs.WordsLaws.{word_some, beaten_here, beaten_next, beaten_none}
 use Rattle.reduction_edges.proofs.little_brothers.is_beaten.Given as goal
 
 abbrev pub invariant-loop-w : goal.invariant-loop-w

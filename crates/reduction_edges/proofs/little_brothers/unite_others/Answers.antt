@@ -3,7 +3,7 @@ use mathlib.Core.Path.{◌≡◌, refl, ◌∙◌}
 use Prim.Native.Nat.{ℕ, ◌+◌, ◌-◌, ◌%◌, ◌≤◌, ◌<◌}
 use native.Mathlib.Omega.{arith}
 use lib.ListN.{length, length-set}
-use Rattle.reduction_edges.specs.WordsLaws.{United, united_start, united_next, united_end}
+use Rattle.reduction_edges.proofs.WordsLaws.{United, united_start, united_next, united_end}
 use Rattle.std.proofs.Common.{rules}
 use Rattle.reduction_edges.proofs.little_brothers.unite_others.Goals as goal
 

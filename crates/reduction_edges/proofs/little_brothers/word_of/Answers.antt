@@ -4,7 +4,7 @@ use native.Mathlib.Nat.{mul-le-mul}
 use native.Mathlib.Omega.{arith}
 use Rattle.table.specs.Limits.{pair_limit}
 use Rattle.marks.specs.MarkWritingLaws.{row_inside}
-use Rattle.reduction_edges.specs.WordsLaws.{word_is}
+use Rattle.reduction_edges.proofs.WordsLaws.{word_is}
 use Rattle.reduction_edges.proofs.little_brothers.word_of.Goals as goal
 use Rattle.reduction_edges.proofs.little_brothers.word_of.Lts as lts
 use Rattle.reduction_edges.proofs.little_brothers.word_of.Reads as reads

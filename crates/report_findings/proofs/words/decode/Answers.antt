@@ -6,7 +6,7 @@ use lib.ListN.{length, length-set}
 use Rattle.theory.specs.Logic.Range.{tabulate}
 use Rattle.table.specs.Answers.{written}
 use Rattle.table.specs.AnswersLaws.{written_start, written_more}
-use Rattle.theory.specs.Logic.ListLaws.{length_tabulate}
+use Rattle.theory.proofs.Logic.ListLaws.{length_tabulate}
 use Rattle.report_findings.specs.Words.{word_at, words_in, words_of}
 use Rattle.report_findings.specs.WordsLaws.{words_end}
 use Rattle.std.proofs.Common.{rules}

@@ -1,0 +1,4 @@
+-- Laws of the crate's definitions, for its own proofs and those of the crates above.
+pub mod FinalTableLaws
+pub mod ReplayCallLaws
+pub mod ReplayRulesLaws

@@ -1,0 +1,3 @@
+-- Laws; their definitions stand in specs.
+pub mod GovernedMergeLaws
+pub mod MergedLaws

@@ -1,0 +1,4 @@
+-- Laws; their definitions stand in specs.
+pub mod PlacesExist
+pub mod PlacesLaws
+pub mod SolutionLaws
