@@ -27,7 +27,7 @@ returns-then-at-end c = let f = c.first_from-bit.ensures in
     rw f (first_here (words_of c.before.before.before.before.before.before) c.loop-at.at _ _ c.loop-at.invariant.0 c.loop-at.invariant.1 (omega (arith, f, c.if-bit-lt64.true)) (omega (arith, f, c.if-at-end.true)))
 
 -- nothing is in the words before the place that the word's search gives
-again : (c : lts.After-first_from tie.the-claims reads.Pre reads.Post goal.the-invariant-loop-at goal.the-decreases-loop-at) → let s = c.args in invariant-loop s.words.now s.from s.end s.from (c.loop-at.at / 64 * 64 + c.first_from-bit.result)
+again : (c : lts.After-first_from tie.the-claims reads.Pre reads.Post goal.the-invariant-loop-at goal.the-decreases-loop-at) → let s = c.args in (s.from ≤ c.loop-at.at / 64 * 64 + c.first_from-bit.result) × NoneIn s.words.now s.from (c.loop-at.at / 64 * 64 + c.first_from-bit.result)
 again c =
     let at = c.loop-at.at in
     let f = c.first_from-bit.ensures in
