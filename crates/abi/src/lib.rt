@@ -4,7 +4,6 @@
 
 ghost use Rattle.std.specs.Prelude.{◌≡◌};
 ghost use Rattle.theory.specs.Classes.Reduction.{quotient, reduced};
-ghost use Rattle.table.specs.Lent.{old, new};
 ghost use Rattle.table.specs.Reading.{read_answer};
 ghost use Rattle.table.specs.Kind.{kind_of};
 ghost use Rattle.order_acceptor.specs.RelationCall.{relation_answer};
@@ -28,7 +27,7 @@ pub extern "C" fn raskjomi_kind(number: u32) -> u32
 // The reader.
 #[unsafe(no_mangle)]
 pub extern "C" fn raskjomi_read(game: &[u16]) -> RaskjomiAnswer
-    ensures { result ≡ read_fields (read_answer (old game)) }
+    ensures { result ≡ read_fields (read_answer game.now) }
 {
     of_reading(table_reader::read(game))
 }
@@ -36,7 +35,7 @@ pub extern "C" fn raskjomi_read(game: &[u16]) -> RaskjomiAnswer
 // The relation acceptor.
 #[unsafe(no_mangle)]
 pub extern "C" fn raskjomi_accept_relation(game: &[u16], marks: &[u8]) -> RaskjomiAnswer
-    ensures { result ≡ accept_fields (relation_answer (old game) (old marks)) }
+    ensures { result ≡ accept_fields (relation_answer game.now marks.now) }
 {
     of_acceptance(order_acceptor::accept_relation(game, marks))
 }
@@ -44,7 +43,7 @@ pub extern "C" fn raskjomi_accept_relation(game: &[u16], marks: &[u8]) -> Raskjo
 // The order, into marks and spare.
 #[unsafe(no_mangle)]
 pub extern "C" fn raskjomi_order(game: &[u16], marks: &mut [u8], spare: &mut [u8]) -> RaskjomiAnswer
-    ensures { OrderExport (old game) (old marks) (old spare) result (new marks) (new spare) }
+    ensures { OrderExport game.now marks.old spare.old result marks.new spare.new }
 {
     of_ordering(order::write_order(game, marks, spare))
 }
@@ -52,7 +51,7 @@ pub extern "C" fn raskjomi_order(game: &[u16], marks: &mut [u8], spare: &mut [u8
 // The plan acceptor. Player 0 is Even, 1 Odd.
 #[unsafe(no_mangle)]
 pub extern "C" fn raskjomi_accept_plan(game: &[u16], player: u32, plan: &[u16]) -> RaskjomiAnswer
-    ensures { result ≡ accept_fields (plan_answer (old game) player (old plan)) }
+    ensures { result ≡ accept_fields (plan_answer game.now player plan.now) }
 {
     of_acceptance(plan::accept_plan(game, player, plan))
 }
@@ -65,7 +64,7 @@ pub extern "C" fn raskjomi_classes(
     spare: &mut [u8],
     classes: &mut [u16],
 ) -> RaskjomiAnswer
-    ensures { ClassesExport (old game) (old marks) (old spare) (old classes) result (new marks) (new spare) (new classes) }
+    ensures { ClassesExport game.now marks.old spare.old classes.old result marks.new spare.new classes.new }
 {
     of_classification(classes::write_classes(game, marks, spare, classes))
 }
@@ -79,7 +78,7 @@ pub extern "C" fn raskjomi_quotient(
     classes: &mut [u16],
     output: &mut [u16],
 ) -> RaskjomiAnswer
-    ensures { TableExport quotient (old game) (old marks) (old spare) (old classes) (old output) result (new marks) (new spare) (new classes) (new output) }
+    ensures { TableExport quotient game.now marks.old spare.old classes.old output.old result marks.new spare.new classes.new output.new }
 {
     of_tabulation(reduction::write_quotient(game, marks, spare, classes, output))
 }
@@ -93,7 +92,7 @@ pub extern "C" fn raskjomi_reduce(
     classes: &mut [u16],
     output: &mut [u16],
 ) -> RaskjomiAnswer
-    ensures { TableExport reduced (old game) (old marks) (old spare) (old classes) (old output) result (new marks) (new spare) (new classes) (new output) }
+    ensures { TableExport reduced game.now marks.old spare.old classes.old output.old result marks.new spare.new classes.new output.new }
 {
     of_tabulation(reduction::write_reduced(game, marks, spare, classes, output))
 }
@@ -107,7 +106,7 @@ pub extern "C" fn raskjomi_seed(
     priorities: u32,
     output: &mut [u16],
 ) -> RaskjomiAnswer
-    ensures { SeedExport seed vertices degree priorities (old output) result (new output) }
+    ensures { SeedExport seed vertices degree priorities output.old result output.new }
 {
     of_filling(table_seed::write_seeded(seed, vertices, degree, priorities, output))
 }
@@ -115,7 +114,7 @@ pub extern "C" fn raskjomi_seed(
 // A game where the highest priority decides, as a table where the lowest does.
 #[unsafe(no_mangle)]
 pub extern "C" fn raskjomi_convert(game: &[u16], output: &mut [u16]) -> RaskjomiAnswer
-    ensures { ConvertExport (old game) (old output) result (new output) }
+    ensures { ConvertExport game.now output.old result output.new }
 {
     of_filling(table_convert::write_lowest(game, output))
 }

@@ -1,7 +1,6 @@
 // The exports that carry a plan to another vertex, in the form of those of `abi`.
 #![tactic(auto)]
 
-ghost use Rattle.table.specs.Lent.{old, new};
 ghost use Rattle.abi_answer.specs.Exports.{CarryExport, CarryClassExport};
 
 use abi_answer::{RaskjomiAnswer, of_carrying, of_class_carrying};
@@ -17,7 +16,7 @@ pub extern "C" fn raskjomi_carry(
     spare: &mut [u8],
     output: &mut [u16],
 ) -> RaskjomiAnswer
-    ensures { CarryExport (old game) player (old plan) vertex (old marks) (old spare) (old output) result (new marks) (new spare) (new output) }
+    ensures { CarryExport game.now player plan.now vertex marks.old spare.old output.old result marks.new spare.new output.new }
 {
     of_carrying(carry::carry_plan(game, player, plan, vertex, marks, spare, output))
 }
@@ -35,8 +34,8 @@ pub extern "C" fn raskjomi_carry_class(
     reduction: &mut [u16],
     output: &mut [u16],
 ) -> RaskjomiAnswer
-    ensures { CarryClassExport (old game) player (old plan) vertex (old marks) (old spare) (old classes) (old reduction) (old output) result
-        (new marks) (new spare) (new classes) (new reduction) (new output) }
+    ensures { CarryClassExport game.now player plan.now vertex marks.old spare.old classes.old reduction.old output.old result
+        marks.new spare.new classes.new reduction.new output.new }
 {
     of_class_carrying(carry::carry_class_plan(
         game, player, plan, vertex, marks, spare, classes, reduction, output,

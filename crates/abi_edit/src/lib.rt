@@ -1,7 +1,6 @@
 // The exports that edit a table, preview an edit or replay a trace, in the form of those of `abi`.
 #![tactic(auto)]
 
-ghost use Rattle.table.specs.Lent.{old, new};
 ghost use Rattle.edit_rules.specs.declared.Edit.TheVariants.{Arrival, Leaving};
 ghost use Rattle.abi_edit.specs.EditExports.{EditExport, PreviewExport, ReplayExport};
 
@@ -17,7 +16,7 @@ pub extern "C" fn raskjomi_add_edge(
     spare: &mut [u8],
     classes: &mut [u16],
 ) -> RaskjomiAnswer
-    ensures { EditExport Arrival (old table) source target (old marks) (old spare) (old classes) result (new table) (new marks) (new spare) (new classes) }
+    ensures { EditExport Arrival table.old source target marks.old spare.old classes.old result table.new marks.new spare.new classes.new }
 {
     of_tabulation(edit::add_edge(table, source, target, marks, spare, classes))
 }
@@ -32,7 +31,7 @@ pub extern "C" fn raskjomi_remove_edge(
     spare: &mut [u8],
     classes: &mut [u16],
 ) -> RaskjomiAnswer
-    ensures { EditExport Leaving (old table) source target (old marks) (old spare) (old classes) result (new table) (new marks) (new spare) (new classes) }
+    ensures { EditExport Leaving table.old source target marks.old spare.old classes.old result table.new marks.new spare.new classes.new }
 {
     of_tabulation(edit::remove_edge(table, source, target, marks, spare, classes))
 }
@@ -48,8 +47,8 @@ pub extern "C" fn raskjomi_preview_add(
     spare: &mut [u8],
     classes: &mut [u16],
 ) -> RaskjomiAnswer
-    ensures { PreviewExport Arrival (old game) source target (old table) (old marks) (old spare) (old classes) result
-        (new table) (new marks) (new spare) (new classes) }
+    ensures { PreviewExport Arrival game.now source target table.old marks.old spare.old classes.old result
+        table.new marks.new spare.new classes.new }
 {
     of_tabulation(edit_preview::preview_add(game, source, target, table, marks, spare, classes))
 }
@@ -65,8 +64,8 @@ pub extern "C" fn raskjomi_preview_remove(
     spare: &mut [u8],
     classes: &mut [u16],
 ) -> RaskjomiAnswer
-    ensures { PreviewExport Leaving (old game) source target (old table) (old marks) (old spare) (old classes) result
-        (new table) (new marks) (new spare) (new classes) }
+    ensures { PreviewExport Leaving game.now source target table.old marks.old spare.old classes.old result
+        table.new marks.new spare.new classes.new }
 {
     of_tabulation(edit_preview::preview_remove(game, source, target, table, marks, spare, classes))
 }
@@ -80,7 +79,7 @@ pub extern "C" fn raskjomi_replay(
     spare: &mut [u8],
     classes: &mut [u16],
 ) -> RaskjomiAnswer
-    ensures { ReplayExport (old table) (old trace) (old marks) (old spare) (old classes) result (new table) (new marks) (new spare) (new classes) }
+    ensures { ReplayExport table.old trace.now marks.old spare.old classes.old result table.new marks.new spare.new classes.new }
 {
     of_replaying(edit_replay::replay(table, trace, marks, spare, classes))
 }

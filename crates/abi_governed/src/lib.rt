@@ -2,7 +2,6 @@
 #![tactic(auto)]
 
 ghost use Rattle.std.specs.Prelude.{◌≡◌};
-ghost use Rattle.table.specs.Lent.{old, new};
 ghost use Rattle.governed.specs.GovernedCall.{governed_answer};
 ghost use Rattle.abi_answer.specs.Fields.{accept_fields};
 ghost use Rattle.abi_answer.specs.Exports.{GovernedExport, GovernedClassesExport};
@@ -16,7 +15,7 @@ pub extern "C" fn raskjomi_governed_order(
     marks: &mut [u8],
     spare: &mut [u8],
 ) -> RaskjomiAnswer
-    ensures { GovernedExport (old game) (old marks) (old spare) result (new marks) (new spare) }
+    ensures { GovernedExport game.now marks.old spare.old result marks.new spare.new }
 {
     of_ordering(governed::write_governed(game, marks, spare))
 }
@@ -24,7 +23,7 @@ pub extern "C" fn raskjomi_governed_order(
 // The acceptor of governed bisimulations.
 #[unsafe(no_mangle)]
 pub extern "C" fn raskjomi_accept_governed(game: &[u16], marks: &[u8]) -> RaskjomiAnswer
-    ensures { result ≡ accept_fields (governed_answer (old game) (old marks)) }
+    ensures { result ≡ accept_fields (governed_answer game.now marks.now) }
 {
     of_acceptance(governed::accept_governed(game, marks))
 }
@@ -37,7 +36,7 @@ pub extern "C" fn raskjomi_governed_classes(
     spare: &mut [u8],
     classes: &mut [u16],
 ) -> RaskjomiAnswer
-    ensures { GovernedClassesExport (old game) (old marks) (old spare) (old classes) result (new marks) (new spare) (new classes) }
+    ensures { GovernedClassesExport game.now marks.old spare.old classes.old result marks.new spare.new classes.new }
 {
     of_classification(governed::write_governed_classes(game, marks, spare, classes))
 }

@@ -2,7 +2,6 @@
 #![tactic(auto)]
 
 ghost use Rattle.std.specs.Prelude.{◌≡◌};
-ghost use Rattle.table.specs.Lent.{old};
 ghost use Rattle.large_table.specs.Reading.{large_answer};
 ghost use Rattle.large_solution.specs.Places.{solution_answer};
 ghost use Rattle.large_reduction.specs.ReductionCall.{reduction_answer};
@@ -13,7 +12,7 @@ use abi_answer::{RaskjomiAnswer, of_acceptance, of_filling};
 // The reader of large games.
 #[unsafe(no_mangle)]
 pub extern "C" fn raskjomi_large_read(game: &[u32]) -> RaskjomiAnswer
-    ensures { result ≡ fill_fields (large_answer (old game)) }
+    ensures { result ≡ fill_fields (large_answer game.now) }
 {
     of_filling(large_table::read(game))
 }
@@ -25,7 +24,7 @@ pub extern "C" fn raskjomi_large_solution(
     solution: &[u32],
     certificate: &[u32],
 ) -> RaskjomiAnswer
-    ensures { result ≡ accept_fields (solution_answer (old game) (old solution) (old certificate)) }
+    ensures { result ≡ accept_fields (solution_answer game.now solution.now certificate.now) }
 {
     of_acceptance(large_solution::check_solution(game, solution, certificate))
 }
@@ -38,7 +37,7 @@ pub extern "C" fn raskjomi_large_reduction(
     classes: &[u32],
     certificate: &[u32],
 ) -> RaskjomiAnswer
-    ensures { result ≡ accept_fields (reduction_answer (old game) (old reduced) (old classes) (old certificate)) }
+    ensures { result ≡ accept_fields (reduction_answer game.now reduced.now classes.now certificate.now) }
 {
     of_acceptance(large_reduction::check_reduction(game, reduced, classes, certificate))
 }

@@ -2,7 +2,6 @@
 #![tactic(auto)]
 
 ghost use Rattle.std.specs.Prelude.{◌≡◌};
-ghost use Rattle.table.specs.Lent.{old, new};
 ghost use Rattle.verdict.specs.VerdictCall.{verdict_answer};
 ghost use Rattle.abi_verdict.specs.VerdictExport.{with_shown, verdict_fields, SmallVerdict, VerdictExport};
 
@@ -51,8 +50,8 @@ pub extern "C" fn raskjomi_verdict(
     classes: &mut [u16],
     reduction: &mut [u16],
 ) -> RaskjomiAnswer
-    ensures { VerdictExport (old game) vertex player (old plan) (old marks) (old spare) (old classes) (old reduction) result
-        (new marks) (new spare) (new classes) (new reduction) }
+    ensures { VerdictExport game.now vertex player plan.now marks.old spare.old classes.old reduction.old result
+        marks.new spare.new classes.new reduction.new }
 {
     of_verdict(verdict::give_verdict(game, vertex, player, plan, marks, spare, classes, reduction))
 }

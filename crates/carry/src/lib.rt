@@ -3,7 +3,6 @@
 
 ghost use Rattle.std.specs.Prelude.{true, ◌++◌};
 ghost use Rattle.theory.specs.Classes.Reduction.{reduced};
-ghost use Rattle.table.specs.Lent.{old, new};
 ghost use Rattle.reduction.specs.TableCall.{table_counts};
 ghost use Rattle.carry_output.specs.PlanWords.{plan_words, plan_counts, carrying_answer};
 ghost use Rattle.carry.specs.CarryCall.{CarryCall, class_carrying_answer, CarryClassCall};
@@ -43,8 +42,8 @@ pub fn carry_plan(
     spare: &mut [u8],
     output: &mut [u16],
 ) -> Carrying
-    ensures { CarryCall (old game) player (old plan) vertex (old marks) (old spare) (old output) (carrying_answer result)
-        (new marks) (new spare) (new output) }
+    ensures { CarryCall game.now player plan.now vertex marks.old spare.old output.old (carrying_answer result)
+        marks.new spare.new output.new }
 {
     let reading = table_reader::read_sizes(game);
     let Filling::Accepted(sizes) = reading else {
@@ -93,8 +92,8 @@ pub fn carry_class_plan(
     reduction: &mut [u16],
     output: &mut [u16],
 ) -> ClassCarrying
-    ensures { CarryClassCall (old game) player (old plan) vertex (old marks) (old spare) (old classes) (old reduction) (old output) (class_carrying_answer result)
-        (new marks) (new spare) (new classes) (new reduction) (new output) }
+    ensures { CarryClassCall game.now player plan.now vertex marks.old spare.old classes.old reduction.old output.old (class_carrying_answer result)
+        marks.new spare.new classes.new reduction.new output.new }
 {
     let reading = table_reader::read_sizes(game);
     let Filling::Accepted(sizes) = reading else {
@@ -132,10 +131,10 @@ fn carry_reduced(
     counts: TableCounts,
 ) -> ClassCarrying
     requires { ReducedHeld game.now marks.now classes.now reduction.now counts }
-    ensures { Arrived (reduced_rows (old game) player (old plan) y (old output))
-        (table_counts reduced (old game) ++ plan_counts (carried_by true (old game) player (old plan) y))
-        (plan_words (carried_by true (old game) player (old plan) y)) (old output) (class_carrying_answer result)
-        (new output) }
+    ensures { Arrived (reduced_rows game.now player plan.now y output.old)
+        (table_counts reduced game.now ++ plan_counts (carried_by true game.now player plan.now y))
+        (plan_words (carried_by true game.now player plan.now y)) output.old (class_carrying_answer result)
+        output.new }
 {
     let size = 2 + 2 * counts.vertices + 2 * counts.edges;
     let judged = judge_plan(&reduction[..size], player, plan);

@@ -5,7 +5,6 @@ mod output;
 mod seats;
 
 ghost use Rattle.std.specs.Prelude.{◌≤◌, ◌<◌};
-ghost use Rattle.table.specs.Lent.{old, new};
 ghost use Rattle.table.specs.Table.{vertex_count, game_of};
 ghost use Rattle.classes.specs.Numbering.{Ordered};
 ghost use Rattle.plan_links.specs.PlanTable.{position_count};
@@ -49,7 +48,7 @@ fn search(
 ) -> Counts
     requires seated { Seated game.now player plan.now seats.now marks.now }
     requires y_bound { (y < vertex_count game.now) × Fresh work.old }
-    ensures { SearchResult (table_found (old game) player (old plan) (old seats) y) (memory_in (new work) result) }
+    ensures { SearchResult (table_found game.now player plan.now seats.now y) (memory_in work.new result) }
 {
     let mut edges = [0u64; PAIR_WORDS];
     flag_edges(game, game[0] as usize, game[1] as usize, &mut edges);
@@ -73,7 +72,7 @@ fn carry_seated(
 ) -> Carrying
     requires seated { Seated game.now player plan.now seats.now marks.now }
     requires y_bound { y < vertex_count game.now }
-    ensures { PlanArrived (carried_seated (old game) player (old plan) (old seats) y) (old output) (carrying_answer result) (new output) }
+    ensures { PlanArrived (carried_seated game.now player plan.now seats.now y) output.old (carrying_answer result) output.new }
 {
     let mut work = [0u16; WORK_LENGTH];
     let found = search(game, player, plan, seats, marks, &mut work, y);
@@ -93,10 +92,10 @@ pub fn carry_to(
     by_class: bool,
 ) -> Carrying
     requires { Carriable by_class game.now plan.now classes.now × Ordered (game_of game.now) marks.now × (player ≤ 1) }
-    ensures { Arrived (arrival_rows by_class (old game) player (old plan) y (old output))
-        (plan_counts (carried_by by_class (old game) player (old plan) y))
-        (plan_words (carried_by by_class (old game) player (old plan) y)) (old output) (carrying_answer result)
-        (new output) }
+    ensures { Arrived (arrival_rows by_class game.now player plan.now y output.old)
+        (plan_counts (carried_by by_class game.now player plan.now y))
+        (plan_words (carried_by by_class game.now player plan.now y)) output.old (carrying_answer result)
+        output.new }
 {
     let n = game[0] as usize;
     if n <= y {

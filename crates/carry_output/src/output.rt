@@ -1,7 +1,6 @@
 // A part of the calls that carry a plan; no host calls it.
 // The plan that was found, as words of the output.
 ghost use Rattle.std.specs.Prelude.{◌≡◌, ◌+◌, ◌-◌, ◌≤◌, length};
-ghost use Rattle.table.specs.Lent.{old, new};
 ghost use Rattle.table.specs.Limits.{position_limit, link_limit};
 ghost use Rattle.table.specs.Placing.{placed};
 ghost use Rattle.table.specs.Answers.{written};
@@ -18,7 +17,7 @@ use table::{Refusal, slices};
 // Puts the first `count` words of a part of the work memory.
 fn copy_part(output: &mut [u16], at: usize, work: &[u16], start: usize, end: usize, count: usize)
     requires { (at + count ≤ length output.old) × (start + count ≤ end) × (end ≤ length work.now) }
-    ensures { new output ≡ placed at (first_words count (part (old work) start (end - start))) (old output) }
+    ensures { output.new ≡ placed at (first_words count (part work.now start (end - start))) output.old }
 {
     slices::copy(output, at, &work[start..end], count);
 }
@@ -27,7 +26,7 @@ fn copy_part(output: &mut [u16], at: usize, work: &[u16], start: usize, end: usi
 fn write_plan(work: &[u16], p: usize, l: usize, output: &mut [u16])
     requires p_le_position_limit { (p ≤ position_limit) × (l ≤ link_limit) × (work_length ≤ length work.now) }
     requires l_in_bounds { plan_length p l ≤ length output.old }
-    ensures { new output ≡ written (plan_words (plan_in (old work) p l)) (old output) }
+    ensures { output.new ≡ written (plan_words (plan_in work.now p l)) output.old }
 {
     output[0] = p as u16;
     output[1] = l as u16;
@@ -39,7 +38,7 @@ fn write_plan(work: &[u16], p: usize, l: usize, output: &mut [u16])
 // Judges 34 and 35 of the first p vertices and l links, and writes the plan.
 pub fn write_found(work: &[u16], p: usize, l: usize, output: &mut [u16]) -> Carrying
     requires { work_length ≤ length work.now }
-    ensures { PlanArrived (plan_in (old work) p l) (old output) (carrying_answer result) (new output) }
+    ensures { PlanArrived (plan_in work.now p l) output.old (carrying_answer result) output.new }
 {
     if POSITIONS < p {
         return Carrying::Refused(Refusal {

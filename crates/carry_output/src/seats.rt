@@ -2,7 +2,6 @@
 // The vertex as which each position of a plan compares: its own or, on the reduced game, the lowest member of its class.
 ghost use Rattle.std.specs.Prelude.{true, ◌≤◌, length};
 ghost use Rattle.theory.specs.Order.Order.{order};
-ghost use Rattle.table.specs.Lent.{old, new};
 ghost use Rattle.table.specs.Table.{vertex_count, game_of};
 ghost use Rattle.table.specs.WellFormed.{WellFormed};
 ghost use Rattle.classes.specs.Numbering.{Classed, Represented};
@@ -16,7 +15,7 @@ use table::slices;
 fn fill_lowest(game: &[u16], classes: &[u16], reps: &mut [u16])
     requires well_formed { WellFormed game.now × Classed (game_of game.now).n (order (game_of game.now)) classes.now }
     requires game_in_bounds { vertex_count game.now ≤ length reps.old }
-    ensures { Represented (game_of (old game)).n (order (game_of (old game))) (new reps) }
+    ensures { Represented (game_of game.now).n (order (game_of game.now)) reps.new }
 {
     let mut v = game[0] as usize;
     while 0 < v {
@@ -30,7 +29,7 @@ fn fill_lowest(game: &[u16], classes: &[u16], reps: &mut [u16])
 fn seat_classes(game: &[u16], plan: &[u16], classes: &[u16], seats: &mut [u16])
     requires carriable { Carriable true game.now plan.now classes.now }
     requires plan_in_bounds { position_count plan.now ≤ length seats.old }
-    ensures { Seats true (old game) (old plan) (new seats) }
+    ensures { Seats true game.now plan.now seats.new }
 {
     let p = plan[0] as usize;
     let mut reps = [0u16; VERTICES];
@@ -48,7 +47,7 @@ pub fn seat_positions(
 )
     requires carriable { Carriable by_class game.now plan.now classes.now }
     requires plan_in_bounds { position_count plan.now ≤ length seats.old }
-    ensures { Seats by_class (old game) (old plan) (new seats) }
+    ensures { Seats by_class game.now plan.now seats.new }
 {
     if by_class {
         seat_classes(game, plan, classes, seats);

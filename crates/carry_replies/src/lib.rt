@@ -7,7 +7,6 @@ ghost use Rattle.std.proofs.Math.Bool.{So};
 ghost use Rattle.theory.specs.Logic.Range.{first};
 ghost use Rattle.theory.specs.Games.Game.{own};
 ghost use Rattle.theory.specs.Classes.Reduction.{no_better};
-ghost use Rattle.table.specs.Lent.{old, new};
 ghost use Rattle.table.specs.Limits.{vertex_limit, pair_words};
 ghost use Rattle.table.specs.Table.{vertex_count, player_of, game_of};
 ghost use Rattle.table.specs.WellFormed.{WellFormed};
@@ -25,7 +24,7 @@ use words::members::next_member;
 // Whether vertex v is the player's.
 pub fn owns(game: &[u16], player: u32, v: usize) -> bool
     requires { WellFormed game.now × (player ≤ 1) × (v < vertex_count game.now) }
-    ensures { result ≡ own (game_of (old game)) (player_of player) v }
+    ensures { result ≡ own (game_of game.now) (player_of player) v }
 {
     let n = game[0] as usize;
     game[2 + n + v] as u32 == player
@@ -34,7 +33,7 @@ pub fn owns(game: &[u16], player: u32, v: usize) -> bool
 // Whether x is no better than w for the player: x below w for Even, w below x for Odd.
 pub fn no_better(marks: &[u8], n: usize, player: u32, x: usize, w: usize) -> bool
     requires { (x < n) × (w < n) × (n ≤ vertex_limit) × (marks_length n ≤ length marks.now) }
-    ensures { result ≡ no_better (player_of player) (relation n (old marks)) x w }
+    ensures { result ≡ no_better (player_of player) (relation n marks.now) x w }
 {
     if player == 0 {
         return is_marked(marks, n, x, w);
@@ -47,7 +46,7 @@ pub fn chain_links(plan: &[u16], firsts: &mut [u16], follow: &mut [u16])
     requires plan_sized { PlanSized plan.now }
     requires by_index { (k : ℕ) → k < link_count plan.now → link_source plan.now k < position_count plan.now }
     requires plan_in_bounds { (position_count plan.now ≤ length firsts.old) × (link_count plan.now ≤ length follow.old) }
-    ensures { LinkChains (link_source (old plan)) (link_count (old plan)) (position_count (old plan)) (new firsts) (new follow) }
+    ensures { LinkChains (link_source plan.now) (link_count plan.now) (position_count plan.now) firsts.new follow.new }
 {
     let p = plan[0] as usize;
     slices::fill(firsts, 0, p, plan[1]);
@@ -72,7 +71,7 @@ fn link_keeps(
 ) -> bool
     requires seated { Seated game.now player plan.now seats.now marks.now }
     requires k_bound { (k < link_count plan.now) × (w < vertex_count game.now) }
-    ensures { result ≡ needed (old game) player (get_or (old seats) (link_target (old plan) k) 0) w }
+    ensures { result ≡ needed game.now player (get_or seats.now (link_target plan.now k) 0) w }
 {
     let n = game[0] as usize;
     let p = plan[0] as usize;
@@ -96,7 +95,7 @@ fn answer(
 ) -> usize
     requires linked { Linked game.now player plan.now seats.now marks.now firsts.now follow.now }
     requires i_bound { (i < position_count plan.now) × (w < vertex_count game.now) }
-    ensures { result ≡ link_to (old game) player (old plan) (old seats) i w }
+    ensures { result ≡ link_to game.now player plan.now seats.now i w }
 {
     let l = plan[1] as usize;
     let lone = owns(game, player, seats[i] as usize);
@@ -127,7 +126,7 @@ fn reply_along(
 ) -> usize
     requires linked { Linked game.now player plan.now seats.now marks.now firsts.now follow.now }
     requires i_bound { (i < position_count plan.now) × (w < vertex_count game.now) }
-    ensures { (u : ℕ) → So ((game_of (old game)).edge u w) → result ≡ reply_to (old game) player (old plan) (old seats) i u w }
+    ensures { (u : ℕ) → So ((game_of game.now).edge u w) → result ≡ reply_to game.now player plan.now seats.now i u w }
 {
     let p = plan[0] as usize;
     let l = plan[1] as usize;
@@ -154,7 +153,7 @@ pub fn reply(
 ) -> usize
     requires readable { Readable game.now player plan.now seats.now marks.now edges.now firsts.now follow.now }
     requires i_bound { (i < position_count plan.now) × (u < vertex_count game.now) × (w < vertex_count game.now) }
-    ensures { result ≡ reply_to (old game) player (old plan) (old seats) i u w }
+    ensures { result ≡ reply_to game.now player plan.now seats.now i u w }
 {
     let n = game[0] as usize;
     let p = plan[0] as usize;
@@ -167,7 +166,7 @@ pub fn reply(
 // The first successor of u from `from` on, by the flags of the edges; n where there is none.
 pub fn next_successor(edges: &[u64], n: usize, u: usize, from: usize) -> usize
     requires { (u < n) × (from ≤ n) × (n ≤ vertex_limit) × (pair_words ≤ length edges.now) }
-    ensures { result ≡ first (flagged n (old edges) u) from n }
+    ensures { result ≡ first (flagged n edges.now u) from n }
 {
     let base = u * n;
     next_member(edges, base + from, base + n) - base

@@ -2,7 +2,6 @@
 // The pairs found, numbered as found, and the links between their numbers.
 ghost use Rattle.std.specs.Prelude.{◌≡◌, [], ◌∷◌, ◌≤◌, ◌<◌, length};
 ghost use Rattle.theory.specs.Carry.BreadthFirst.{number_of};
-ghost use Rattle.table.specs.Lent.{old, new};
 ghost use Rattle.table.specs.Limits.{position_limit};
 ghost use Rattle.carry_search.specs.Chains.{chain_of};
 ghost use Rattle.carry_search.specs.SearchMemory.{found_in, SearchRoom, Within, Moved};
@@ -24,7 +23,7 @@ fn chain_of(i: usize, u: u16) -> usize
 // the pair.
 fn number_of(work: &[u16], counts: Counts, p: usize, i: usize, u: u16) -> usize
     requires { SearchRoom p (memory_in work.now counts) × (i < p) }
-    ensures { result ≡ number_of (found_in (memory_in (old work) counts)).pairs i u }
+    ensures { result ≡ number_of (found_in (memory_in work.now counts)).pairs i u }
 {
     let mut c = work[HEADS_AT + chain_of(i, u)] as usize;
     while 0 < c {
@@ -40,7 +39,7 @@ fn number_of(work: &[u16], counts: Counts, p: usize, i: usize, u: u16) -> usize
 // A new pair, at the head of its chain.
 pub fn add_pair(work: &mut [u16], pairs: usize, i: usize, u: u16)
     requires { (pairs ≤ position_limit) × (i < position_limit) × (work_length ≤ length work.old) }
-    ensures { new work ≡ pair_stored (old work) pairs i u }
+    ensures { work.new ≡ pair_stored work.old pairs i u }
 {
     let chain = chain_of(i, u);
     let head = work[HEADS_AT + chain];
@@ -54,7 +53,7 @@ pub fn add_pair(work: &mut [u16], pairs: usize, i: usize, u: u16)
 pub fn visit(work: &mut [u16], counts: Counts, p: usize, k: usize, j: usize, w: u16) -> Counts
     requires search_room { SearchRoom p (memory_in work.old counts) × Within counts.pairs counts.links }
     requires k_le_position_limit { (k ≤ position_limit) × (j < p) }
-    ensures { Moved k ((j, w) ∷ []) p (memory_in (old work) counts) (memory_in (new work) result) }
+    ensures { Moved k ((j, w) ∷ []) p (memory_in work.old counts) (memory_in work.new result) }
 {
     let pairs = counts.pairs;
     let links = counts.links;

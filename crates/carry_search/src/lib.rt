@@ -5,7 +5,6 @@ mod found;
 pub mod places;
 
 ghost use Rattle.std.specs.Prelude.{◌≡◌, ◌≤◌, ◌<◌};
-ghost use Rattle.table.specs.Lent.{old, new};
 ghost use Rattle.table.specs.Limits.{position_limit};
 ghost use Rattle.table.specs.Table.{vertex_count};
 ghost use Rattle.table.specs.WellFormed.{WellFormed};
@@ -43,7 +42,7 @@ pub fn find_pairs(
 ) -> Counts
     requires readable { Readable game.now player plan.now seats.now marks.now edges.now firsts.now follow.now }
     requires w_bound { (w < vertex_count game.now) × Fresh work.old }
-    ensures { SearchResult (table_found (old game) player (old plan) (old seats) w) (memory_in (new work) result) }
+    ensures { SearchResult (table_found game.now player plan.now seats.now w) (memory_in work.new result) }
 {
     add_pair(work, 0, 0, w as u16);
     run(
@@ -66,7 +65,7 @@ fn run(
 ) -> Counts
     requires readable { Readable game.now player plan.now seats.now marks.now edges.now firsts.now follow.now }
     requires w_bound { (w < vertex_count game.now) × Started (position_count plan.now) w (memory_in work.old one_pair) }
-    ensures { SearchResult (table_found (old game) player (old plan) (old seats) w) (memory_in (new work) result) }
+    ensures { SearchResult (table_found game.now player plan.now seats.now w) (memory_in work.new result) }
 {
     let mut pairs = 1;
     let mut links = 0;
@@ -102,7 +101,7 @@ fn run(
 // as many as a plan may have.
 fn most_links(game: &[u16], player: u32, u: usize, links: usize) -> usize
     requires { WellFormed game.now × (player ≤ 1) × (u < vertex_count game.now) }
-    ensures { result ≡ most_links (old game) player u links }
+    ensures { result ≡ most_links game.now player u links }
 {
     if owns(game, player, u) {
         return links;
@@ -127,7 +126,7 @@ fn expand(
 ) -> Counts
     requires readable { Readable game.now player plan.now seats.now marks.now edges.now firsts.now follow.now }
     requires expandable { Expandable (position_count plan.now) (vertex_count game.now) k work.old counts }
-    ensures { PairExpanded (old game) player (old plan) (old seats) k (old work) counts (new work) result }
+    ensures { PairExpanded game.now player plan.now seats.now k work.old counts work.new result }
 {
     let n = game[0] as usize;
     let i = work[OLDS_AT + k] as usize;
@@ -186,7 +185,7 @@ fn step(
     requires readable { Readable game.now player plan.now seats.now marks.now edges.now firsts.now follow.now }
     requires search_room { SearchRoom (position_count plan.now) (memory_in work.old counts) × Within counts.pairs counts.links × (k ≤ position_limit) }
     requires i_bound { (i < position_count plan.now) × (u < vertex_count game.now) × (w < vertex_count game.now) }
-    ensures { MovedTo (old game) player (old plan) (old seats) k i u w (old work) counts (new work) result }
+    ensures { MovedTo game.now player plan.now seats.now k i u w work.old counts work.new result }
 {
     let p = plan[0] as usize;
     let j = reply(

@@ -5,7 +5,6 @@
 pub mod smallest;
 
 ghost use Rattle.theory.specs.Classes.Reduction.{quotient, reduced};
-ghost use Rattle.table.specs.Lent.{old, new};
 ghost use Rattle.order.specs.OrderCall.{ordering_answer};
 ghost use Rattle.classes.specs.ClassesCall.{classification_answer};
 ghost use Rattle.reduction.specs.TableCall.{tabulation_answer};
@@ -28,7 +27,7 @@ use verdict::Verdict;
 
 // Judges a relation, then writes the order.
 pub fn contains(game: &[u16], relation: &[u8], marks: &mut [u8], spare: &mut [u8]) -> Containment
-    ensures { Contains (old game) (old relation) (old marks) (old spare) result (new marks) (new spare) }
+    ensures { Contains game.now relation.now marks.old spare.old result marks.new spare.new }
 {
     let judged = order_acceptor::accept_relation(game, relation);
     let written = order::write_order(game, marks, spare);
@@ -40,7 +39,7 @@ pub fn contains(game: &[u16], relation: &[u8], marks: &mut [u8], spare: &mut [u8
 
 // Writes the order.
 pub fn orders(game: &[u16], marks: &mut [u8], spare: &mut [u8]) -> Ordering
-    ensures { Orders (old game) (old marks) (old spare) (ordering_answer result) (new marks) (new spare) }
+    ensures { Orders game.now marks.old spare.old (ordering_answer result) marks.new spare.new }
 {
     order::write_order(game, marks, spare)
 }
@@ -52,7 +51,7 @@ pub fn classifies(
     spare: &mut [u8],
     classes: &mut [u16],
 ) -> Classification
-    ensures { Classifies (old game) (old marks) (old spare) (old classes) (classification_answer result) (new marks) (new spare) (new classes) }
+    ensures { Classifies game.now marks.old spare.old classes.old (classification_answer result) marks.new spare.new classes.new }
 {
     classes::write_classes(game, marks, spare, classes)
 }
@@ -65,8 +64,8 @@ pub fn quotients(
     classes: &mut [u16],
     output: &mut [u16],
 ) -> Tabulation
-    ensures { Tabulates quotient (old game) (old marks) (old spare) (old classes) (old output) (tabulation_answer result)
-        (new marks) (new spare) (new classes) (new output) }
+    ensures { Tabulates quotient game.now marks.old spare.old classes.old output.old (tabulation_answer result)
+        marks.new spare.new classes.new output.new }
 {
     reduction::write_quotient(game, marks, spare, classes, output)
 }
@@ -79,8 +78,8 @@ pub fn reduces(
     classes: &mut [u16],
     output: &mut [u16],
 ) -> Tabulation
-    ensures { Tabulates reduced (old game) (old marks) (old spare) (old classes) (old output) (tabulation_answer result)
-        (new marks) (new spare) (new classes) (new output) }
+    ensures { Tabulates reduced game.now marks.old spare.old classes.old output.old (tabulation_answer result)
+        marks.new spare.new classes.new output.new }
 {
     reduction::write_reduced(game, marks, spare, classes, output)
 }
@@ -95,8 +94,8 @@ pub fn carries(
     spare: &mut [u8],
     output: &mut [u16],
 ) -> Carrying
-    ensures { Carries (old game) player (old plan) vertex (old marks) (old spare) (old output) (carrying_answer result)
-        (new marks) (new spare) (new output) }
+    ensures { Carries game.now player plan.now vertex marks.old spare.old output.old (carrying_answer result)
+        marks.new spare.new output.new }
 {
     carry::carry_plan(game, player, plan, vertex, marks, spare, output)
 }
@@ -113,8 +112,8 @@ pub fn carries_class(
     reduction: &mut [u16],
     output: &mut [u16],
 ) -> ClassCarrying
-    ensures { CarriesClass (old game) player (old plan) vertex (old marks) (old spare) (old classes) (old reduction) (old output) (class_carrying_answer result)
-        (new marks) (new spare) (new classes) (new reduction) (new output) }
+    ensures { CarriesClass game.now player plan.now vertex marks.old spare.old classes.old reduction.old output.old (class_carrying_answer result)
+        marks.new spare.new classes.new reduction.new output.new }
 {
     carry::carry_class_plan(
         game, player, plan, vertex, marks, spare, classes, reduction, output,
@@ -130,8 +129,8 @@ pub fn adds(
     spare: &mut [u8],
     classes: &mut [u16],
 ) -> Tabulation
-    ensures { Edits Arrival (old buffer) source target (old marks) (old spare) (old classes) (tabulation_answer result)
-        (new buffer) (new marks) (new spare) (new classes) }
+    ensures { Edits Arrival buffer.old source target marks.old spare.old classes.old (tabulation_answer result)
+        buffer.new marks.new spare.new classes.new }
 {
     edit::add_edge(buffer, source, target, marks, spare, classes)
 }
@@ -145,8 +144,8 @@ pub fn removes(
     spare: &mut [u8],
     classes: &mut [u16],
 ) -> Tabulation
-    ensures { Edits Leaving (old buffer) source target (old marks) (old spare) (old classes) (tabulation_answer result)
-        (new buffer) (new marks) (new spare) (new classes) }
+    ensures { Edits Leaving buffer.old source target marks.old spare.old classes.old (tabulation_answer result)
+        buffer.new marks.new spare.new classes.new }
 {
     edit::remove_edge(buffer, source, target, marks, spare, classes)
 }
@@ -161,8 +160,8 @@ pub fn previews_add(
     spare: &mut [u8],
     classes: &mut [u16],
 ) -> Tabulation
-    ensures { Previews Arrival (old game) source target (old table) (old marks) (old spare) (old classes) (tabulation_answer result)
-        (new table) (new marks) (new spare) (new classes) }
+    ensures { Previews Arrival game.now source target table.old marks.old spare.old classes.old (tabulation_answer result)
+        table.new marks.new spare.new classes.new }
 {
     edit_preview::preview_add(game, source, target, table, marks, spare, classes)
 }
@@ -177,8 +176,8 @@ pub fn previews_remove(
     spare: &mut [u8],
     classes: &mut [u16],
 ) -> Tabulation
-    ensures { Previews Leaving (old game) source target (old table) (old marks) (old spare) (old classes) (tabulation_answer result)
-        (new table) (new marks) (new spare) (new classes) }
+    ensures { Previews Leaving game.now source target table.old marks.old spare.old classes.old (tabulation_answer result)
+        table.new marks.new spare.new classes.new }
 {
     edit_preview::preview_remove(game, source, target, table, marks, spare, classes)
 }
@@ -191,15 +190,15 @@ pub fn replays(
     spare: &mut [u8],
     classes: &mut [u16],
 ) -> Replaying
-    ensures { Replays (old buffer) (old trace) (old marks) (old spare) (old classes) (tabulation_answer result.verdict) result.entries
-        (new buffer) (new marks) (new spare) (new classes) }
+    ensures { Replays buffer.old trace.now marks.old spare.old classes.old (tabulation_answer result.verdict) result.entries
+        buffer.new marks.new spare.new classes.new }
 {
     edit_replay::replay(buffer, trace, marks, spare, classes)
 }
 
 // Writes the largest governed bisimulation.
 pub fn governs(game: &[u16], marks: &mut [u8], spare: &mut [u8]) -> Ordering
-    ensures { Governs (old game) (old marks) (old spare) (ordering_answer result) (new marks) (new spare) }
+    ensures { Governs game.now marks.old spare.old (ordering_answer result) marks.new spare.new }
 {
     governed::write_governed(game, marks, spare)
 }
@@ -211,7 +210,7 @@ pub fn governs_classes(
     spare: &mut [u8],
     classes: &mut [u16],
 ) -> Classification
-    ensures { GovernsClasses (old game) (old marks) (old spare) (old classes) (classification_answer result) (new marks) (new spare) (new classes) }
+    ensures { GovernsClasses game.now marks.old spare.old classes.old (classification_answer result) marks.new spare.new classes.new }
 {
     governed::write_governed_classes(game, marks, spare, classes)
 }
@@ -227,8 +226,8 @@ pub fn gives_verdict(
     classes: &mut [u16],
     reduction: &mut [u16],
 ) -> Verdict
-    ensures { Verdicts (old game) vertex player (old plan) (old marks) (old spare) (old classes) (old reduction) (verdict_answer result)
-        (new marks) (new spare) (new classes) (new reduction) }
+    ensures { Verdicts game.now vertex player plan.now marks.old spare.old classes.old reduction.old (verdict_answer result)
+        marks.new spare.new classes.new reduction.new }
 {
     verdict::give_verdict(game, vertex, player, plan, marks, spare, classes, reduction)
 }

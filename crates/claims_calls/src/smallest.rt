@@ -1,5 +1,4 @@
 // The reduced-game call again: its promise is what CR 11 says of the counts and of the written table.
-ghost use Rattle.table.specs.Lent.{old, new};
 ghost use Rattle.reduction.specs.TableCall.{tabulation_answer};
 ghost use Rattle.claims.specs.Smallest.{Minimizes};
 
@@ -13,8 +12,8 @@ pub fn minimizes(
     classes: &mut [u16],
     output: &mut [u16],
 ) -> Tabulation
-    ensures { Minimizes (old game) (old marks) (old spare) (old classes) (old output) (tabulation_answer result)
-        (new marks) (new spare) (new classes) (new output) }
+    ensures { Minimizes game.now marks.old spare.old classes.old output.old (tabulation_answer result)
+        marks.new spare.new classes.new output.new }
 {
     reduction::write_reduced(game, marks, spare, classes, output)
 }

@@ -2,7 +2,6 @@
 // reduced again is itself.
 #![tactic(auto)]
 
-ghost use Rattle.table.specs.Lent.{old, new};
 ghost use Rattle.claims_twice.specs.ReducedTwice.{ReducesTwice};
 
 use reduction::Tabulation;
@@ -26,9 +25,9 @@ pub fn reduces_twice(
     next_classes: &mut [u16],
     next_output: &mut [u16],
 ) -> Twice
-    ensures { ReducesTwice (old game) (old marks) (old spare) (old classes) (old output)
-        (old next_marks) (old next_spare) (old next_classes) (old next_output) result
-        (new marks) (new spare) (new classes) (new output) (new next_marks) (new next_spare) (new next_classes) (new next_output) }
+    ensures { ReducesTwice game.now marks.old spare.old classes.old output.old
+        next_marks.old next_spare.old next_classes.old next_output.old result
+        marks.new spare.new classes.new output.new next_marks.new next_spare.new next_classes.new next_output.new }
 {
     let first = reduction::write_reduced(game, marks, spare, classes, output);
     let Tabulation::Accepted(counts) = first else {

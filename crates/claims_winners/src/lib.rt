@@ -3,7 +3,6 @@
 #![tactic(auto)]
 
 ghost use Rattle.theory.specs.Classes.Reduction.{quotient, reduced};
-ghost use Rattle.table.specs.Lent.{old, new};
 ghost use Rattle.order.specs.OrderCall.{ordering_answer};
 ghost use Rattle.reduction.specs.TableCall.{tabulation_answer};
 ghost use Rattle.carry.specs.CarryCall.{class_carrying_answer};
@@ -17,7 +16,7 @@ use verdict::Verdict;
 
 // Writes the order.
 pub fn orders(game: &[u16], marks: &mut [u8], spare: &mut [u8]) -> Ordering
-    ensures { OrderDecides (old game) (old marks) (old spare) (ordering_answer result) (new marks) (new spare) }
+    ensures { OrderDecides game.now marks.old spare.old (ordering_answer result) marks.new spare.new }
 {
     order::write_order(game, marks, spare)
 }
@@ -30,8 +29,8 @@ pub fn quotients(
     classes: &mut [u16],
     output: &mut [u16],
 ) -> Tabulation
-    ensures { TableDecides quotient (old game) (old marks) (old spare) (old classes) (old output) (tabulation_answer result)
-        (new marks) (new spare) (new classes) (new output) }
+    ensures { TableDecides quotient game.now marks.old spare.old classes.old output.old (tabulation_answer result)
+        marks.new spare.new classes.new output.new }
 {
     reduction::write_quotient(game, marks, spare, classes, output)
 }
@@ -44,8 +43,8 @@ pub fn reduces(
     classes: &mut [u16],
     output: &mut [u16],
 ) -> Tabulation
-    ensures { TableDecides reduced (old game) (old marks) (old spare) (old classes) (old output) (tabulation_answer result)
-        (new marks) (new spare) (new classes) (new output) }
+    ensures { TableDecides reduced game.now marks.old spare.old classes.old output.old (tabulation_answer result)
+        marks.new spare.new classes.new output.new }
 {
     reduction::write_reduced(game, marks, spare, classes, output)
 }
@@ -62,8 +61,8 @@ pub fn carries_class(
     reduction: &mut [u16],
     output: &mut [u16],
 ) -> ClassCarrying
-    ensures { CarryDecides (old game) player (old plan) vertex (old marks) (old spare) (old classes) (old reduction) (old output) (class_carrying_answer result)
-        (new marks) (new spare) (new classes) (new reduction) (new output) }
+    ensures { CarryDecides game.now player plan.now vertex marks.old spare.old classes.old reduction.old output.old (class_carrying_answer result)
+        marks.new spare.new classes.new reduction.new output.new }
 {
     carry::carry_class_plan(
         game, player, plan, vertex, marks, spare, classes, reduction, output,
@@ -81,8 +80,8 @@ pub fn gives_verdict(
     classes: &mut [u16],
     reduction: &mut [u16],
 ) -> Verdict
-    ensures { VerdictDecides (old game) vertex player (old plan) (old marks) (old spare) (old classes) (old reduction) (verdict_answer result)
-        (new marks) (new spare) (new classes) (new reduction) }
+    ensures { VerdictDecides game.now vertex player plan.now marks.old spare.old classes.old reduction.old (verdict_answer result)
+        marks.new spare.new classes.new reduction.new }
 {
     verdict::give_verdict(game, vertex, player, plan, marks, spare, classes, reduction)
 }

@@ -5,7 +5,6 @@ pub mod numbering;
 
 ghost use Rattle.std.specs.Prelude.{◌≡◌, [], ◌≤◌};
 ghost use Rattle.theory.specs.Order.Governed.{marks_by, relation_by};
-ghost use Rattle.table.specs.Lent.{old, new};
 ghost use Rattle.table.specs.Limits.{vertex_limit};
 ghost use Rattle.table.specs.Table.{vertex_count};
 ghost use Rattle.table.specs.Answers.{judge};
@@ -71,8 +70,8 @@ pub fn fill_numbered(
 ) -> usize
     requires { ClassesFit game.now marks.old spare.old classes.old × (n ≡ vertex_count game.now) }
     ensures { NumberedDone (marks_by mirror) (total_of (relation_by mirror)) (words_of (relation_by mirror))
-        (old game) (old marks) (old spare) (old classes) result
-        (new marks) (new spare) (new classes) }
+        game.now marks.old spare.old classes.old result
+        marks.new spare.new classes.new }
 {
     order::fill_relation(game, marks, spare, mirror);
     numbering::fill_classes(marks, n, classes)
@@ -88,7 +87,7 @@ pub fn fill_memory(
     classes: &mut [u16],
 ) -> usize
     requires { ClassesFit game.now marks.old spare.old classes.old × (n ≡ vertex_count game.now) }
-    ensures { ClassesDone (old game) (old marks) (old spare) (old classes) result (new marks) (new spare) (new classes) }
+    ensures { ClassesDone game.now marks.old spare.old classes.old result marks.new spare.new classes.new }
 {
     fill_numbered(game, n, marks, spare, classes, false)
 }
@@ -105,8 +104,8 @@ pub fn write_numbered(
 ) -> Classification
     requires { WellFormed game.now × (n ≡ vertex_count game.now) }
     ensures { NumberedCall (marks_by mirror) (total_of (relation_by mirror)) (words_of (relation_by mirror))
-        (old game) (old marks) (old spare) (old classes) (classification_answer result)
-        (new marks) (new spare) (new classes) }
+        game.now marks.old spare.old classes.old (classification_answer result)
+        marks.new spare.new classes.new }
 {
     let memory = judge_memory(n, marks.len(), spare.len(), classes.len());
     if let Memory::Short(refusal) = memory {
@@ -123,7 +122,7 @@ pub fn write_classes(
     spare: &mut [u8],
     classes: &mut [u16],
 ) -> Classification
-    ensures { ClassesCall (old game) (old marks) (old spare) (old classes) (classification_answer result) (new marks) (new spare) (new classes) }
+    ensures { ClassesCall game.now marks.old spare.old classes.old (classification_answer result) marks.new spare.new classes.new }
 {
     let reading = table_reader::read_sizes(game);
     let Filling::Accepted(sizes) = reading else {

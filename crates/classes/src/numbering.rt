@@ -3,7 +3,6 @@
 ghost use Rattle.std.specs.Prelude.{◌≡◌, ◌+◌, ◌<◌, ◌≤◌, min, length, set};
 ghost use Rattle.theory.specs.Logic.Range.{first, tabulate};
 ghost use Rattle.theory.specs.Classes.Reduction.{same_class, lowest, class_count, class_number};
-ghost use Rattle.table.specs.Lent.{old, new};
 ghost use Rattle.table.specs.Limits.{vertex_limit};
 ghost use Rattle.table.specs.Answers.{written};
 ghost use Rattle.marks.specs.Marks.{marks_length, relation};
@@ -28,7 +27,7 @@ fn end_of(w: usize, n: usize) -> usize
 fn lowest_between(marks: &[u8], n: usize, v: usize, from: usize, end: usize) -> usize
     requires v_lt_n { (v < n) × (n ≤ vertex_limit) × (marks_length n ≤ length marks.now) }
     requires from_le_end { (from ≤ end) × (end ≤ n) × (end ≤ from + read_bits) }
-    ensures { result ≡ first (λ u. same_class (relation n (old marks)) u v) from end }
+    ensures { result ≡ first (λ u. same_class (relation n marks.now) u v) from end }
 {
     let mut left = read_bits(marks, v * n + from, end - from);
     while left != 0 {
@@ -44,7 +43,7 @@ fn lowest_between(marks: &[u8], n: usize, v: usize, from: usize, end: usize) -> 
 // The lowest member of v's class.
 fn lowest_member(marks: &[u8], n: usize, v: usize) -> usize
     requires { (v < n) × (n ≤ vertex_limit) × (marks_length n ≤ length marks.now) }
-    ensures { result ≡ lowest n (relation n (old marks)) v }
+    ensures { result ≡ lowest n (relation n marks.now) v }
 {
     let mut w = 0;
     while w < n {
@@ -71,8 +70,8 @@ fn number_vertex(
     requires preorder_marks { PreorderMarks n marks.now }
     requires v_lt_n { (v < n) × (n ≤ length classes.old) × (n ≤ length reps.old) }
     requires numbered { Numbered n (relation n marks.now) v k classes.old reps.old }
-    ensures classes_value { new classes ≡ set (old classes) v (class_number n (relation n (old marks)) v) }
-    ensures numbered_2 { Numbered n (relation n (old marks)) (v + 1) result (new classes) (new reps) }
+    ensures classes_value { classes.new ≡ set classes.old v (class_number n (relation n marks.now) v) }
+    ensures numbered_2 { Numbered n (relation n marks.now) (v + 1) result classes.new reps.new }
 {
     let low = lowest_member(marks, n, v);
     if low == v {
@@ -88,8 +87,8 @@ fn number_vertex(
 pub fn number_classes(marks: &[u8], n: usize, classes: &mut [u16], reps: &mut [u16]) -> usize
     requires preorder_marks { PreorderMarks n marks.now }
     requires n_in_bounds { (n ≤ length classes.old) × (n ≤ length reps.old) }
-    ensures classes_value { new classes ≡ written (tabulate n (class_number n (relation n (old marks)))) (old classes) }
-    ensures numbered { Numbered n (relation n (old marks)) n result (new classes) (new reps) }
+    ensures classes_value { classes.new ≡ written (tabulate n (class_number n (relation n marks.now))) classes.old }
+    ensures numbered { Numbered n (relation n marks.now) n result classes.new reps.new }
 {
     let mut k = 0;
     let mut v = 0;
@@ -104,8 +103,8 @@ pub fn number_classes(marks: &[u8], n: usize, classes: &mut [u16], reps: &mut [u
 pub fn fill_classes(marks: &[u8], n: usize, classes: &mut [u16]) -> usize
     requires preorder_marks { PreorderMarks n marks.now }
     requires n_in_bounds { n ≤ length classes.old }
-    ensures value { result ≡ class_count n (relation n (old marks)) }
-    ensures classes_value { new classes ≡ written (tabulate n (class_number n (relation n (old marks)))) (old classes) }
+    ensures value { result ≡ class_count n (relation n marks.now) }
+    ensures classes_value { classes.new ≡ written (tabulate n (class_number n (relation n marks.now))) classes.old }
 {
     let mut reps = [0u16; VERTICES];
     number_classes(marks, n, classes, &mut reps)

@@ -3,7 +3,6 @@
 
 ghost use Rattle.std.specs.Prelude.{◌≡◌, true, length};
 ghost use Rattle.theory.specs.Logic.Range.{first};
-ghost use Rattle.table.specs.Lent.{old, new};
 ghost use Rattle.table.specs.Table.{table_in};
 ghost use Rattle.table.specs.Answers.{Clean};
 ghost use Rattle.classes.specs.ClassesRules.{ClassesFit};
@@ -39,7 +38,7 @@ pub fn apply_edit(
     requires formed { Formed (table_in buffer.old) n m × ClassesFit (table_in buffer.old) marks.old spare.old classes.old }
     requires copy_value { copy ≡ first (leads (table_in buffer.old) source target true) 0 m }
     requires clean { Clean (edit_rows edit (table_in buffer.old) (length buffer.old) source target) }
-    ensures { EditDone edit (old buffer) source target (old marks) (old spare) (old classes) result (new buffer) (new marks) (new spare) (new classes) }
+    ensures { EditDone edit buffer.old source target marks.old spare.old classes.old result buffer.new marks.new spare.new classes.new }
 {
     let edges = make_edit(buffer, n, m, edit, source, target, copy);
     let end = 2 + 2 * n + 2 * edges;
@@ -64,8 +63,8 @@ fn edit_table(
     classes: &mut [u16],
 ) -> Tabulation
     requires { Formed (table_in buffer.old) n m }
-    ensures { EditCall edit (old buffer) source target (old marks) (old spare) (old classes) (tabulation_answer result)
-        (new buffer) (new marks) (new spare) (new classes) }
+    ensures { EditCall edit buffer.old source target marks.old spare.old classes.old (tabulation_answer result)
+        buffer.new marks.new spare.new classes.new }
 {
     let memory = judge_memory(n, marks.len(), spare.len(), classes.len());
     if let Memory::Short(refusal) = memory {
@@ -96,8 +95,8 @@ pub fn add_edge(
     spare: &mut [u8],
     classes: &mut [u16],
 ) -> Tabulation
-    ensures { EditCall Arrival (old buffer) source target (old marks) (old spare) (old classes) (tabulation_answer result)
-        (new buffer) (new marks) (new spare) (new classes) }
+    ensures { EditCall Arrival buffer.old source target marks.old spare.old classes.old (tabulation_answer result)
+        buffer.new marks.new spare.new classes.new }
 {
     let reading = read_in(buffer);
     let Filling::Accepted(sizes) = reading else {
@@ -125,8 +124,8 @@ pub fn remove_edge(
     spare: &mut [u8],
     classes: &mut [u16],
 ) -> Tabulation
-    ensures { EditCall Leaving (old buffer) source target (old marks) (old spare) (old classes) (tabulation_answer result)
-        (new buffer) (new marks) (new spare) (new classes) }
+    ensures { EditCall Leaving buffer.old source target marks.old spare.old classes.old (tabulation_answer result)
+        buffer.new marks.new spare.new classes.new }
 {
     let reading = read_in(buffer);
     let Filling::Accepted(sizes) = reading else {

@@ -3,7 +3,6 @@
 
 ghost use Rattle.std.specs.Prelude.{◌≡◌, true, ◌+◌, ◌<◌, ◌≤◌, length};
 ghost use Rattle.theory.specs.Logic.Range.{first};
-ghost use Rattle.table.specs.Lent.{old, new};
 ghost use Rattle.table.specs.Limits.{edge_limit};
 ghost use Rattle.table.specs.Table.{table_length, table_in};
 ghost use Rattle.table.specs.Answers.{Clean};
@@ -21,7 +20,7 @@ use table::slices;
 fn arrive(buffer: &mut [u16], n: usize, m: usize, s: u16, t: u16) -> usize
     requires formed { Formed (table_in buffer.old) n m × (m < edge_limit) }
     requires m_in_bounds { table_length n m + 2 ≤ length buffer.old }
-    ensures { Made Arrival (old buffer) s t result (new buffer) }
+    ensures { Made Arrival buffer.old s t result buffer.new }
 {
     let at = 2 + 2 * n + m;
     let mut targets = [0u16; EDGES];
@@ -37,7 +36,7 @@ fn arrive(buffer: &mut [u16], n: usize, m: usize, s: u16, t: u16) -> usize
 // that stay are meanwhile in local arrays of 16,384 bytes. Returns how many there are.
 fn leave(buffer: &mut [u16], n: usize, m: usize, s: usize, t: usize, copy: usize) -> usize
     requires { Formed (table_in buffer.old) n m × (copy ≡ first (leads (table_in buffer.old) s t true) 0 m) }
-    ensures { Made Leaving (old buffer) s t result (new buffer) }
+    ensures { Made Leaving buffer.old s t result buffer.new }
 {
     let size = 2 + 2 * n + 2 * m;
     let mut sources = [0u16; EDGES];
@@ -62,7 +61,7 @@ pub fn make_edit(
 ) -> usize
     requires formed { Formed (table_in buffer.old) n m × (copy ≡ first (leads (table_in buffer.old) source target true) 0 m) }
     requires clean { Clean (edit_rows edit (table_in buffer.old) (length buffer.old) source target) }
-    ensures { Made edit (old buffer) source target result (new buffer) }
+    ensures { Made edit buffer.old source target result buffer.new }
 {
     match edit {
         Edit::Arrival => arrive(buffer, n, m, source as u16, target as u16),

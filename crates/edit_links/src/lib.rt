@@ -3,7 +3,6 @@
 #![tactic(auto)]
 
 ghost use Rattle.std.specs.Prelude.{◌≡◌, ℕ, ◌+◌, ◌<◌, ◌≤◌, leb, length, get_or, cond};
-ghost use Rattle.table.specs.Lent.{old, new};
 ghost use Rattle.edit_links.specs.Links.{Pairs, Chained, Linked, Row};
 
 use table::slices;
@@ -12,7 +11,7 @@ use table::slices;
 fn chain(sources: &[u16], count: usize, n: usize, heads: &mut [u16], before: &mut [u16])
     requires count_in_bounds { (count ≤ length sources.now) × (count ≤ length before.old) × (n ≤ length heads.old) × (count ≤ 8192) }
     requires by_index { ((x : ℕ) → x < count → get_or sources.now x 0 < n) × ((v : ℕ) → get_or heads.old v 0 ≡ 0) }
-    ensures { Chained (old sources) count (new heads) (new before) }
+    ensures { Chained sources.now count heads.new before.new }
 {
     let mut x = 0;
     while x < count {
@@ -47,7 +46,7 @@ fn link_row(
     requires pairs { Pairs sources.now targets.now count n × (v < n) × Chained sources.now count heads.now before.now }
     requires n_in_bounds { (n ≤ length heads.now) × (count ≤ length before.now) × (n ≤ length head.old) × (count ≤ length links.old) }
     requires by_index { ((w : ℕ) → w < n → get_or head.old w 0 ≡ count) × (m ≤ count) }
-    ensures { Row (old sources) (old targets) m count v 0 (old links) (new links) }
+    ensures { Row sources.now targets.now m count v 0 links.old links.new }
 {
     let mut p = heads[v] as usize;
     while 0 < p {
@@ -74,7 +73,7 @@ fn link_rows(
 )
     requires pairs { Pairs sources.now targets.now count n × (m ≤ count) × Chained sources.now count heads.now before.now }
     requires n_in_bounds { (n ≤ length heads.now) × (count ≤ length before.now) × (n ≤ length head.old) × (count ≤ length links.old) }
-    ensures { Linked (old sources) (old targets) m count (new links) }
+    ensures { Linked sources.now targets.now m count links.new }
 {
     let mut v = 0;
     while v < n {
@@ -98,7 +97,7 @@ pub fn link_pairs(
 )
     requires pairs { Pairs sources.now targets.now count n × (m ≤ count) × ((v : ℕ) → get_or heads.old v 0 ≡ 0) }
     requires n_in_bounds { (n ≤ length heads.old) × (count ≤ length before.old) × (n ≤ length head.old) × (count ≤ length links.old) }
-    ensures { Linked (old sources) (old targets) m count (new links) }
+    ensures { Linked sources.now targets.now m count links.new }
 {
     chain(sources, count, n, heads, before);
     link_rows(sources, targets, m, count, n, heads, before, head, links);

@@ -1,7 +1,6 @@
 // Previews: an edit of a shared table, made in a second lent set of table, marks, spare and class words.
 #![tactic(auto)]
 
-ghost use Rattle.table.specs.Lent.{old, new};
 ghost use Rattle.table.specs.Table.{table_in};
 ghost use Rattle.edit_rules.specs.EditParts.{Formed};
 ghost use Rattle.edit_rules.specs.declared.Edit.TheVariants.{Arrival, Leaving};
@@ -31,8 +30,8 @@ fn preview_table(
     classes: &mut [u16],
 ) -> Tabulation
     requires { Formed (table_in game.now) n m }
-    ensures { PreviewCall edit (old game) source target (old table) (old marks) (old spare) (old classes) (tabulation_answer result)
-        (new table) (new marks) (new spare) (new classes) }
+    ensures { PreviewCall edit game.now source target table.old marks.old spare.old classes.old (tabulation_answer result)
+        table.new marks.new spare.new classes.new }
 {
     let memory = judge_memory(n, marks.len(), spare.len(), classes.len());
     if let Memory::Short(refusal) = memory {
@@ -71,8 +70,8 @@ pub fn preview_add(
     spare: &mut [u8],
     classes: &mut [u16],
 ) -> Tabulation
-    ensures { PreviewCall Arrival (old game) source target (old table) (old marks) (old spare) (old classes) (tabulation_answer result)
-        (new table) (new marks) (new spare) (new classes) }
+    ensures { PreviewCall Arrival game.now source target table.old marks.old spare.old classes.old (tabulation_answer result)
+        table.new marks.new spare.new classes.new }
 {
     let reading = read_in(game);
     let Filling::Accepted(sizes) = reading else {
@@ -103,8 +102,8 @@ pub fn preview_remove(
     spare: &mut [u8],
     classes: &mut [u16],
 ) -> Tabulation
-    ensures { PreviewCall Leaving (old game) source target (old table) (old marks) (old spare) (old classes) (tabulation_answer result)
-        (new table) (new marks) (new spare) (new classes) }
+    ensures { PreviewCall Leaving game.now source target table.old marks.old spare.old classes.old (tabulation_answer result)
+        table.new marks.new spare.new classes.new }
 {
     let reading = read_in(game);
     let Filling::Accepted(sizes) = reading else {

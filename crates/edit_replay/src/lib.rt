@@ -1,7 +1,6 @@
 // A recorded list of edits, made in a table that begins a buffer, with the order and the classes of the final table.
 #![tactic(auto)]
 
-ghost use Rattle.table.specs.Lent.{old, new};
 ghost use Rattle.table.specs.Table.{table_in};
 ghost use Rattle.table.specs.Answers.{Clean};
 ghost use Rattle.classes.specs.ClassesRules.{ClassesFit};
@@ -38,8 +37,8 @@ fn apply_trace(
 ) -> Replaying
     requires formed { Formed (table_in buffer.old) n m × ClassesFit (table_in buffer.old) marks.old spare.old classes.old }
     requires clean { Clean (trace_rows trace.now) }
-    ensures { Replayed (old buffer) (old trace) (old marks) (old spare) (old classes) (tabulation_answer result.verdict) result.entries
-        (new buffer) (new marks) (new spare) (new classes) }
+    ensures { Replayed buffer.old trace.now marks.old spare.old classes.old (tabulation_answer result.verdict) result.entries
+        buffer.new marks.new spare.new classes.new }
 {
     let run = run_entries(buffer, n, m, trace);
     let edges = run.edges;
@@ -73,8 +72,8 @@ fn replay_table(
     classes: &mut [u16],
 ) -> Replaying
     requires { Formed (table_in buffer.old) n m }
-    ensures { ReplayCall (old buffer) (old trace) (old marks) (old spare) (old classes) (tabulation_answer result.verdict) result.entries
-        (new buffer) (new marks) (new spare) (new classes) }
+    ensures { ReplayCall buffer.old trace.now marks.old spare.old classes.old (tabulation_answer result.verdict) result.entries
+        buffer.new marks.new spare.new classes.new }
 {
     let memory = judge_memory(n, marks.len(), spare.len(), classes.len());
     if let Memory::Short(refusal) = memory {
@@ -102,8 +101,8 @@ pub fn replay(
     spare: &mut [u8],
     classes: &mut [u16],
 ) -> Replaying
-    ensures { ReplayCall (old buffer) (old trace) (old marks) (old spare) (old classes) (tabulation_answer result.verdict) result.entries
-        (new buffer) (new marks) (new spare) (new classes) }
+    ensures { ReplayCall buffer.old trace.now marks.old spare.old classes.old (tabulation_answer result.verdict) result.entries
+        buffer.new marks.new spare.new classes.new }
 {
     let reading = read_in(buffer);
     let Filling::Accepted(sizes) = reading else {

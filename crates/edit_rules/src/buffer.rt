@@ -1,6 +1,5 @@
 // A table that begins a buffer, which may be longer.
 ghost use Rattle.std.specs.Prelude.{◌≡◌, ◌≤◌, length, take};
-ghost use Rattle.table.specs.Lent.{old};
 ghost use Rattle.table.specs.Table.{table_in};
 ghost use Rattle.table.specs.Filling.{filling_answer};
 ghost use Rattle.table.specs.Reading.{sizes_answer};
@@ -9,7 +8,7 @@ use table::Filling;
 
 // How many words the table has by its sizes, or all words of the buffer where there are fewer.
 fn table_end(buffer: &[u16]) -> usize
-    ensures { (result ≤ length (old buffer)) × (take result (old buffer) ≡ table_in (old buffer)) }
+    ensures { (result ≤ length buffer.now) × (take result buffer.now ≡ table_in buffer.now) }
 {
     let len = buffer.len();
     if len < 2 {
@@ -24,7 +23,7 @@ fn table_end(buffer: &[u16]) -> usize
 
 // Reads the table that begins the buffer. A buffer that is too short is a table of another length than its sizes ask.
 pub fn read_in(buffer: &[u16]) -> Filling
-    ensures { filling_answer result ≡ sizes_answer (table_in (old buffer)) }
+    ensures { filling_answer result ≡ sizes_answer (table_in buffer.now) }
 {
     let end = table_end(buffer);
     table_reader::read_sizes(&buffer[..end])

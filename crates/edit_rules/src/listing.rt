@@ -1,7 +1,6 @@
 // Searches among a table's edges, and the edges that a leaving keeps.
 ghost use Rattle.std.specs.Prelude.{◌≡◌, ◌+◌, ◌<◌, ◌≤◌, length, true};
 ghost use Rattle.theory.specs.Logic.Range.{first};
-ghost use Rattle.table.specs.Lent.{old, new};
 ghost use Rattle.table.specs.Listing.{Appended};
 ghost use Rattle.edit_rules.specs.Edges.{edges_in, others};
 ghost use Rattle.edit_rules.specs.EditParts.{Formed, leads, edges_part, Scanned, Scanning};
@@ -12,7 +11,7 @@ use table::slices;
 // Whether edge j leads from s to t or, where `there` is false, from s to another vertex.
 fn leads_so(table: &[u16], n: usize, m: usize, j: usize, s: usize, t: usize, there: bool) -> bool
     requires { Formed table.now n m × (j < m) }
-    ensures { result ≡ leads (old table) s t there j }
+    ensures { result ≡ leads table.now s t there j }
 {
     if table[2 + 2 * n + j] as usize != s {
         return false;
@@ -25,7 +24,7 @@ fn leads_so(table: &[u16], n: usize, m: usize, j: usize, s: usize, t: usize, the
 fn scan_edge(table: &[u16], n: usize, m: usize, j: usize, s: usize, t: usize, scan: Scan) -> Scan
     requires formed { Formed table.now n m × (j < m) }
     requires scanning { Scanning table.now m s t j scan }
-    ensures { Scanning (old table) m s t (j + 1) result }
+    ensures { Scanning table.now m s t (j + 1) result }
 {
     if leads_so(table, n, m, j, s, t, false) {
         return Scan {
@@ -48,7 +47,7 @@ fn scan_edge(table: &[u16], n: usize, m: usize, j: usize, s: usize, t: usize, sc
 // Finds the first edge from s to t, and whether an edge leads from s elsewhere, in one scan that ends once both are found.
 pub fn scan_edges(table: &[u16], n: usize, m: usize, s: usize, t: usize) -> Scan
     requires { Formed table.now n m }
-    ensures { Scanned (old table) m s t result }
+    ensures { Scanned table.now m s t result }
 {
     let mut scan = Scan {
         copy: m,
@@ -73,7 +72,7 @@ pub fn scan_edges(table: &[u16], n: usize, m: usize, s: usize, t: usize) -> Scan
 // The first edge from j on that leads from s to t, or m where there is none.
 fn find_edge(table: &[u16], n: usize, m: usize, s: usize, t: usize, j: usize) -> usize
     requires { Formed table.now n m × (j ≤ m) }
-    ensures { result ≡ first (leads (old table) s t true) j m }
+    ensures { result ≡ first (leads table.now s t true) j m }
 {
     let mut k = j;
     let found = loop {
@@ -101,7 +100,7 @@ fn list_part(
 ) -> usize
     requires formed { Formed table.now n m × (a ≤ b) × (b ≤ m) }
     requires b_in_bounds { (e + b ≤ length sources.old + a) × (e + b ≤ length ends.old + a) × (e ≤ a) }
-    ensures { Appended (edges_part (old table) a b) e (old sources) (new sources) (old ends) (new ends) result }
+    ensures { Appended (edges_part table.now a b) e sources.old sources.new ends.old ends.new result }
 {
     let count = b - a;
     slices::copy(sources, e, &table[2 + 2 * n + a..], count);
@@ -123,7 +122,7 @@ pub fn list_others(
 ) -> usize
     requires formed { Formed table.now n m × (copy ≡ first (leads table.now s t true) 0 m) }
     requires m_in_bounds { (m ≤ length sources.old) × (m ≤ length ends.old) }
-    ensures { Appended (others s t (edges_in (old table))) 0 (old sources) (new sources) (old ends) (new ends) result }
+    ensures { Appended (others s t (edges_in table.now)) 0 sources.old sources.new ends.old ends.new result }
 {
     let mut e = list_part(table, n, m, 0, copy, sources, ends, 0);
     let mut j = copy + 1;

@@ -8,7 +8,6 @@ ghost use Rattle.theory.specs.Logic.Bools.{◌&◌};
 ghost use Rattle.theory.specs.Logic.Range.{first};
 ghost use Rattle.table.specs.Table.{vertex_count, table_edges, table_length, table_in};
 ghost use Rattle.table.specs.Answers.{Clean, written};
-ghost use Rattle.table.specs.Lent.{old, new};
 ghost use Rattle.table.specs.Listing.{Appended};
 ghost use Rattle.edit_rules.specs.declared.Edit.TheVariants.{Arrival, Leaving};
 ghost use Rattle.edit_rules.specs.EditParts.{Formed};
@@ -104,7 +103,7 @@ fn enter(
     requires pairs { Pairs sources.now targets.now count n × (m ≤ count) × Linked sources.now targets.now m count links.now × (m + i < count) }
     requires n_le_vertex_limit { (n ≤ vertex_limit) × (edges ≤ edge_limit) × (count ≤ length links.now) × (count < length copies.old) × (n ≤ length degrees.old) }
     requires tallied { Tallied sources.now targets.now m count i copies.old degrees.old edges }
-    ensures { EnteredPair (old sources) (old targets) m count n size i result (old copies) (old degrees) (new copies) (new degrees) }
+    ensures { EnteredPair sources.now targets.now m count n size i result copies.old degrees.old copies.new degrees.new }
 {
     let y = m + i;
     let c = copies[y];
@@ -140,7 +139,7 @@ fn run_pairs(
     requires pairs { Pairs sources.now targets.now count n × (m ≤ count) × Linked sources.now targets.now m count links.now }
     requires n_le_vertex_limit { (n ≤ vertex_limit) × (m ≤ edge_limit) × (count ≤ length links.now) × (count < length copies.old) × (n ≤ length degrees.old) }
     requires tallied { Tallied sources.now targets.now m count 0 copies.old degrees.old m }
-    ensures { Halted (old sources) (old targets) m count n size result (new copies) }
+    ensures { Halted sources.now targets.now m count n size result copies.new }
 {
     let mut edges = m;
     let mut most = m;
@@ -188,7 +187,7 @@ fn is_kept(copies: u16, link: usize, end: usize) -> bool
 // Puts a pair behind the first e pairs, if it is kept. Returns how many there are then.
 fn put_pair(keep: bool, s: u16, t: u16, kept: &mut [u16], ends: &mut [u16], e: usize) -> usize
     requires { (e < length kept.old) × (e < length ends.old) × (e < 8192) }
-    ensures { Appended (cond keep ((s, t) ∷ []) []) e (old kept) (new kept) (old ends) (new ends) result }
+    ensures { Appended (cond keep ((s, t) ∷ []) []) e kept.old kept.new ends.old ends.new result }
 {
     if keep {
         kept[e] = s;
@@ -210,7 +209,7 @@ fn keep_pairs(
 ) -> usize
     requires end_bound { (end ≤ 8192) × (end ≤ length sources.now) × (end ≤ length targets.now) × (end ≤ length copies.now) × (end ≤ length links.now) }
     requires end_in_bounds { (end ≤ length kept.old) × (end ≤ length ends.old) }
-    ensures { Appended (kept_pairs (old sources) (old targets) (old copies) (old links) end end) 0 (old kept) (new kept) (old ends) (new ends) result }
+    ensures { Appended (kept_pairs sources.now targets.now copies.now links.now end end) 0 kept.old kept.new ends.old ends.new result }
 {
     let mut e = 0;
     let mut x = 0;
@@ -225,7 +224,7 @@ fn keep_pairs(
 // The first of the first entries that has an end not below n, or their number.
 fn find_outside(trace: &[u16], n: usize) -> usize
     requires { Clean (trace_rows trace.now) }
-    ensures { result ≡ first (outside (old trace) n) 0 (entry_count (old trace)) }
+    ensures { result ≡ first (outside trace.now n) 0 (entry_count trace.now) }
 {
     let count = trace[0] as usize;
     let mut i = 0;
@@ -247,7 +246,7 @@ fn find_outside(trace: &[u16], n: usize) -> usize
 // The first m words of a buffer, and behind them the first k of another.
 fn join(words: &mut [u16], a: &[u16], m: usize, b: &[u16], k: usize)
     requires { (m ≤ length a.now) × (k ≤ length b.now) × (m + k ≤ length words.old) }
-    ensures { JoinedWords (old a) m (old b) k (new words) }
+    ensures { JoinedWords a.now m b.now k words.new }
 {
     slices::copy(words, 0, a, m);
     slices::copy(words, m, b, k);
@@ -266,7 +265,7 @@ fn gather_pairs(
     requires formed { Formed (table_in buffer.now) n m × (table_length n m ≤ length buffer.now) × (k ≤ entry_count trace.now) }
     requires trace_len { (length trace.now ≡ 1 + 2 * entry_count trace.now) × (entry_count trace.now ≤ 4096) × (n ≤ vertex_limit) × (m ≤ edge_limit) }
     requires k_in_bounds { (m + k ≤ length sources.old) × (m + k ≤ length targets.old) }
-    ensures { Gathered (table_in (old buffer)) (old trace) m k (new sources) (new targets) }
+    ensures { Gathered (table_in buffer.now) trace.now m k sources.new targets.new }
 {
     let count = trace[0] as usize;
     let at = 2 + 2 * n;
@@ -279,7 +278,7 @@ fn put_edges(buffer: &mut [u16], n: usize, e: usize, sources: &[u16], ends: &[u1
     requires n_value { (n ≡ vertex_count buffer.old) × (n ≤ vertex_limit) × (e ≤ edge_limit) × (e ≤ top) × (top ≤ edge_limit) }
     requires top_in_bounds { (table_length n top ≤ length buffer.old) × (e ≤ length sources.now) × (e ≤ length ends.now) }
     requires buffer_in_bounds { table_length (vertex_count buffer.old) (table_edges buffer.old) ≤ length buffer.old }
-    ensures { new buffer ≡ written (edge_words (old buffer) e (old sources) (old ends) top) (old buffer) }
+    ensures { buffer.new ≡ written (edge_words buffer.old e sources.now ends.now top) buffer.old }
 {
     let at = 2 + 2 * n;
     buffer[1] = e as u16;
@@ -302,7 +301,7 @@ fn link_all(
     requires pairs { Pairs sources.now targets.now count n × (m ≤ count) × (m ≤ edge_limit) × (n ≤ vertex_limit) }
     requires count_in_bounds { (count ≤ length links.old) × (count < length copies.old) × (n ≤ length degrees.old) }
     requires by_index { ((v : ℕ) → get_or copies.old v 0 ≡ 0) × ((v : ℕ) → get_or degrees.old v 0 ≡ 0) }
-    ensures { Started (old sources) (old targets) m count (new links) (new copies) (new degrees) }
+    ensures { Started sources.now targets.now m count links.new copies.new degrees.new }
 {
     let mut heads = [0u16; VERTICES];
     let mut head = [0u16; VERTICES];
@@ -325,7 +324,7 @@ fn link_all(
 // The run's verdict, once it stands before entry `done`: entry k, if there is one, has an end not below n.
 fn judge_rest(trace: &[u16], k: usize, more: bool, done: usize, verdict: Acceptance) -> Acceptance
     requires { (length trace.now ≡ 1 + 2 * entry_count trace.now) × (done ≤ k) × (k ≤ entry_count trace.now) × (more ≡ ltb k (entry_count trace.now)) }
-    ensures { RestJudged (old trace) k done verdict result }
+    ensures { RestJudged trace.now k done verdict result }
 {
     if done < k {
         return verdict;
@@ -354,7 +353,7 @@ fn settle(
     requires trace_len { (length trace.now ≡ 1 + 2 * entry_count trace.now) × Gathered (table_in buffer.old) trace.now m k sources.now targets.now }
     requires pairs { Pairs sources.now targets.now (m + k) n × Started sources.now targets.now m (m + k) links.now copies.old degrees.old }
     requires k_in_bounds { (m + k ≤ length links.now) × (m + k < length copies.old) × (n ≤ length degrees.old) }
-    ensures { RunResult (old buffer) (old trace) n result (new buffer) }
+    ensures { RunResult buffer.old trace.now n result buffer.new }
 {
     let len = buffer.len();
     let halt = run_pairs(sources, targets, m, m + k, n, len, links, copies, degrees);
@@ -384,7 +383,7 @@ fn settle(
 fn run_first(buffer: &mut [u16], n: usize, m: usize, trace: &[u16], k: usize, more: bool) -> Entries
     requires formed { Formed (table_in buffer.old) n m × Clean (trace_rows trace.now) }
     requires k_value { (k ≡ first (outside trace.now n) 0 (entry_count trace.now)) × (more ≡ ltb k (entry_count trace.now)) }
-    ensures { RunResult (old buffer) (old trace) n result (new buffer) }
+    ensures { RunResult buffer.old trace.now n result buffer.new }
 {
     let mut sources = [0u16; LINKED];
     let mut targets = [0u16; LINKED];
@@ -420,7 +419,7 @@ fn run_first(buffer: &mut [u16], n: usize, m: usize, trace: &[u16], k: usize, mo
 // Makes the entries in the table that begins the buffer, until one is refused. What lies between is never seen, so no table between is written.
 pub fn run_entries(buffer: &mut [u16], n: usize, m: usize, trace: &[u16]) -> Entries
     requires { Formed (table_in buffer.old) n m × Clean (trace_rows trace.now) }
-    ensures { RunResult (old buffer) (old trace) n result (new buffer) }
+    ensures { RunResult buffer.old trace.now n result buffer.new }
 {
     let k = find_outside(trace, n);
     let count = trace[0] as usize;

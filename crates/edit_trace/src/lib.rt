@@ -2,7 +2,6 @@
 #![tactic(auto)]
 
 ghost use Rattle.std.specs.Prelude.{◌≡◌, []};
-ghost use Rattle.table.specs.Lent.{old};
 ghost use Rattle.table.specs.Answers.{judge};
 ghost use Rattle.table.specs.Acceptance.{acceptance_answer};
 ghost use Rattle.edit_trace.specs.Trace.{trace_rows};
@@ -15,7 +14,7 @@ pub const ENTRIES: usize = 4096;
 
 // Judges the words of a trace: 40.
 pub fn judge_trace(trace: &[u16]) -> Acceptance
-    ensures { acceptance_answer result ≡ judge (trace_rows (old trace)) [] }
+    ensures { acceptance_answer result ≡ judge (trace_rows trace.now) [] }
 {
     let len = trace.len();
     if len == 0 {

@@ -3,7 +3,6 @@
 #![tactic(auto)]
 
 ghost use Rattle.std.specs.Prelude.{◌≡◌};
-ghost use Rattle.table.specs.Lent.{old, new};
 ghost use Rattle.table.specs.Acceptance.{acceptance_answer};
 ghost use Rattle.order.specs.OrderCall.{ordering_answer};
 ghost use Rattle.classes.specs.ClassesCall.{classification_answer};
@@ -16,7 +15,7 @@ use table::{Acceptance, Filling, refusal_of};
 
 // Judges the game and the buffers, and writes the largest governed bisimulation into both. The verdict carries the pass count.
 pub fn write_governed(game: &[u16], marks: &mut [u8], spare: &mut [u8]) -> Ordering
-    ensures { GovernedCall (old game) (old marks) (old spare) (ordering_answer result) (new marks) (new spare) }
+    ensures { GovernedCall game.now marks.old spare.old (ordering_answer result) marks.new spare.new }
 {
     let reading = table_reader::read_sizes(game);
     let Filling::Accepted(sizes) = reading else {
@@ -27,7 +26,7 @@ pub fn write_governed(game: &[u16], marks: &mut [u8], spare: &mut [u8]) -> Order
 
 // Judges the game and the marks: accepted if the marked pairs form a governed bisimulation.
 pub fn accept_governed(game: &[u16], marks: &[u8]) -> Acceptance
-    ensures { acceptance_answer result ≡ governed_answer (old game) (old marks) }
+    ensures { acceptance_answer result ≡ governed_answer game.now marks.now }
 {
     let reading = table_reader::read_sizes(game);
     let Filling::Accepted(sizes) = reading else {
@@ -43,7 +42,7 @@ pub fn write_governed_classes(
     spare: &mut [u8],
     classes: &mut [u16],
 ) -> Classification
-    ensures { GovernedClassesCall (old game) (old marks) (old spare) (old classes) (classification_answer result) (new marks) (new spare) (new classes) }
+    ensures { GovernedClassesCall game.now marks.old spare.old classes.old (classification_answer result) marks.new spare.new classes.new }
 {
     let reading = table_reader::read_sizes(game);
     let Filling::Accepted(sizes) = reading else {

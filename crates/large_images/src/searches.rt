@@ -1,7 +1,6 @@
 // The searches for refusals 102 to 106. No host calls them.
 ghost use Rattle.std.specs.Prelude.{◌≡◌};
 ghost use Rattle.theory.specs.Logic.Range.{first};
-ghost use Rattle.table.specs.Lent.{old};
 ghost use Rattle.large_table.specs.Words.{TableOf};
 ghost use Rattle.large_images.specs.Images.{member_strays, image_strays, start_strays, owner_strays, after_strays, Classes, Long, Images, Starts};
 
@@ -10,7 +9,7 @@ use crate::tests;
 // 102: the first class that names no member.
 pub fn first_empty(classes: &[u32], certificate: &[u32], n: usize, m: usize, k: usize) -> usize
     requires { Classes classes.now n k × Long certificate.now n k m }
-    ensures { result ≡ first (member_strays (old classes) (old certificate) n) 0 k }
+    ensures { result ≡ first (member_strays classes.now certificate.now n) 0 k }
 {
     let mut d = 0;
     while d < k {
@@ -34,7 +33,7 @@ pub fn first_image(
     q: usize,
 ) -> usize
     requires { TableOf game.now n m × TableOf reduced.now k q × Classes classes.now n k × Long certificate.now n k m }
-    ensures { result ≡ first (image_strays (old game) (old reduced) (old classes) (old certificate) n m k q) 0 m }
+    ensures { result ≡ first (image_strays game.now reduced.now classes.now certificate.now n m k q) 0 m }
 {
     let mut j = 0;
     while j < m {
@@ -57,7 +56,7 @@ pub fn first_start(
     q: usize,
 ) -> usize
     requires { TableOf game.now n m × TableOf reduced.now k q × Long certificate.now n k m × Images certificate.now n k m q }
-    ensures { result ≡ first (start_strays (old game) (old reduced) (old certificate) n m k) 0 n }
+    ensures { result ≡ first (start_strays game.now reduced.now certificate.now n m k) 0 n }
 {
     let mut v = 0;
     while v < n {
@@ -81,7 +80,7 @@ pub fn first_owner(
     q: usize,
 ) -> usize
     requires { TableOf game.now n m × TableOf reduced.now k q × Classes classes.now n k × Long certificate.now n k m × Images certificate.now n k m q × Starts certificate.now n m }
-    ensures { result ≡ first (owner_strays (old game) (old reduced) (old classes) (old certificate) n k q) 0 n }
+    ensures { result ≡ first (owner_strays game.now reduced.now classes.now certificate.now n k q) 0 n }
 {
     let mut v = 0;
     while v < n {
@@ -104,7 +103,7 @@ pub fn first_after(
     q: usize,
 ) -> usize
     requires { TableOf game.now n m × TableOf reduced.now k q × Long certificate.now n k m × Images certificate.now n k m q }
-    ensures { result ≡ first (after_strays (old game) (old reduced) (old certificate) n m k q) 0 m }
+    ensures { result ≡ first (after_strays game.now reduced.now certificate.now n m k q) 0 m }
 {
     let mut j = 0;
     while j < m {

@@ -1,13 +1,12 @@
 // What is tested of one vertex, one class or one edge. No host calls these.
 ghost use Rattle.std.specs.Prelude.{◌≡◌, ◌<◌};
-ghost use Rattle.table.specs.Lent.{old};
 ghost use Rattle.large_table.specs.Words.{TableOf};
 ghost use Rattle.large_images.specs.Images.{start_at, is_inner, goes_on, member_strays, image_strays, start_strays, owner_strays, after_strays, Classes, Long, Images};
 
 // Whether edge e isn't the first of its row.
 fn is_inner(reduced: &[u32], k: usize, q: usize, e: usize) -> bool
     requires { TableOf reduced.now k q × (e < q) }
-    ensures { result ≡ is_inner (old reduced) k e }
+    ensures { result ≡ is_inner reduced.now k e }
 {
     if e == 0 {
         return false;
@@ -18,7 +17,7 @@ fn is_inner(reduced: &[u32], k: usize, q: usize, e: usize) -> bool
 // Whether edge e isn't the last of its row.
 fn goes_on(reduced: &[u32], k: usize, q: usize, e: usize) -> bool
     requires { TableOf reduced.now k q × (e < q) }
-    ensures { result ≡ goes_on (old reduced) k q e }
+    ensures { result ≡ goes_on reduced.now k q e }
 {
     if q <= e + 1 {
         return false;
@@ -36,7 +35,7 @@ pub fn member_strays(
     d: usize,
 ) -> bool
     requires { Classes classes.now n k × Long certificate.now n k m × (d < k) }
-    ensures { result ≡ member_strays (old classes) (old certificate) n d }
+    ensures { result ≡ member_strays classes.now certificate.now n d }
 {
     let v = certificate[n + d] as usize;
     if n <= v {
@@ -58,7 +57,7 @@ pub fn image_strays(
     j: usize,
 ) -> bool
     requires { TableOf game.now n m × TableOf reduced.now k q × Classes classes.now n k × Long certificate.now n k m × (j < m) }
-    ensures { result ≡ image_strays (old game) (old reduced) (old classes) (old certificate) n m k q j }
+    ensures { result ≡ image_strays game.now reduced.now classes.now certificate.now n m k q j }
 {
     let e = certificate[n + k + j] as usize;
     if q <= e {
@@ -84,7 +83,7 @@ pub fn start_strays(
     v: usize,
 ) -> bool
     requires { TableOf game.now n m × TableOf reduced.now k q × Long certificate.now n k m × Images certificate.now n k m q × (v < n) }
-    ensures { result ≡ start_strays (old game) (old reduced) (old certificate) n m k v }
+    ensures { result ≡ start_strays game.now reduced.now certificate.now n m k v }
 {
     let j = certificate[v] as usize;
     if m <= j {
@@ -109,7 +108,7 @@ pub fn owner_strays(
     v: usize,
 ) -> bool
     requires { TableOf game.now n m × TableOf reduced.now k q × Classes classes.now n k × Long certificate.now n k m × Images certificate.now n k m q × (start_at certificate.now v < m) × (v < n) }
-    ensures { result ≡ owner_strays (old game) (old reduced) (old classes) (old certificate) n k q v }
+    ensures { result ≡ owner_strays game.now reduced.now classes.now certificate.now n k q v }
 {
     let d = classes[v] as usize;
     if game[2 + n + v] == reduced[2 + k + d] {
@@ -131,7 +130,7 @@ pub fn after_strays(
     j: usize,
 ) -> bool
     requires { TableOf game.now n m × TableOf reduced.now k q × Long certificate.now n k m × Images certificate.now n k m q × (j < m) }
-    ensures { result ≡ after_strays (old game) (old reduced) (old certificate) n m k q j }
+    ensures { result ≡ after_strays game.now reduced.now certificate.now n m k q j }
 {
     let e = certificate[n + k + j] as usize;
     if !goes_on(reduced, k, q, e) {

@@ -5,7 +5,6 @@ pub mod searches;
 pub mod tests;
 
 ghost use Rattle.std.specs.Prelude.{◌≡◌, []};
-ghost use Rattle.table.specs.Lent.{old};
 ghost use Rattle.table.specs.Answers.{judge};
 ghost use Rattle.table.specs.Acceptance.{acceptance_answer};
 ghost use Rattle.large_table.specs.Reading.{LargeFormed};
@@ -19,7 +18,7 @@ use table::{Acceptance, NoCounts};
 // `check_solution`; no host calls it.
 pub fn judge_moves(game: &[u32], solution: &[u32]) -> Acceptance
     requires { LargeFormed game.now }
-    ensures { acceptance_answer result ≡ judge (move_rows (old game) (old solution)) [] }
+    ensures { acceptance_answer result ≡ judge (move_rows game.now solution.now) [] }
 {
     let n = game[0] as usize;
     let m = game[1] as usize;

@@ -1,7 +1,6 @@
 // The searches for refusals 83 and 84. No host calls them.
 ghost use Rattle.std.specs.Prelude.{◌≡◌};
 ghost use Rattle.theory.specs.Logic.Range.{first};
-ghost use Rattle.table.specs.Lent.{old};
 ghost use Rattle.large_moves.specs.Moves.{move_strays, edge_leaves, Lengths};
 
 use crate::tests;
@@ -9,7 +8,7 @@ use crate::tests;
 // 83: the first vertex whose move isn't an edge of its own, n where there is none.
 pub fn first_stray(game: &[u32], solution: &[u32], n: usize, m: usize) -> usize
     requires { Lengths game.now solution.now n m }
-    ensures { result ≡ first (move_strays (old game) (old solution) n m) 0 n }
+    ensures { result ≡ first (move_strays game.now solution.now n m) 0 n }
 {
     let mut v = 0;
     while v < n {
@@ -24,7 +23,7 @@ pub fn first_stray(game: &[u32], solution: &[u32], n: usize, m: usize) -> usize
 // 84: the first kept edge that leads to a vertex of the other winner, m where there is none.
 pub fn first_leaving(game: &[u32], solution: &[u32], n: usize, m: usize) -> usize
     requires { Lengths game.now solution.now n m }
-    ensures { result ≡ first (edge_leaves (old game) (old solution) n m) 0 m }
+    ensures { result ≡ first (edge_leaves game.now solution.now n m) 0 m }
 {
     let mut j = 0;
     while j < m {

@@ -1,12 +1,11 @@
 // What is tested of one vertex or one edge. No host calls these.
 ghost use Rattle.std.specs.Prelude.{◌≡◌, ◌<◌};
-ghost use Rattle.table.specs.Lent.{old};
 ghost use Rattle.large_moves.specs.Moves.{move_strays, keeps_edge, edge_leaves, Lengths};
 
 // Whether the move of v isn't an edge of v.
 pub fn move_strays(game: &[u32], solution: &[u32], n: usize, m: usize, v: usize) -> bool
     requires { Lengths game.now solution.now n m × (v < n) }
-    ensures { result ≡ move_strays (old game) (old solution) n m v }
+    ensures { result ≡ move_strays game.now solution.now n m v }
 {
     let e = solution[n + v] as usize;
     if m <= e {
@@ -18,7 +17,7 @@ pub fn move_strays(game: &[u32], solution: &[u32], n: usize, m: usize, v: usize)
 // Whether edge j of v is kept: any edge where the winner doesn't own v, the move of v where it does.
 pub fn keeps_edge(game: &[u32], solution: &[u32], n: usize, m: usize, v: usize, j: usize) -> bool
     requires { Lengths game.now solution.now n m × (v < n) }
-    ensures { result ≡ keeps_edge (old game) (old solution) n v j }
+    ensures { result ≡ keeps_edge game.now solution.now n v j }
 {
     if solution[v] != game[2 + n + v] {
         return true;
@@ -29,7 +28,7 @@ pub fn keeps_edge(game: &[u32], solution: &[u32], n: usize, m: usize, v: usize, 
 // Whether edge j is kept and leads to a vertex of the other winner.
 pub fn edge_leaves(game: &[u32], solution: &[u32], n: usize, m: usize, j: usize) -> bool
     requires { Lengths game.now solution.now n m × (j < m) }
-    ensures { result ≡ edge_leaves (old game) (old solution) n m j }
+    ensures { result ≡ edge_leaves game.now solution.now n m j }
 {
     let v = game[2 + 2 * n + j] as usize;
     let w = game[2 + 2 * n + m + j] as usize;

@@ -6,7 +6,6 @@ mod searches;
 mod tests;
 
 ghost use Rattle.std.specs.Prelude.{◌≡◌, [], ◌++◌};
-ghost use Rattle.table.specs.Lent.{old};
 ghost use Rattle.table.specs.Table.{vertex_count, table_edges};
 ghost use Rattle.table.specs.Answers.{judge};
 ghost use Rattle.table.specs.Acceptance.{acceptance_answer};
@@ -28,7 +27,7 @@ pub fn check_reduction(
     classes: &[u32],
     certificate: &[u32],
 ) -> Acceptance
-    ensures { acceptance_answer result ≡ reduction_answer (old game) (old reduced) (old classes) (old certificate) }
+    ensures { acceptance_answer result ≡ reduction_answer game.now reduced.now classes.now certificate.now }
 {
     match read(game) {
         Filling::Refused(refusal) => Acceptance::Refused(refusal),
@@ -39,7 +38,7 @@ pub fn check_reduction(
 // 91 to 96: the reduced game, for a game that was read.
 fn judge_reduced(game: &[u32], reduced: &[u32], classes: &[u32], certificate: &[u32]) -> Acceptance
     requires { LargeFormed game.now }
-    ensures { acceptance_answer result ≡ judge (shifted (large_rows (old reduced)) ++ merge_rows (old game) (old reduced) (old classes) (old certificate)) [] }
+    ensures { acceptance_answer result ≡ judge (shifted (large_rows reduced.now) ++ merge_rows game.now reduced.now classes.now certificate.now) [] }
 {
     match read(reduced) {
         Filling::Refused(refusal) => refused(refusal.number + 90, refusal.place),
@@ -50,7 +49,7 @@ fn judge_reduced(game: &[u32], reduced: &[u32], classes: &[u32], certificate: &[
 // 97 to 100, for two games that were read: the reduced game's rows, and the classes.
 fn judge_classes(game: &[u32], reduced: &[u32], classes: &[u32], certificate: &[u32]) -> Acceptance
     requires { LargeFormed game.now × LargeFormed reduced.now }
-    ensures { acceptance_answer result ≡ judge (merge_rows (old game) (old reduced) (old classes) (old certificate)) [] }
+    ensures { acceptance_answer result ≡ judge (merge_rows game.now reduced.now classes.now certificate.now) [] }
 {
     let n = game[0] as usize;
     let m = game[1] as usize;
@@ -77,7 +76,7 @@ fn judge_classes(game: &[u32], reduced: &[u32], classes: &[u32], certificate: &[
 // 101 to 106: the certificate, for games that were read and classes that are vertices of the reduced game.
 fn judge_images(game: &[u32], reduced: &[u32], classes: &[u32], certificate: &[u32]) -> Acceptance
     requires { TableOf game.now (vertex_count game.now) (table_edges game.now) × TableOf reduced.now (vertex_count reduced.now) (table_edges reduced.now) × Classes classes.now (vertex_count game.now) (vertex_count reduced.now) }
-    ensures { acceptance_answer result ≡ judge (image_rows (old game) (old reduced) (old classes) (old certificate)) [] }
+    ensures { acceptance_answer result ≡ judge (image_rows game.now reduced.now classes.now certificate.now) [] }
 {
     let n = game[0] as usize;
     let m = game[1] as usize;

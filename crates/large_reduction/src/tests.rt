@@ -1,6 +1,5 @@
 // What is tested of one vertex or one edge of the reduced game. No host calls these.
 ghost use Rattle.std.specs.Prelude.{◌≡◌, ◌<◌};
-ghost use Rattle.table.specs.Lent.{old};
 ghost use Rattle.large_table.specs.Words.{TableOf};
 ghost use Rattle.large_images.specs.Images.{Classes};
 ghost use Rattle.large_reduction.specs.ReductionCall.{edge_descends, priority_differs};
@@ -8,7 +7,7 @@ ghost use Rattle.large_reduction.specs.ReductionCall.{edge_descends, priority_di
 // Whether edge e has a lower source than the edge before it.
 pub fn edge_descends(reduced: &[u32], k: usize, q: usize, e: usize) -> bool
     requires { TableOf reduced.now k q × (e < q) }
-    ensures { result ≡ edge_descends (old reduced) k e }
+    ensures { result ≡ edge_descends reduced.now k e }
 {
     if e == 0 {
         return false;
@@ -28,7 +27,7 @@ pub fn priority_differs(
     v: usize,
 ) -> bool
     requires { TableOf game.now n m × TableOf reduced.now k q × Classes classes.now n k × (v < n) }
-    ensures { result ≡ priority_differs (old game) (old reduced) (old classes) v }
+    ensures { result ≡ priority_differs game.now reduced.now classes.now v }
 {
     let d = classes[v] as usize;
     game[2 + v] != reduced[2 + d]

@@ -7,7 +7,6 @@ pub mod searches;
 pub mod tests;
 
 ghost use Rattle.std.specs.Prelude.{◌≡◌, []};
-ghost use Rattle.table.specs.Lent.{old};
 ghost use Rattle.table.specs.Answers.{judge};
 ghost use Rattle.table.specs.Acceptance.{acceptance_answer};
 ghost use Rattle.table.specs.Table.{vertex_count, table_edges};
@@ -22,7 +21,7 @@ use table::{Acceptance, Filling, NoCounts};
 // Judges a game, a solution of it and a certificate: the reader's refusals, then 81 to 89 in order, each over the whole input before the next.
 // Accepted only if every vertex has a successor and the winner named at each has a winning plan from it.
 pub fn check_solution(game: &[u32], solution: &[u32], certificate: &[u32]) -> Acceptance
-    ensures { acceptance_answer result ≡ solution_answer (old game) (old solution) (old certificate) }
+    ensures { acceptance_answer result ≡ solution_answer game.now solution.now certificate.now }
 {
     let reading = read(game);
     if let Filling::Refused(refusal) = reading {
@@ -38,7 +37,7 @@ pub fn check_solution(game: &[u32], solution: &[u32], certificate: &[u32]) -> Ac
 // 85 to 89, for a game and a solution's words that were judged.
 fn judge_places(game: &[u32], solution: &[u32], certificate: &[u32]) -> Acceptance
     requires { Lengths game.now solution.now (vertex_count game.now) (table_edges game.now) }
-    ensures { acceptance_answer result ≡ judge (place_rows (old game) (old solution) (old certificate)) [] }
+    ensures { acceptance_answer result ≡ judge (place_rows game.now solution.now certificate.now) [] }
 {
     let n = game[0] as usize;
     let m = game[1] as usize;

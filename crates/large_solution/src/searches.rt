@@ -1,7 +1,6 @@
 // The searches for refusals 87 to 89. No host calls them.
 ghost use Rattle.std.specs.Prelude.{◌≡◌};
 ghost use Rattle.theory.specs.Logic.Range.{first};
-ghost use Rattle.table.specs.Lent.{old};
 ghost use Rattle.large_moves.specs.Moves.{Lengths};
 ghost use Rattle.large_solution.specs.Places.{is_misplaced, run_fails, from_last, edge_climbs, Placed};
 
@@ -10,7 +9,7 @@ use crate::tests;
 // 87: the first vertex that doesn't stand at its place, n where there is none.
 pub fn first_misplaced(certificate: &[u32], n: usize) -> usize
     requires { Placed certificate.now n }
-    ensures { result ≡ first (is_misplaced (old certificate) n) 0 n }
+    ensures { result ≡ first (is_misplaced certificate.now n) 0 n }
 {
     let mut v = 0;
     while v < n {
@@ -34,7 +33,7 @@ pub fn first_bad_run(
     m: usize,
 ) -> usize
     requires { Lengths game.now solution.now n m × Placed certificate.now n }
-    ensures { result ≡ first (λ k. run_fails (old game) (old solution) (old certificate) n (from_last n k)) 0 n }
+    ensures { result ≡ first (λ k. run_fails game.now solution.now certificate.now n (from_last n k)) 0 n }
 {
     let mut k = 0;
     let mut j = n;
@@ -56,7 +55,7 @@ pub fn first_bad_run(
 // 89: the first kept edge that doesn't go down where it has to, or goes up too far; m where there is none.
 pub fn first_climb(game: &[u32], solution: &[u32], certificate: &[u32], n: usize, m: usize) -> usize
     requires { Lengths game.now solution.now n m × Placed certificate.now n }
-    ensures { result ≡ first (edge_climbs (old game) (old solution) (old certificate) n m) 0 m }
+    ensures { result ≡ first (edge_climbs game.now solution.now certificate.now n m) 0 m }
 {
     let mut j = 0;
     while j < m {

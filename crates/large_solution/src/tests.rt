@@ -1,7 +1,6 @@
 // What is tested of one vertex, one place or one edge. No host calls these.
 ghost use Rattle.std.specs.Prelude.{◌≡◌, ◌<◌, ltb};
 ghost use Rattle.theory.specs.Logic.Bools.{◌&◌};
-ghost use Rattle.table.specs.Lent.{old};
 ghost use Rattle.large_moves.specs.Moves.{Lengths};
 ghost use Rattle.large_solution.specs.Places.{is_misplaced, is_over, place_over, climbs_by, edge_climbs, Placed};
 
@@ -10,7 +9,7 @@ use large_moves::tests::keeps_edge;
 // Whether another vertex stands at the place of v.
 pub fn is_misplaced(certificate: &[u32], n: usize, v: usize) -> bool
     requires { Placed certificate.now n × (v < n) }
-    ensures { result ≡ is_misplaced (old certificate) n v }
+    ensures { result ≡ is_misplaced certificate.now n v }
 {
     let i = certificate[v] as usize;
     certificate[n + i] as usize != v
@@ -40,7 +39,7 @@ pub fn is_in_run(
     j: usize,
 ) -> bool
     requires { Lengths game.now solution.now n m × Placed certificate.now n × (i < n) }
-    ensures { result ≡ ltb j n & place_over (old game) (old solution) (old certificate) n i j }
+    ensures { result ≡ ltb j n & place_over game.now solution.now certificate.now n i j }
 {
     if n <= j {
         return false;
@@ -76,7 +75,7 @@ pub fn edge_climbs(
     j: usize,
 ) -> bool
     requires { Lengths game.now solution.now n m × Placed certificate.now n × (j < m) }
-    ensures { result ≡ edge_climbs (old game) (old solution) (old certificate) n m j }
+    ensures { result ≡ edge_climbs game.now solution.now certificate.now n m j }
 {
     let v = game[2 + 2 * n + j] as usize;
     let w = game[2 + 2 * n + m + j] as usize;

@@ -4,7 +4,6 @@
 
 ghost use Rattle.std.specs.Prelude.{◌≡◌, ◌≤◌, length};
 ghost use Rattle.theory.specs.Logic.Range.{first};
-ghost use Rattle.table.specs.Lent.{old};
 ghost use Rattle.table.specs.Flags.{at_least};
 ghost use Rattle.table.specs.Filling.{filling_answer};
 ghost use Rattle.large_table.specs.Reading.{large_answer};
@@ -13,7 +12,7 @@ use table::{FilledSizes, Filling, Refusal};
 
 // Judges the table of a large game: refusals 1, 2, 4, 5 and 6 in order, each over the whole table before the next.
 pub fn read(game: &[u32]) -> Filling
-    ensures { filling_answer result ≡ large_answer (old game) }
+    ensures { filling_answer result ≡ large_answer game.now }
 {
     let len = game.len();
     if len < 2 {
@@ -44,7 +43,7 @@ pub fn read(game: &[u32]) -> Filling
 // The first word from `from` on, below `end`, that is `limit` or more; `end` where there is none. A part of the calls; no host calls it.
 pub fn first_at_least(words: &[u32], limit: usize, from: usize, end: usize) -> usize
     requires { (from ≤ end) × (end ≤ length words.now) }
-    ensures { result ≡ first (at_least (old words) limit) from end }
+    ensures { result ≡ first (at_least words.now limit) from end }
 {
     let mut k = from;
     while k < end {

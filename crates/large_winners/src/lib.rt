@@ -2,7 +2,6 @@
 #![tactic(auto)]
 
 ghost use Rattle.std.specs.Prelude.{◌≡◌, ◌<◌, length};
-ghost use Rattle.table.specs.Lent.{old};
 ghost use Rattle.large_moves.specs.Moves.{winner_at};
 ghost use Rattle.large_images.specs.Images.{class_at};
 
@@ -10,7 +9,7 @@ ghost use Rattle.large_images.specs.Images.{class_at};
 // solution, it is who wins there (`class_winner`).
 pub fn winner_at(classes: &[u32], solution: &[u32], v: usize) -> u32
     requires { (v < length classes.now) × (class_at classes.now v < length solution.now) }
-    ensures { result ≡ winner_at (old solution) (class_at (old classes) v) }
+    ensures { result ≡ winner_at solution.now (class_at classes.now v) }
 {
     solution[classes[v] as usize]
 }

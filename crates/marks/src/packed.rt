@@ -1,7 +1,6 @@
 // Marks in memory, eight in a byte. Every read of a mark goes through here, so that callers know the relation and not its bytes.
 ghost use Rattle.std.specs.Prelude.{◌≡◌, ℕ, ◌+◌, ◌*◌, ◌<◌, ◌≤◌, length, get_or};
 ghost use Rattle.theory.specs.Logic.Range.{any_from};
-ghost use Rattle.table.specs.Lent.{old};
 ghost use Rattle.table.specs.Limits.{vertex_limit};
 ghost use Rattle.marks.specs.Marks.{bytes_for, marks_length, InMarks, is_mark, relation, has_unused};
 ghost use Rattle.marks.specs.MarkSearch.{has_mark};
@@ -19,7 +18,7 @@ pub fn length_for(n: usize) -> usize
 // Whether mark i is set.
 pub fn is_mark(marks: &[u8], i: usize) -> bool
     requires { InMarks marks.now i }
-    ensures { result ≡ is_mark (old marks) i }
+    ensures { result ≡ is_mark marks.now i }
 {
     (marks[i / 8] >> (i % 8)) & 1 == 1
 }
@@ -27,7 +26,7 @@ pub fn is_mark(marks: &[u8], i: usize) -> bool
 // Whether the pair (v, w) of n vertices is marked.
 pub fn is_marked(marks: &[u8], n: usize, v: usize, w: usize) -> bool
     requires { (v < n) × (w < n) × (n ≤ vertex_limit) × (marks_length n ≤ length marks.now) }
-    ensures { result ≡ relation n (old marks) v w }
+    ensures { result ≡ relation n marks.now v w }
 {
     is_mark(marks, v * n + w)
 }
@@ -35,7 +34,7 @@ pub fn is_marked(marks: &[u8], n: usize, v: usize, w: usize) -> bool
 // Whether a bit of the last byte is set that is none of the `size` marks. Bytes beyond don't count.
 pub fn has_unused(marks: &[u8], size: usize) -> bool
     requires { bytes_for size ≤ length marks.now }
-    ensures { result ≡ has_unused (old marks) size }
+    ensures { result ≡ has_unused marks.now size }
 {
     if size % 8 == 0 {
         return false;
@@ -54,7 +53,7 @@ pub fn finds(
 ) -> bool
     requires end_in_bounds { ys.end ≤ length targets.now }
     requires by_index { (k : ℕ) → ys.from ≤ k → k < ys.end → InMarks marks.now (base + get_or targets.now k 0 * stride) }
-    ensures { result ≡ any_from ys.from ys.end (has_mark (old marks) (old targets) base stride wanted) }
+    ensures { result ≡ any_from ys.from ys.end (has_mark marks.now targets.now base stride wanted) }
 {
     let end = ys.end;
     let mut k = ys.from;

@@ -3,7 +3,6 @@ ghost use Rattle.std.specs.Prelude.{◌≡◌, ◌<◌, ◌≤◌, length};
 ghost use Rattle.theory.specs.Logic.Range.{any_from};
 ghost use Rattle.theory.specs.Games.Game.{even};
 ghost use Rattle.theory.specs.Order.Order.{equal_priority, test};
-ghost use Rattle.table.specs.Lent.{old};
 ghost use Rattle.table.specs.Limits.{vertex_limit};
 ghost use Rattle.table.specs.Table.{vertex_count, game_of};
 ghost use Rattle.table.specs.WellFormed.{WellFormed};
@@ -28,7 +27,7 @@ fn some_ends(
 ) -> bool
     requires end_in_bounds { (xs.end ≤ length targets.now) × (ys.end ≤ length targets.now) × (across ≤ vertex_limit) }
     requires reaches { Reaches marks.now targets.now xs.from xs.end ys.from ys.end across down }
-    ensures { result ≡ any_from xs.from xs.end (search_ends (old marks) (old targets) ys.from ys.end across down wanted found) }
+    ensures { result ≡ any_from xs.from xs.end (search_ends marks.now targets.now ys.from ys.end across down wanted found) }
 {
     let end = xs.end;
     let mut i = xs.from;
@@ -49,7 +48,7 @@ fn some_ends(
 pub fn same_priority(game: &[u16], v: usize, w: usize) -> bool
     requires well_formed { WellFormed game.now }
     requires v_bound { (v < vertex_count game.now) × (w < vertex_count game.now) }
-    ensures { result ≡ equal_priority (game_of (old game)) (game_of (old game)) v w }
+    ensures { result ≡ equal_priority (game_of game.now) (game_of game.now) v w }
 {
     let p = game[2 + v];
     let q = game[2 + w];
@@ -66,7 +65,7 @@ pub fn pair_passes(
     w: usize,
 ) -> bool
     requires { PairInput game.now starts.now targets.now marks.now v w }
-    ensures { result ≡ test even (game_of (old game)) (game_of (old game)) (relation (vertex_count (old game)) (old marks)) v w }
+    ensures { result ≡ test even (game_of game.now) (game_of game.now) (relation (vertex_count game.now) marks.now) v w }
 {
     let n = game[0] as usize;
     let vs = run_of(starts, v);

@@ -1,6 +1,5 @@
 // A relation in rows of bits, written as marks.
 ghost use Rattle.std.specs.Prelude.{◌≡◌, ◌+◌, ◌*◌, ◌/◌, ◌%◌, ◌^◌, ◌<◌, ◌≤◌, length, get_or};
-ghost use Rattle.table.specs.Lent.{old, new};
 ghost use Rattle.table.specs.Limits.{vertex_limit, pair_limit};
 ghost use Rattle.words.specs.Word.{word_bits, digit};
 ghost use Rattle.order_rows.specs.Bits.{row_words, cell};
@@ -12,7 +11,7 @@ use order_rows::row::{WORDS, end_of};
 // The byte of mark `at` as far as it is written. A byte begins as 0, so that its unused bits end as 0.
 fn begun(marks: &[u8], at: usize) -> u8
     requires { at / 8 < length marks.now }
-    ensures { result ≡ begun_byte (old marks) at }
+    ensures { result ≡ begun_byte marks.now at }
 {
     if at % 8 == 0 { 0 } else { marks[at / 8] }
 }
@@ -20,7 +19,7 @@ fn begun(marks: &[u8], at: usize) -> u8
 // Writes the first `count` bits of a word as marks, from mark `at` on, all in one byte.
 fn write_part(marks: &mut [u8], at: usize, word: u64, count: usize)
     requires { (at % 8 + count ≤ 8) × (bytes_for (at + count) ≤ length marks.old) }
-    ensures { BitsWritten word at count (old marks) (new marks) }
+    ensures { BitsWritten word at count marks.old marks.new }
 {
     if count == 0 {
         return;
@@ -33,7 +32,7 @@ fn write_part(marks: &mut [u8], at: usize, word: u64, count: usize)
 // Writes the first `count` bytes of a word as marks, from mark `at` on, the first of a byte; returns what is left of the word.
 fn write_whole(marks: &mut [u8], at: usize, word: u64, count: usize) -> u64
     requires { (at % 8 ≡ 0) × (at / 8 + count ≤ length marks.old) }
-    ensures { (result ≡ word / 2 ^ (8 * count)) × BitsWritten word at (8 * count) (old marks) (new marks) }
+    ensures { (result ≡ word / 2 ^ (8 * count)) × BitsWritten word at (8 * count) marks.old marks.new }
 {
     let first = at / 8;
     let mut rest = word;
@@ -49,7 +48,7 @@ fn write_whole(marks: &mut [u8], at: usize, word: u64, count: usize) -> u64
 // Writes the first `count` bits of a word as marks, from mark `at` on: what is left of at's byte, whole bytes, the rest.
 fn write_parts(marks: &mut [u8], at: usize, word: u64, count: usize)
     requires { (at + count ≤ pair_limit) × (bytes_for (at + count) ≤ length marks.old) }
-    ensures { BitsWritten word at count (old marks) (new marks) }
+    ensures { BitsWritten word at count marks.old marks.new }
 {
     let gap = 8 - at % 8;
     if count <= gap {
@@ -66,7 +65,7 @@ fn write_parts(marks: &mut [u8], at: usize, word: u64, count: usize)
 // Writes the first `count` bits of a word as marks, from mark `at` on.
 fn write_bits(marks: &mut [u8], at: usize, word: u64, count: usize)
     requires { (count ≤ word_bits) × (at + count ≤ pair_limit) × (bytes_for (at + count) ≤ length marks.old) }
-    ensures { BitsWritten word at count (old marks) (new marks) }
+    ensures { BitsWritten word at count marks.old marks.new }
 {
     // all of the word, at the start of a byte: the compiler makes one store of it
     if at % 8 + 64 == count {
@@ -79,7 +78,7 @@ fn write_bits(marks: &mut [u8], at: usize, word: u64, count: usize)
 // Writes row v of n.
 fn write_row(rows: &[u64], n: usize, v: usize, marks: &mut [u8])
     requires { (v < n) × (n ≤ vertex_limit) × (n * row_words ≤ length rows.now) × (marks_length n ≤ length marks.old) }
-    ensures { RowWritten n (cell (old rows)) v n (old marks) (new marks) }
+    ensures { RowWritten n (cell rows.now) v n marks.old marks.new }
 {
     let row = v * n;
     let mut w = 0;
@@ -93,7 +92,7 @@ fn write_row(rows: &[u64], n: usize, v: usize, marks: &mut [u8])
 // Writes the relation between n vertices that the rows hold.
 pub fn write_marks(rows: &[u64], n: usize, marks: &mut [u8])
     requires { (n ≤ vertex_limit) × (n * row_words ≤ length rows.now) × (marks_length n ≤ length marks.old) }
-    ensures { RowsWritten n (cell (old rows)) (old marks) (new marks) }
+    ensures { RowsWritten n (cell rows.now) marks.old marks.new }
 {
     let mut v = 0;
     while v < n {
@@ -105,7 +104,7 @@ pub fn write_marks(rows: &[u64], n: usize, marks: &mut [u8])
 // The same from rows of one word.
 pub fn write_small(rows: &[u64], n: usize, marks: &mut [u8])
     requires { (n ≤ word_bits) × (n ≤ length rows.now) × (marks_length n ≤ length marks.old) }
-    ensures { RowsWritten n (λ v x. digit (get_or (old rows) v 0) x) (old marks) (new marks) }
+    ensures { RowsWritten n (λ v x. digit (get_or rows.now v 0) x) marks.old marks.new }
 {
     let mut v = 0;
     while v < n {
@@ -117,7 +116,7 @@ pub fn write_small(rows: &[u64], n: usize, marks: &mut [u8])
 // Copies the first `count` bytes.
 pub fn copy_marks(from: &[u8], to: &mut [u8], count: usize)
     requires { (count ≤ length from.now) × (count ≤ length to.old) }
-    ensures { Copied count (old from) (old to) (new to) }
+    ensures { Copied count from.now to.old to.new }
 {
     let mut i = 0;
     while i < count {

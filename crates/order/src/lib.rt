@@ -6,7 +6,6 @@ mod wide;
 
 ghost use Rattle.std.specs.Prelude.{◌≡◌, ◌≤◌, length};
 ghost use Rattle.theory.specs.Order.Governed.{marks_by, passes_by};
-ghost use Rattle.table.specs.Lent.{old, new};
 ghost use Rattle.table.specs.Table.{vertex_count};
 ghost use Rattle.table.specs.WellFormed.{WellFormed};
 ghost use Rattle.marks.specs.Marks.{marks_length};
@@ -35,7 +34,7 @@ pub enum Ordering {
 // are in a function of its own.
 fn fill_marks(game: &[u16], marks: &mut [u8], mirror: bool) -> u32
     requires { WellFormed game.now × (marks_length (vertex_count game.now) ≤ length marks.old) }
-    ensures { MarksFilled (marks_by mirror) (passes_by mirror) (old game) (old marks) result (new marks) }
+    ensures { MarksFilled (marks_by mirror) (passes_by mirror) game.now marks.old result marks.new }
 {
     let n = game[0] as usize;
     if n <= SMALL {
@@ -48,7 +47,7 @@ fn fill_marks(game: &[u16], marks: &mut [u8], mirror: bool) -> u32
 pub fn fill_relation(game: &[u16], marks: &mut [u8], spare: &mut [u8], mirror: bool) -> u32
     requires well_formed { WellFormed game.now }
     requires game_in_bounds { (marks_length (vertex_count game.now) ≤ length marks.old) × (marks_length (vertex_count game.now) ≤ length spare.old) }
-    ensures { MarksDone (marks_by mirror) (passes_by mirror) (old game) (old marks) (old spare) result (new marks) (new spare) }
+    ensures { MarksDone (marks_by mirror) (passes_by mirror) game.now marks.old spare.old result marks.new spare.new }
 {
     let passes = fill_marks(game, marks, mirror);
     let n = game[0] as usize;
@@ -60,7 +59,7 @@ pub fn fill_relation(game: &[u16], marks: &mut [u8], spare: &mut [u8], mirror: b
 pub fn fill_order(game: &[u16], marks: &mut [u8], spare: &mut [u8]) -> u32
     requires well_formed { WellFormed game.now }
     requires game_in_bounds { (marks_length (vertex_count game.now) ≤ length marks.old) × (marks_length (vertex_count game.now) ≤ length spare.old) }
-    ensures { OrderDone (old game) (old marks) (old spare) result (new marks) (new spare) }
+    ensures { OrderDone game.now marks.old spare.old result marks.new spare.new }
 {
     fill_relation(game, marks, spare, false)
 }
@@ -75,7 +74,7 @@ pub fn write_relation(
     mirror: bool,
 ) -> Ordering
     requires { WellFormed game.now × (n ≡ vertex_count game.now) }
-    ensures { MarksCall (marks_by mirror) (passes_by mirror) (old game) (old marks) (old spare) (ordering_answer result) (new marks) (new spare) }
+    ensures { MarksCall (marks_by mirror) (passes_by mirror) game.now marks.old spare.old (ordering_answer result) marks.new spare.new }
 {
     let needed = length_for(n);
     if marks.len() < needed {
@@ -96,7 +95,7 @@ pub fn write_relation(
 
 // Judges the game and the buffers, and writes the order into both. The verdict carries the pass count.
 pub fn write_order(game: &[u16], marks: &mut [u8], spare: &mut [u8]) -> Ordering
-    ensures { OrderCall (old game) (old marks) (old spare) (ordering_answer result) (new marks) (new spare) }
+    ensures { OrderCall game.now marks.old spare.old (ordering_answer result) marks.new spare.new }
 {
     let reading = table_reader::read_sizes(game);
     let Filling::Accepted(sizes) = reading else {

@@ -1,7 +1,6 @@
 // The order by rows of one word, for games of at most 64 vertices.
 ghost use Rattle.std.specs.Prelude.{◌≤◌, length};
 ghost use Rattle.theory.specs.Order.Governed.{marks_by, passes_by};
-ghost use Rattle.table.specs.Lent.{old, new};
 ghost use Rattle.table.specs.Table.{vertex_count};
 ghost use Rattle.table.specs.WellFormed.{WellFormed};
 ghost use Rattle.words.specs.Word.{word_bits};
@@ -16,7 +15,7 @@ use order_small_rounds::rounds;
 // of 3 KiB.
 pub fn fill_small(game: &[u16], marks: &mut [u8], mirror: bool) -> u32
     requires { WellFormed game.now × (vertex_count game.now ≤ word_bits) × (marks_length (vertex_count game.now) ≤ length marks.old) }
-    ensures { MarksFilled (marks_by mirror) (passes_by mirror) (old game) (old marks) result (new marks) }
+    ensures { MarksFilled (marks_by mirror) (passes_by mirror) game.now marks.old result marks.new }
 {
     let mut edges = [0u64; EDGE_WORDS];
     let mut related = [0u64; SMALL];

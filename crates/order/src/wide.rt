@@ -1,7 +1,6 @@
 // The order by rows of eight words, for every game.
 ghost use Rattle.std.specs.Prelude.{◌≤◌, length};
 ghost use Rattle.theory.specs.Order.Governed.{marks_by, passes_by};
-ghost use Rattle.table.specs.Lent.{old, new};
 ghost use Rattle.table.specs.Table.{vertex_count};
 ghost use Rattle.table.specs.WellFormed.{WellFormed};
 ghost use Rattle.marks.specs.Marks.{marks_length};
@@ -20,7 +19,7 @@ const RELATION_WORDS: usize = VERTICES * WORDS;
 // of 192 KiB.
 pub fn fill_wide(game: &[u16], marks: &mut [u8], mirror: bool) -> u32
     requires { WellFormed game.now × (marks_length (vertex_count game.now) ≤ length marks.old) }
-    ensures { MarksFilled (marks_by mirror) (passes_by mirror) (old game) (old marks) result (new marks) }
+    ensures { MarksFilled (marks_by mirror) (passes_by mirror) game.now marks.old result marks.new }
 {
     let mut edges = [0u64; EDGE_WORDS];
     let mut related = [0u64; RELATION_WORDS];

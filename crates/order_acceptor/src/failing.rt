@@ -1,6 +1,5 @@
 // The search for the first pair in row order that fails. A part of the acceptor; no host calls it.
 ghost use Rattle.std.specs.Prelude.{◌≡◌, ◌+◌, ◌*◌, ◌≤◌, length};
-ghost use Rattle.table.specs.Lent.{old};
 ghost use Rattle.table.specs.Table.{vertex_count};
 ghost use Rattle.table.specs.WellFormed.{WellFormed};
 ghost use Rattle.index.specs.Index.{EdgeIndex};
@@ -30,7 +29,7 @@ fn test_fails(
     w: usize,
 ) -> bool
     requires { PairInput game.now starts.now targets.now marks.now v w }
-    ensures { result ≡ fails direct_pair (old game) (old marks) v w }
+    ensures { result ≡ fails direct_pair game.now marks.now v w }
 {
     if !is_marked(marks, game[0] as usize, v, w) {
         return false;
@@ -52,7 +51,7 @@ fn pair_fails(
     mirror: bool,
 ) -> bool
     requires { PairInput game.now starts.now targets.now marks.now v w }
-    ensures { result ≡ fails (pair_by mirror) (old game) (old marks) v w }
+    ensures { result ≡ fails (pair_by mirror) game.now marks.now v w }
 {
     if test_fails(game, starts, targets, marks, v, w) {
         return true;
@@ -72,7 +71,7 @@ fn first_failing(game: &[u16], starts: &[u16], targets: &[u16], marks: &[u8], mi
     requires well_formed { WellFormed game.now }
     requires edge_index { EdgeIndex game.now starts.now targets.now }
     requires game_in_bounds { marks_length (vertex_count game.now) ≤ length marks.now }
-    ensures { result.v * vertex_count (old game) + result.w ≡ first_failing (pair_by mirror) (old game) (old marks) }
+    ensures { result.v * vertex_count game.now + result.w ≡ first_failing (pair_by mirror) game.now marks.now }
 {
     let n = game[0] as usize;
     let mut v = 0;
@@ -96,7 +95,7 @@ fn first_failing(game: &[u16], starts: &[u16], targets: &[u16], marks: &[u8], mi
 pub fn failing_pair(game: &[u16], marks: &[u8], mirror: bool) -> Pair
     requires well_formed { WellFormed game.now }
     requires game_in_bounds { marks_length (vertex_count game.now) ≤ length marks.now }
-    ensures { result.v * vertex_count (old game) + result.w ≡ first_failing (pair_by mirror) (old game) (old marks) }
+    ensures { result.v * vertex_count game.now + result.w ≡ first_failing (pair_by mirror) game.now marks.now }
 {
     let mut starts = [0u16; VERTEX_STARTS];
     let mut targets = [0u16; EDGES];

@@ -4,7 +4,6 @@
 mod failing;
 
 ghost use Rattle.std.specs.Prelude.{◌≡◌};
-ghost use Rattle.table.specs.Lent.{old};
 ghost use Rattle.table.specs.Table.{vertex_count};
 ghost use Rattle.table.specs.WellFormed.{WellFormed};
 ghost use Rattle.table.specs.Acceptance.{acceptance_answer};
@@ -18,7 +17,7 @@ use table::{Acceptance, Filling, NoCounts, refusal_of};
 // bisimulation. A part of the two acceptors; no host calls it.
 pub fn judge_marks(game: &[u16], n: usize, marks: &[u8], mirror: bool) -> Acceptance
     requires { WellFormed game.now × (n ≡ vertex_count game.now) }
-    ensures { acceptance_answer result ≡ acceptor_answer (pair_by mirror) (old game) (old marks) }
+    ensures { acceptance_answer result ≡ acceptor_answer (pair_by mirror) game.now marks.now }
 {
     let needed = length_for(n);
     if marks.len() < needed {
@@ -38,7 +37,7 @@ pub fn judge_marks(game: &[u16], n: usize, marks: &[u8], mirror: bool) -> Accept
 
 // Judges the game and the marks: accepted if the marked pairs form a direct simulation.
 pub fn accept_relation(game: &[u16], marks: &[u8]) -> Acceptance
-    ensures { acceptance_answer result ≡ relation_answer (old game) (old marks) }
+    ensures { acceptance_answer result ≡ relation_answer game.now marks.now }
 {
     let reading = table_reader::read_sizes(game);
     let Filling::Accepted(sizes) = reading else {

@@ -4,7 +4,6 @@ ghost use Rattle.theory.specs.Logic.Bools.{◌&◌};
 ghost use Rattle.theory.specs.Games.Game.{Game, Total};
 ghost use Rattle.theory.specs.Order.Order.{any_next};
 ghost use Rattle.theory.specs.Order.Rows.{fall};
-ghost use Rattle.table.specs.Lent.{old, new};
 ghost use Rattle.table.specs.Table.{table_edges, game_of};
 ghost use Rattle.table.specs.WellFormed.{WellFormed};
 ghost use Rattle.words.specs.Words.{has};
@@ -23,7 +22,7 @@ fn add_edges(game: &[u16], edges: &mut [u64])
     requires well_formed { WellFormed game.now }
     requires edge_words_in_bounds { edge_words ≤ length edges.old }
     requires by_index { (v x : ℕ) → cell edges.old v x ≡ false }
-    ensures { EdgesTo (old game) (table_edges (old game)) (new edges) }
+    ensures { EdgesTo game.now (table_edges game.now) edges.new }
 {
     let n = game[0] as usize;
     let m = game[1] as usize;
@@ -44,7 +43,7 @@ pub fn fill(game: &[u16], edges: &mut [u64])
     requires well_formed { WellFormed game.now }
     requires edge_words_in_bounds { edge_words ≤ length edges.old }
     requires by_index { (v x : ℕ) → cell edges.old v x ≡ false }
-    ensures { EdgeRows (game_of (old game)) (new edges) }
+    ensures { EdgeRows (game_of game.now) edges.new }
 {
     add_edges(game, edges);
     let n = game[0] as usize;
@@ -55,7 +54,7 @@ pub fn fill(game: &[u16], edges: &mut [u64])
 // their words were stored, keep the processor waiting.
 fn falling(edges: &[u64], near: Row, player: Row, x: Row) -> Row
     requires { edge_words ≤ length edges.now }
-    ensures { RowIs result (falling_rows (old edges) near player x) }
+    ensures { RowIs result (falling_rows edges.now near player x) }
 {
     let mut out = [0u64; WORDS];
     let mut j = 0;
@@ -72,7 +71,7 @@ fn falling(edges: &[u64], near: Row, player: Row, x: Row) -> Row
 // of Even's without a successor in x.
 pub fn fall_of(edges: &[u64], l: Row, x: Row) -> Row
     requires { edge_words ≤ length edges.now }
-    ensures { (G : Game) → EdgeRows G (old edges) → RowIs result (fall G (has l) (has x)) }
+    ensures { (G : Game) → EdgeRows G edges.now → RowIs result (fall G (has l) (has x)) }
 {
     let near = unite(edges, VERTICES, l);
     falling(edges, near, row(edges, 2 * VERTICES), x)
@@ -81,7 +80,7 @@ pub fn fall_of(edges: &[u64], l: Row, x: Row) -> Row
 // The vertices of `mask` with a successor in l; the smaller of the two is gone through.
 fn near_within(edges: &[u64], mask: Row, l: Row) -> Row
     requires { edge_words ≤ length edges.now }
-    ensures { (G : Game) → EdgeRows G (old edges) → RowIs result (λ w. has mask w & any_next G w (has l)) }
+    ensures { (G : Game) → EdgeRows G edges.now → RowIs result (λ w. has mask w & any_next G w (has l)) }
 {
     if size(mask) < size(l) {
         return without(mask, apart_of(edges, mask, l));
@@ -92,7 +91,7 @@ fn near_within(edges: &[u64], mask: Row, l: Row) -> Row
 // Of `mask`, what `fall_of` gives.
 pub fn fall_within(edges: &[u64], mask: Row, l: Row, x: Row) -> Row
     requires { edge_words ≤ length edges.now }
-    ensures { (G : Game) → EdgeRows G (old edges) → RowIs result (λ w. has mask w & fall G (has l) (has x) w) }
+    ensures { (G : Game) → EdgeRows G edges.now → RowIs result (λ w. has mask w & fall G (has l) (has x) w) }
 {
     let near = near_within(edges, mask, l);
     falling(edges, near, row(edges, 2 * VERTICES), x)
@@ -102,7 +101,7 @@ pub fn fall_within(edges: &[u64], mask: Row, l: Row, x: Row) -> Row
 // the controllable predecessors of x: of the vertices with a successor in x those of Even's, and those of Odd's without a successor in l.
 pub fn fall_of_all(edges: &[u64], l: Row, x: Row) -> Row
     requires { edge_words ≤ length edges.now }
-    ensures { (G : Game) → EdgeRows G (old edges) → Total G → Vertices G l x → RowIs result (fall G (has l) (has x)) }
+    ensures { (G : Game) → EdgeRows G edges.now → Total G → Vertices G l x → RowIs result (fall G (has l) (has x)) }
 {
     if size(l) < size(x) {
         return fall_of(edges, l, x);

@@ -2,7 +2,6 @@
 ghost use Rattle.std.specs.Prelude.{◌≡◌, false, ℕ, ◌+◌, ◌*◌, ◌<◌, ◌≤◌, length};
 ghost use Rattle.theory.specs.Games.Game.{Game};
 ghost use Rattle.theory.specs.Order.Rows.{loses};
-ghost use Rattle.table.specs.Lent.{old, new};
 ghost use Rattle.words.specs.Word.{word_bits};
 ghost use Rattle.words.specs.Words.{has};
 ghost use Rattle.order_sets.specs.Losses.{odd_loss};
@@ -17,7 +16,7 @@ use table::limits::VERTICES;
 // What an Odd vertex v loses, where `gone` is what the rows of its successors lost. It ends early where other successors still have all of it.
 fn lose_odd(edges: &[u64], related: &[u64], gone: Row, v: usize) -> Row
     requires { (edge_words ≤ length edges.now) × (relation_words ≤ length related.now) × (v < row_bits) }
-    ensures { (G : Game) → EdgeRows G (old edges) → RowIs result (odd_loss G (cell (old related)) (has gone) v) }
+    ensures { (G : Game) → EdgeRows G edges.now → RowIs result (odd_loss G (cell related.now) (has gone) v) }
 {
     let next = row(edges, v);
     let less = strip(related, next, gone);
@@ -32,8 +31,8 @@ fn lose_odd(edges: &[u64], related: &[u64], gone: Row, v: usize) -> Row
 fn lose(edges: &[u64], related: &[u64], lost: &[u64], falls: &[u64], changed: Row, v: usize) -> Row
     requires { (edge_words ≤ length edges.now) × (relation_words ≤ length related.now) × (relation_words ≤ length lost.now)
         × (relation_words ≤ length falls.now) × (v < row_bits) }
-    ensures { (G : Game) → EdgeRows G (old edges) → v < G.n → Fell G (old related) (old lost) (old falls) changed
-        → RowIs result (loses G (cell (old related)) (struck changed (old lost)) v) }
+    ensures { (G : Game) → EdgeRows G edges.now → v < G.n → Fell G related.now lost.now falls.now changed
+        → RowIs result (loses G (cell related.now) (struck changed lost.now) v) }
 {
     let which = common(row(edges, v), changed);
     if holds(edges, 2 * VERTICES, v) {
@@ -58,7 +57,7 @@ fn lose_word(
         × (relation_words ≤ length falls.now) }
     requires row_words_in_bounds { (row_words ≤ length near.now) × (relation_words ≤ length next.old) × (row_words ≤ length losing.old) × (j < row_words) }
     requires losses_to { LossesTo edges.now related.now lost.now falls.now changed near.now (j * word_bits) next.old losing.old }
-    ensures { LossesTo (old edges) (old related) (old lost) (old falls) changed (old near) (j * word_bits + word_bits) (new next) (new losing) }
+    ensures { LossesTo edges.now related.now lost.now falls.now changed near.now (j * word_bits + word_bits) next.new losing.new }
 {
     let mut left = near[j];
     while left != 0 {
@@ -85,7 +84,7 @@ pub fn lose_all(
         × (relation_words ≤ length falls.now) }
     requires row_words_in_bounds { (row_words ≤ length near.now) × (relation_words ≤ length next.old) × (row_words ≤ length losing.old) }
     requires by_index { (x : ℕ) → x < row_bits → cell losing.old 0 x ≡ false }
-    ensures { LossesTo (old edges) (old related) (old lost) (old falls) changed (old near) row_bits (new next) (new losing) }
+    ensures { LossesTo edges.now related.now lost.now falls.now changed near.now row_bits next.new losing.new }
 {
     let mut j = 0;
     while j < WORDS {

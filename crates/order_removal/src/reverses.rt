@@ -1,7 +1,6 @@
 // The reverse of every loss is a loss too, where the round is of the governed bisimulation. A row of `next` that isn't in `losing` holds no loss,
 // whatever its words are.
 ghost use Rattle.std.specs.Prelude.{◌+◌, ◌<◌, ◌≤◌, length};
-ghost use Rattle.table.specs.Lent.{old, new};
 ghost use Rattle.words.specs.Word.{word_bits};
 ghost use Rattle.order_sets.specs.Reverses.{one_pair, word_pairs};
 ghost use Rattle.order_rows.specs.Bits.{row_bits, row_words};
@@ -15,7 +14,7 @@ use table::limits::VERTICES;
 // One loss more: the pair (w, v).
 fn lose_pair(next: &mut [u64], losing: &mut [u64], w: usize, v: usize)
     requires { (relation_words ≤ length next.old) × (row_words ≤ length losing.old) × (w < row_bits) × (v < row_bits) }
-    ensures { LosesToo (one_pair w v) (old next) (old losing) (new next) (new losing) }
+    ensures { LosesToo (one_pair w v) next.old losing.old next.new losing.new }
 {
     if holds(losing, 0, w) {
         add(next, w, v, true);
@@ -29,7 +28,7 @@ fn lose_pair(next: &mut [u64], losing: &mut [u64], w: usize, v: usize)
 // The pairs of a word's bits with v; its bit 0 is for row `base`.
 fn lose_word(next: &mut [u64], losing: &mut [u64], base: usize, which: u64, v: usize)
     requires { (relation_words ≤ length next.old) × (row_words ≤ length losing.old) × (base + word_bits ≤ row_bits) × (v < row_bits) }
-    ensures { LosesToo (word_pairs base which v) (old next) (old losing) (new next) (new losing) }
+    ensures { LosesToo (word_pairs base which v) next.old losing.old next.new losing.new }
 {
     let mut left = which;
     while left != 0 {
@@ -41,7 +40,7 @@ fn lose_word(next: &mut [u64], losing: &mut [u64], base: usize, which: u64, v: u
 // The pairs of all in `which` with v.
 fn lose_column(next: &mut [u64], losing: &mut [u64], which: Row, v: usize)
     requires { (relation_words ≤ length next.old) × (row_words ≤ length losing.old) × (v < row_bits) }
-    ensures { LosesToo (column_pairs which v) (old next) (old losing) (new next) (new losing) }
+    ensures { LosesToo (column_pairs which v) next.old losing.old next.new losing.new }
 {
     let mut j = 0;
     while j < WORDS {
@@ -53,7 +52,7 @@ fn lose_column(next: &mut [u64], losing: &mut [u64], which: Row, v: usize)
 // With `mirror`, the reverse of every loss.
 pub fn complete(next: &mut [u64], losing: &mut [u64], mirror: bool)
     requires { (relation_words ≤ length next.old) × (row_words ≤ length losing.old) }
-    ensures { Completed mirror (old next) (old losing) (new next) (new losing) }
+    ensures { Completed mirror next.old losing.old next.new losing.new }
 {
     if !mirror {
         return;

@@ -1,7 +1,6 @@
 // Losses are taken out of a relation, and counted.
 ghost use Rattle.std.specs.Prelude.{◌<◌, ◌≤◌, length};
 ghost use Rattle.theory.specs.Games.Game.{Game};
-ghost use Rattle.table.specs.Lent.{old, new};
 ghost use Rattle.order_rows.specs.Bits.{row_bits, row_words, cell};
 ghost use Rattle.order_losses.specs.Losses.{edge_words, EdgeRows, relation_words};
 ghost use Rattle.order_removal.specs.RowRemoval.{FallAsked, RowTaken, TakenTo};
@@ -15,7 +14,7 @@ use table::limits::VERTICES;
 // what is in their rows. With `few` all of it is worked out, which is less work where `out` has few vertices.
 fn asked_fall(edges: &[u64], related: &[u64], out: Row, left: Row, a: usize, few: bool) -> Row
     requires { (edge_words ≤ length edges.now) × (relation_words ≤ length related.now) × (a < row_bits) }
-    ensures { (G : Game) → EdgeRows G (old edges) → FallAsked G (old related) a out left result }
+    ensures { (G : Game) → EdgeRows G edges.now → FallAsked G related.now a out left result }
 {
     if few {
         return fall_of(edges, out, left);
@@ -38,7 +37,7 @@ fn take_row(
 ) -> u32
     requires edge_words_in_bounds { (edge_words ≤ length edges.now) × (relation_words ≤ length next.now) × (a < row_bits) }
     requires relation_words_in_bounds { (relation_words ≤ length related.old) × (relation_words ≤ length lost.old) × (relation_words ≤ length falls.old) }
-    ensures { RowTaken (old edges) (cell (old next) a) a (old related) (old lost) (old falls) result (new related) (new lost) (new falls) }
+    ensures { RowTaken edges.now (cell next.now a) a related.old lost.old falls.old result related.new lost.new falls.new }
 {
     let out = row(next, a);
     let left = without(row(related, a), out);
@@ -64,7 +63,7 @@ pub fn take_all(
 ) -> u32
     requires edge_words_in_bounds { (edge_words ≤ length edges.now) × (relation_words ≤ length next.now) × (row_words ≤ length losing.now) }
     requires relation_words_in_bounds { (relation_words ≤ length related.old) × (relation_words ≤ length lost.old) × (relation_words ≤ length falls.old) }
-    ensures { TakenTo (old edges) (old next) (old losing) row_bits (old related) result (new related) (new lost) (new falls) }
+    ensures { TakenTo edges.now next.now losing.now row_bits related.old result related.new lost.new falls.new }
 {
     let mut cleared: u32 = 0;
     let mut a = first_from(losing, 0);

@@ -5,7 +5,6 @@
 pub mod start;
 
 ghost use Rattle.std.specs.Prelude.{◌≤◌, length};
-ghost use Rattle.table.specs.Lent.{old, new};
 ghost use Rattle.table.specs.Table.{game_of};
 ghost use Rattle.table.specs.WellFormed.{WellFormed};
 ghost use Rattle.order_rows.specs.Bits.{row_words};
@@ -33,7 +32,7 @@ pub fn round(
 ) -> u32
     requires edge_words_in_bounds { (edge_words ≤ length edges.now) × (row_words ≤ length changed.old) }
     requires rows_fit { RowsFit related.old lost.old falls.old next.old }
-    ensures { RoundDone mirror (old edges) (old related) (old lost) (old falls) (old changed) result (new related) (new lost) (new falls) (new changed) }
+    ensures { RoundDone mirror edges.now related.old lost.old falls.old changed.old result related.new lost.new falls.new changed.new }
 {
     let before = row(changed, 0);
     let near = unite(edges, VERTICES, before);
@@ -58,7 +57,7 @@ fn settle(
     requires edge_rows { EdgeRows (game_of game.now) edges.now × (edge_words ≤ length edges.now) }
     requires rows_fit { RowsFit related.old lost.old falls.old next.old × (row_words ≤ length changed.old) }
     requires begun { Begun (game_of game.now) related.old lost.old falls.old changed.old }
-    ensures { Settled mirror (game_of (old game)) result (new related) }
+    ensures { Settled mirror (game_of game.now) result related.new }
 {
     let mut passes: u32 = 0;
     loop {
@@ -82,7 +81,7 @@ pub fn rounds(
     requires well_formed { WellFormed game.now }
     requires edge_rows { EdgeRows (game_of game.now) edges.now × (edge_words ≤ length edges.now) }
     requires rows_fit { RowsFit related.old lost.old falls.old next.old }
-    ensures { Settled mirror (game_of (old game)) result (new related) }
+    ensures { Settled mirror (game_of game.now) result related.new }
 {
     let mut changed = [0u64; WORDS];
     begin(game, edges, related, lost, falls, &mut changed);

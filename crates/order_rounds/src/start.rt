@@ -5,7 +5,6 @@ ghost use Rattle.std.proofs.Math.Bool.{So};
 ghost use Rattle.theory.specs.Logic.Range.{first};
 ghost use Rattle.theory.specs.Games.Game.{Game};
 ghost use Rattle.theory.specs.Order.Order.{equal_priority};
-ghost use Rattle.table.specs.Lent.{old, new};
 ghost use Rattle.table.specs.Table.{vertex_count, game_of};
 ghost use Rattle.table.specs.WellFormed.{WellFormed};
 ghost use Rattle.order_rows.specs.Bits.{row_bits, row_words, cell};
@@ -20,7 +19,7 @@ use order_rows::row::{Row, is_some, without};
 // The first vertex before v of v's priority; v where there is none.
 pub fn first_equal(game: &[u16], v: usize) -> usize
     requires { WellFormed game.now × (v < vertex_count game.now) }
-    ensures { result ≡ first (λ u. equal_priority (game_of (old game)) (game_of (old game)) u v) 0 v }
+    ensures { result ≡ first (λ u. equal_priority (game_of game.now) (game_of game.now) u v) 0 v }
 {
     let priority = game[2 + v];
     let mut u = 0;
@@ -38,8 +37,8 @@ pub fn first_equal(game: &[u16], v: usize) -> usize
 fn copy(related: &mut [u64], lost: &mut [u64], falls: &mut [u64], u: usize, v: usize)
     requires relation_words_in_bounds { (relation_words ≤ length related.old) × (relation_words ≤ length lost.old) × (relation_words ≤ length falls.old) }
     requires u_lt_v { (u < v) × (v < row_bits) }
-    ensures { (G : Game) → So (equal_priority G G u v) → Parted G v (old related) (old lost) (old falls)
-        → Parted G (v + 1) (new related) (new lost) (new falls) }
+    ensures { (G : Game) → So (equal_priority G G u v) → Parted G v related.old lost.old falls.old
+        → Parted G (v + 1) related.new lost.new falls.new }
 {
     put(related, v, row(related, u));
     put(lost, v, row(lost, u));
@@ -60,7 +59,7 @@ fn part(
     requires edge_rows { EdgeRows (game_of game.now) edges.now × (edge_words ≤ length edges.now) }
     requires relation_words_in_bounds { (relation_words ≤ length related.old) × (relation_words ≤ length lost.old) × (relation_words ≤ length falls.old) }
     requires parted { Parted (game_of game.now) v related.old lost.old falls.old }
-    ensures { Parted (game_of (old game)) (v + 1) (new related) (new lost) (new falls) }
+    ensures { Parted (game_of game.now) (v + 1) related.new lost.new falls.new }
 {
     let n = game[0] as usize;
     let out = differing(game, 2, n, game[2 + v]);
@@ -84,7 +83,7 @@ fn start_row(
     requires edge_rows { EdgeRows (game_of game.now) edges.now × (edge_words ≤ length edges.now) }
     requires relation_words_in_bounds { (relation_words ≤ length related.old) × (relation_words ≤ length lost.old) × (relation_words ≤ length falls.old) }
     requires parted { Parted (game_of game.now) v related.old lost.old falls.old }
-    ensures { Parted (game_of (old game)) (v + 1) (new related) (new lost) (new falls) }
+    ensures { Parted (game_of game.now) (v + 1) related.new lost.new falls.new }
 {
     let u = first_equal(game, v);
     if u < v {
@@ -108,7 +107,7 @@ pub fn begin(
     requires relation_words_in_bounds { (relation_words ≤ length related.old) × (relation_words ≤ length lost.old) × (relation_words ≤ length falls.old) }
     requires row_words_in_bounds { row_words ≤ length changed.old }
     requires by_index { (x : ℕ) → x < row_bits → cell changed.old 0 x ≡ false }
-    ensures { Begun (game_of (old game)) (new related) (new lost) (new falls) (new changed) }
+    ensures { Begun (game_of game.now) related.new lost.new falls.new changed.new }
 {
     let n = game[0] as usize;
     // No vertex has owner 2.

@@ -2,7 +2,6 @@
 ghost use Rattle.std.specs.Prelude.{◌≡◌, not, ℕ, ◌+◌, ◌*◌, ◌<◌, ◌≤◌, length};
 ghost use Rattle.theory.specs.Logic.Bools.{◌&◌, ◌or◌};
 ghost use Rattle.theory.specs.Logic.Range.{any_below};
-ghost use Rattle.table.specs.Lent.{old, new};
 ghost use Rattle.words.specs.Word.{word_bits, digit};
 ghost use Rattle.words.specs.Words.{has};
 ghost use Rattle.order_rows.specs.Bits.{row_bits, RowIs, row_words, cell, InRows, Put, Added, united_rows, apart};
@@ -12,7 +11,7 @@ use crate::row::{Row, WORDS, either, is_some, meets, without};
 // Row v.
 pub fn row(words: &[u64], v: usize) -> Row
     requires { InRows words.now v }
-    ensures { RowIs result (cell (old words) v) }
+    ensures { RowIs result (cell words.now v) }
 {
     let at = v * WORDS;
     let mut out = [0u64; WORDS];
@@ -27,7 +26,7 @@ pub fn row(words: &[u64], v: usize) -> Row
 // Puts r into row v.
 pub fn put(words: &mut [u64], v: usize, r: Row)
     requires { InRows words.old v }
-    ensures { Put (old words) (new words) v r }
+    ensures { Put words.old words.new v r }
 {
     let at = v * WORDS;
     let mut k = 0;
@@ -40,7 +39,7 @@ pub fn put(words: &mut [u64], v: usize, r: Row)
 // Whether x is in row v.
 pub fn holds(words: &[u64], v: usize, x: usize) -> bool
     requires { InRows words.now v × (x < row_bits) }
-    ensures { result ≡ cell (old words) v x }
+    ensures { result ≡ cell words.now v x }
 {
     (words[v * WORDS + x / 64] >> (x % 64)) & 1 == 1
 }
@@ -48,7 +47,7 @@ pub fn holds(words: &[u64], v: usize, x: usize) -> bool
 // Puts x into row v, if `yes`.
 pub fn add(words: &mut [u64], v: usize, x: usize, yes: bool)
     requires { InRows words.old v × (x < row_bits) }
-    ensures { Added (old words) (new words) v x yes }
+    ensures { Added words.old words.new v x yes }
 {
     let at = v * WORDS + x / 64;
     words[at] = words::with(words[at], x % 64, yes);
@@ -57,7 +56,7 @@ pub fn add(words: &mut [u64], v: usize, x: usize, yes: bool)
 // `into` and the rows of a word's bits; its bit 0 is for row `base`.
 fn unite_word(words: &[u64], base: usize, which: u64, into: Row) -> Row
     requires { (base + word_bits) * row_words ≤ length words.now }
-    ensures { RowIs result (λ x. has into x or any_below word_bits (λ k. digit which k & cell (old words) (base + k) x)) }
+    ensures { RowIs result (λ x. has into x or any_below word_bits (λ k. digit which k & cell words.now (base + k) x)) }
 {
     let mut out = into;
     let mut left = which;
@@ -72,7 +71,7 @@ fn unite_word(words: &[u64], base: usize, which: u64, into: Row) -> Row
 // The rows base + a for all a in `which`, united.
 pub fn unite(words: &[u64], base: usize, which: Row) -> Row
     requires { (base + row_bits) * row_words ≤ length words.now }
-    ensures { RowIs result (united_rows (old words) base which) }
+    ensures { RowIs result (united_rows words.now base which) }
 {
     let mut out = [0u64; WORDS];
     let mut j = 0;
@@ -87,7 +86,7 @@ pub fn unite(words: &[u64], base: usize, which: Row) -> Row
 // What is left of `from` without the rows of a word's bits; its bit 0 is for row `base`. It ends early where nothing is left.
 fn strip_word(words: &[u64], base: usize, which: u64, from: Row) -> Row
     requires { (base + word_bits) * row_words ≤ length words.now }
-    ensures { RowIs result (λ x. has from x & not (any_below word_bits (λ k. digit which k & cell (old words) (base + k) x))) }
+    ensures { RowIs result (λ x. has from x & not (any_below word_bits (λ k. digit which k & cell words.now (base + k) x))) }
 {
     let mut out = from;
     let mut left = which;
@@ -105,7 +104,7 @@ fn strip_word(words: &[u64], base: usize, which: u64, from: Row) -> Row
 // What is left of `from` without the rows of all a in `which`.
 pub fn strip(words: &[u64], which: Row, from: Row) -> Row
     requires { row_bits * row_words ≤ length words.now }
-    ensures { RowIs result (λ x. has from x & not (united_rows (old words) 0 which x)) }
+    ensures { RowIs result (λ x. has from x & not (united_rows words.now 0 which x)) }
 {
     let mut out = from;
     let mut j = 0;
@@ -120,7 +119,7 @@ pub fn strip(words: &[u64], which: Row, from: Row) -> Row
 // The bits of a word whose rows don't meet x; its bit 0 is for row `base`.
 pub fn apart_word(words: &[u64], base: usize, which: u64, x: Row) -> u64
     requires { (base + word_bits) * row_words ≤ length words.now }
-    ensures { (k : ℕ) → k < word_bits → digit result k ≡ digit which k & apart (old words) (base + k) x }
+    ensures { (k : ℕ) → k < word_bits → digit result k ≡ digit which k & apart words.now (base + k) x }
 {
     let mut out: u64 = 0;
     let mut left = which;
@@ -135,7 +134,7 @@ pub fn apart_word(words: &[u64], base: usize, which: u64, x: Row) -> u64
 // All in `which` whose rows don't meet x.
 pub fn apart_of(words: &[u64], which: Row, x: Row) -> Row
     requires { row_bits * row_words ≤ length words.now }
-    ensures { RowIs result (λ a. has which a & apart (old words) a x) }
+    ensures { RowIs result (λ a. has which a & apart words.now a x) }
 {
     let mut out = [0u64; WORDS];
     let mut j = 0;

@@ -2,7 +2,6 @@
 ghost use Rattle.std.specs.Prelude.{◌≡◌, not, ◌+◌, ◌≤◌, min, length};
 ghost use Rattle.theory.specs.Logic.Bools.{◌&◌, ◌or◌};
 ghost use Rattle.theory.specs.Logic.Range.{any_below, count, first};
-ghost use Rattle.table.specs.Lent.{old};
 ghost use Rattle.words.specs.Word.{word_bits};
 ghost use Rattle.words.specs.Words.{has};
 ghost use Rattle.order_rows.specs.Bits.{row_bits, row_words, RowIs};
@@ -96,7 +95,7 @@ pub fn size(a: Row) -> u32
 // The first number from k on; the limit where there is none. The row is lent, since callers go through it.
 pub fn first_from(a: &[u64], k: usize) -> usize
     requires { (row_words ≤ length a.now) × (k ≤ row_bits) }
-    ensures { result ≡ first (has (old a)) k row_bits }
+    ensures { result ≡ first (has a.now) k row_bits }
 {
     let mut at = k;
     while at < VERTICES {

@@ -4,7 +4,6 @@ ghost use Rattle.theory.specs.Logic.Bools.{◌&◌};
 ghost use Rattle.theory.specs.Games.Game.{Game, Total};
 ghost use Rattle.theory.specs.Order.Order.{any_next};
 ghost use Rattle.theory.specs.Order.Rows.{fall};
-ghost use Rattle.table.specs.Lent.{old, new};
 ghost use Rattle.table.specs.Table.{vertex_count, table_edges, game_of};
 ghost use Rattle.table.specs.WellFormed.{WellFormed};
 ghost use Rattle.words.specs.Word.{word_bits, digit};
@@ -24,7 +23,7 @@ fn add_edges(game: &[u16], edges: &mut [u64])
     requires well_formed { WellFormed game.now × (vertex_count game.now ≤ word_bits) }
     requires small_edges_in_bounds { small_edges ≤ length edges.old }
     requires by_index { (v x : ℕ) → bit edges.old v x ≡ false }
-    ensures { EdgesIn word_bits (old game) (table_edges (old game)) (bit (new edges)) }
+    ensures { EdgesIn word_bits game.now (table_edges game.now) (bit edges.new) }
 {
     let n = game[0] as usize;
     let m = game[1] as usize;
@@ -45,7 +44,7 @@ pub fn fill(game: &[u16], edges: &mut [u64])
     requires well_formed { WellFormed game.now × (vertex_count game.now ≤ word_bits) }
     requires small_edges_in_bounds { small_edges ≤ length edges.old }
     requires by_index { (v x : ℕ) → bit edges.old v x ≡ false }
-    ensures { EdgeSets word_bits (game_of (old game)) (bit (new edges)) }
+    ensures { EdgeSets word_bits (game_of game.now) (bit edges.new) }
 {
     add_edges(game, edges);
     let n = game[0] as usize;
@@ -55,7 +54,7 @@ pub fn fill(game: &[u16], edges: &mut [u64])
 // Of `near` those of a player's, and those of the other's without a successor in x.
 fn falling(edges: &[u64], near: u64, player: u64, x: u64) -> u64
     requires { small_edges ≤ length edges.now }
-    ensures { Is word_bits (digit result) (falling_in word_bits (bit (old edges)) (digit near) (digit player) (digit x)) }
+    ensures { Is word_bits (digit result) (falling_in word_bits (bit edges.now) (digit near) (digit player) (digit x)) }
 {
     (near & player) | apart_of(edges, without(near, player), x)
 }
@@ -63,7 +62,7 @@ fn falling(edges: &[u64], near: u64, player: u64, x: u64) -> u64
 // The vertices of `mask` with a successor in l; the smaller of the two is gone through.
 fn near_within(edges: &[u64], mask: u64, l: u64) -> u64
     requires { small_edges ≤ length edges.now }
-    ensures { (G : Game) → EdgeSets word_bits G (bit (old edges)) → Is word_bits (digit result) (λ w. digit mask w & any_next G w (digit l)) }
+    ensures { (G : Game) → EdgeSets word_bits G (bit edges.now) → Is word_bits (digit result) (λ w. digit mask w & any_next G w (digit l)) }
 {
     if words::size(mask) < words::size(l) {
         return without(mask, apart_of(edges, mask, l));
@@ -75,7 +74,7 @@ fn near_within(edges: &[u64], mask: u64, l: u64) -> u64
 // those of Even's without a successor in x.
 pub fn fall_within(edges: &[u64], mask: u64, l: u64, x: u64) -> u64
     requires { small_edges ≤ length edges.now }
-    ensures { (G : Game) → EdgeSets word_bits G (bit (old edges)) → Is word_bits (digit result) (λ w. digit mask w & fall G (digit l) (digit x) w) }
+    ensures { (G : Game) → EdgeSets word_bits G (bit edges.now) → Is word_bits (digit result) (λ w. digit mask w & fall G (digit l) (digit x) w) }
 {
     falling(edges, near_within(edges, mask, l), edges[2 * SMALL], x)
 }
@@ -84,7 +83,7 @@ pub fn fall_within(edges: &[u64], mask: u64, l: u64, x: u64) -> u64
 // vertices with a successor in x those of Even's, and those of Odd's without a successor in l.
 pub fn fall_of_all(edges: &[u64], l: u64, x: u64) -> u64
     requires { small_edges ≤ length edges.now }
-    ensures { (G : Game) → EdgeSets word_bits G (bit (old edges)) → Total G → Whole word_bits G (digit l) (digit x)
+    ensures { (G : Game) → EdgeSets word_bits G (bit edges.now) → Total G → Whole word_bits G (digit l) (digit x)
         → Is word_bits (digit result) (fall G (digit l) (digit x)) }
 {
     let all = l | x;

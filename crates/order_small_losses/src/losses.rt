@@ -2,7 +2,6 @@
 ghost use Rattle.std.specs.Prelude.{◌<◌, ◌≤◌, length};
 ghost use Rattle.theory.specs.Games.Game.{Game};
 ghost use Rattle.theory.specs.Order.Rows.{loses};
-ghost use Rattle.table.specs.Lent.{old, new};
 ghost use Rattle.words.specs.Word.{word_bits, digit};
 ghost use Rattle.order_sets.specs.Sets.{Is, struck};
 ghost use Rattle.order_sets.specs.Losses.{EdgeSets, FellIn, odd_loss, GameLosses};
@@ -14,7 +13,7 @@ use crate::sets::{strip, unite};
 // What an Odd vertex v loses, where `gone` is what the rows of its successors lost. It ends early where other successors still have all of it.
 fn lose_odd(edges: &[u64], related: &[u64], gone: u64, v: usize) -> u64
     requires { (small_edges ≤ length edges.now) × (word_bits ≤ length related.now) × (v < word_bits) }
-    ensures { (G : Game) → EdgeSets word_bits G (bit (old edges)) → Is word_bits (digit result) (odd_loss G (bit (old related)) (digit gone) v) }
+    ensures { (G : Game) → EdgeSets word_bits G (bit edges.now) → Is word_bits (digit result) (odd_loss G (bit related.now) (digit gone) v) }
 {
     let next = edges[v];
     let less = strip(related, next, gone);
@@ -28,9 +27,9 @@ fn lose_odd(edges: &[u64], related: &[u64], gone: u64, v: usize) -> u64
 fn lose(edges: &[u64], related: &[u64], lost: &[u64], falls: &[u64], changed: u64, v: usize) -> u64
     requires { (small_edges ≤ length edges.now) × (word_bits ≤ length related.now) × (word_bits ≤ length lost.now) × (word_bits ≤ length falls.now)
         × (v < word_bits) }
-    ensures { (G : Game) → EdgeSets word_bits G (bit (old edges)) → v < G.n
-        → FellIn word_bits G (bit (old related)) (bit (old lost)) (bit (old falls)) (digit changed)
-        → Is word_bits (digit result) (loses G (bit (old related)) (struck (digit changed) (bit (old lost))) v) }
+    ensures { (G : Game) → EdgeSets word_bits G (bit edges.now) → v < G.n
+        → FellIn word_bits G (bit related.now) (bit lost.now) (bit falls.now) (digit changed)
+        → Is word_bits (digit result) (loses G (bit related.now) (struck (digit changed) (bit lost.now)) v) }
 {
     let which = edges[v] & changed;
     if (edges[2 * SMALL] >> v) & 1 == 1 {
@@ -51,8 +50,8 @@ pub fn lose_all(
 ) -> u64
     requires { (small_edges ≤ length edges.now) × (word_bits ≤ length related.now) × (word_bits ≤ length lost.now) × (word_bits ≤ length falls.now)
         × (word_bits ≤ length next.old) }
-    ensures { GameLosses word_bits (bit (old edges)) (bit (old related)) (bit (old lost)) (bit (old falls)) (digit changed) (digit near) word_bits
-        (bit (new next)) (digit result) }
+    ensures { GameLosses word_bits (bit edges.now) (bit related.now) (bit lost.now) (bit falls.now) (digit changed) (digit near) word_bits
+        (bit next.new) (digit result) }
 {
     let mut losing: u64 = 0;
     let mut left = near;

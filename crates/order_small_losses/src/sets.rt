@@ -1,7 +1,6 @@
 // Words as rows, one after another.
 ghost use Rattle.std.specs.Prelude.{not, ◌+◌, ◌≤◌, length};
 ghost use Rattle.theory.specs.Logic.Bools.{◌&◌};
-ghost use Rattle.table.specs.Lent.{old};
 ghost use Rattle.words.specs.Word.{word_bits, digit};
 ghost use Rattle.order_sets.specs.Sets.{Is, united_in, apart_in};
 ghost use Rattle.order_small_losses.specs.Words.{bit};
@@ -16,7 +15,7 @@ pub fn without(a: u64, b: u64) -> u64
 // The words base + a for all a in `which`, united.
 pub fn unite(words: &[u64], base: usize, which: u64) -> u64
     requires { base + word_bits ≤ length words.now }
-    ensures { Is word_bits (digit result) (united_in word_bits (bit (old words)) base (digit which)) }
+    ensures { Is word_bits (digit result) (united_in word_bits (bit words.now) base (digit which)) }
 {
     let mut out: u64 = 0;
     let mut left = which;
@@ -30,7 +29,7 @@ pub fn unite(words: &[u64], base: usize, which: u64) -> u64
 // What is left of `from` without the words of all a in `which`. It ends early where nothing is left.
 pub fn strip(words: &[u64], which: u64, from: u64) -> u64
     requires { word_bits ≤ length words.now }
-    ensures { Is word_bits (digit result) (λ x. digit from x & not (united_in word_bits (bit (old words)) 0 (digit which) x)) }
+    ensures { Is word_bits (digit result) (λ x. digit from x & not (united_in word_bits (bit words.now) 0 (digit which) x)) }
 {
     let mut out = from;
     let mut left = which;
@@ -48,7 +47,7 @@ pub fn strip(words: &[u64], which: u64, from: u64) -> u64
 // All in `which` whose words don't meet x.
 pub fn apart_of(words: &[u64], which: u64, x: u64) -> u64
     requires { word_bits ≤ length words.now }
-    ensures { Is word_bits (digit result) (λ a. digit which a & apart_in word_bits (bit (old words)) a (digit x)) }
+    ensures { Is word_bits (digit result) (λ a. digit which a & apart_in word_bits (bit words.now) a (digit x)) }
 {
     let mut out: u64 = 0;
     let mut left = which;

@@ -1,6 +1,5 @@
 // Losses are taken out of a relation, and counted.
 ghost use Rattle.std.specs.Prelude.{◌<◌, ◌≤◌, length};
-ghost use Rattle.table.specs.Lent.{old, new};
 ghost use Rattle.words.specs.Word.{word_bits, digit};
 ghost use Rattle.order_sets.specs.Removal.{TakenRow, TakenIn};
 ghost use Rattle.order_small_losses.specs.Words.{bit, small_edges};
@@ -19,8 +18,8 @@ fn take_row(
 ) -> u32
     requires small_edges_in_bounds { (small_edges ≤ length edges.now) × (word_bits ≤ length next.now) × (a < word_bits) }
     requires word_bits_in_bounds { (word_bits ≤ length related.old) × (word_bits ≤ length lost.old) × (word_bits ≤ length falls.old) }
-    ensures { TakenRow word_bits (bit (old edges)) (bit (old next) a) a (bit (old related)) (bit (old lost)) (bit (old falls)) result (bit (new related))
-        (bit (new lost)) (bit (new falls)) }
+    ensures { TakenRow word_bits (bit edges.now) (bit next.now a) a (bit related.old) (bit lost.old) (bit falls.old) result (bit related.new)
+        (bit lost.new) (bit falls.new) }
 {
     let out = next[a];
     let left = without(related[a], out);
@@ -42,8 +41,8 @@ pub fn take_all(
 ) -> u32
     requires small_edges_in_bounds { (small_edges ≤ length edges.now) × (word_bits ≤ length next.now) }
     requires word_bits_in_bounds { (word_bits ≤ length related.old) × (word_bits ≤ length lost.old) × (word_bits ≤ length falls.old) }
-    ensures { TakenIn word_bits (bit (old edges)) (bit (old next)) (digit losing) word_bits (bit (old related)) result (bit (new related)) (bit (new lost))
-        (bit (new falls)) }
+    ensures { TakenIn word_bits (bit edges.now) (bit next.now) (digit losing) word_bits (bit related.old) result (bit related.new) (bit lost.new)
+        (bit falls.new) }
 {
     let mut cleared: u32 = 0;
     let mut a = words::first_from(losing, 0);

@@ -5,7 +5,6 @@
 mod start;
 
 ghost use Rattle.std.specs.Prelude.{◌≤◌, length};
-ghost use Rattle.table.specs.Lent.{old, new};
 ghost use Rattle.table.specs.Table.{vertex_count, game_of};
 ghost use Rattle.table.specs.WellFormed.{WellFormed};
 ghost use Rattle.words.specs.Word.{word_bits, digit};
@@ -39,8 +38,8 @@ fn round(
     mirror: bool,
 ) -> Taken
     requires { (small_edges ≤ length edges.now) × WordsFit related.old lost.old falls.old next.old }
-    ensures { RoundDoneIn word_bits mirror (bit (old edges)) (bit (old related)) (bit (old lost)) (bit (old falls)) (digit changed) result.cleared
-        (bit (new related)) (bit (new lost)) (bit (new falls)) (digit result.changed) }
+    ensures { RoundDoneIn word_bits mirror (bit edges.now) (bit related.old) (bit lost.old) (bit falls.old) (digit changed) result.cleared
+        (bit related.new) (bit lost.new) (bit falls.new) (digit result.changed) }
 {
     let near = unite(edges, SMALL, changed);
     let losing = lose_all(edges, related, lost, falls, changed, near, next);
@@ -66,7 +65,7 @@ fn settle(
     requires well_formed { WellFormed game.now × (small_edges ≤ length edges.now) × EdgeSets word_bits (game_of game.now) (bit edges.now) }
     requires words_fit { WordsFit related.old lost.old falls.old next.old }
     requires begun_in { BegunIn word_bits (game_of game.now) (bit related.old) (bit lost.old) (bit falls.old) (digit first) }
-    ensures { SettledIn mirror (game_of (old game)) result (bit (new related)) }
+    ensures { SettledIn mirror (game_of game.now) result (bit related.new) }
 {
     let mut passes: u32 = 0;
     let mut changed = first;
@@ -92,7 +91,7 @@ pub fn rounds(
 ) -> u32
     requires well_formed { WellFormed game.now × (small_edges ≤ length edges.now) × EdgeSets word_bits (game_of game.now) (bit edges.now) }
     requires words_fit { WordsFit related.old lost.old falls.old next.old }
-    ensures { SettledIn mirror (game_of (old game)) result (bit (new related)) }
+    ensures { SettledIn mirror (game_of game.now) result (bit related.new) }
 {
     let first = begin(game, edges, related, lost, falls);
     settle(game, edges, related, lost, falls, next, first, mirror)

@@ -4,7 +4,6 @@ ghost use Rattle.std.proofs.Math.Bool.{So};
 ghost use Rattle.std.specs.Prelude.{◌+◌, ◌<◌, ◌≤◌, length};
 ghost use Rattle.theory.specs.Games.Game.{Game};
 ghost use Rattle.theory.specs.Order.Order.{equal_priority};
-ghost use Rattle.table.specs.Lent.{old, new};
 ghost use Rattle.table.specs.Table.{vertex_count, game_of};
 ghost use Rattle.table.specs.WellFormed.{WellFormed};
 ghost use Rattle.words.specs.Word.{word_bits, digit};
@@ -21,8 +20,8 @@ use order_small_losses::sets::without;
 fn copy(related: &mut [u64], lost: &mut [u64], falls: &mut [u64], u: usize, v: usize)
     requires word_bits_in_bounds { (word_bits ≤ length related.old) × (word_bits ≤ length lost.old) × (word_bits ≤ length falls.old) }
     requires u_lt_v { (u < v) × (v < word_bits) }
-    ensures { (G : Game) → So (equal_priority G G u v) → PartedIn word_bits G v (bit (old related)) (bit (old lost)) (bit (old falls))
-        → PartedIn word_bits G (v + 1) (bit (new related)) (bit (new lost)) (bit (new falls)) }
+    ensures { (G : Game) → So (equal_priority G G u v) → PartedIn word_bits G v (bit related.old) (bit lost.old) (bit falls.old)
+        → PartedIn word_bits G (v + 1) (bit related.new) (bit lost.new) (bit falls.new) }
 {
     related[v] = related[u];
     lost[v] = lost[u];
@@ -43,7 +42,7 @@ fn part(
     requires small_edges_in_bounds { (small_edges ≤ length edges.now) × EdgeSets word_bits (game_of game.now) (bit edges.now) }
     requires word_bits_in_bounds { (word_bits ≤ length related.old) × (word_bits ≤ length lost.old) × (word_bits ≤ length falls.old) }
     requires parted_in { PartedIn word_bits (game_of game.now) v (bit related.old) (bit lost.old) (bit falls.old) }
-    ensures { PartedIn word_bits (game_of (old game)) (v + 1) (bit (new related)) (bit (new lost)) (bit (new falls)) }
+    ensures { PartedIn word_bits (game_of game.now) (v + 1) (bit related.new) (bit lost.new) (bit falls.new) }
 {
     let n = game[0] as usize;
     let out = differing_word(game, 2, n, game[2 + v], 0);
@@ -67,7 +66,7 @@ fn start_row(
     requires small_edges_in_bounds { (small_edges ≤ length edges.now) × EdgeSets word_bits (game_of game.now) (bit edges.now) }
     requires word_bits_in_bounds { (word_bits ≤ length related.old) × (word_bits ≤ length lost.old) × (word_bits ≤ length falls.old) }
     requires parted_in { PartedIn word_bits (game_of game.now) v (bit related.old) (bit lost.old) (bit falls.old) }
-    ensures { PartedIn word_bits (game_of (old game)) (v + 1) (bit (new related)) (bit (new lost)) (bit (new falls)) }
+    ensures { PartedIn word_bits (game_of game.now) (v + 1) (bit related.new) (bit lost.new) (bit falls.new) }
 {
     let u = first_equal(game, v);
     if u < v {
@@ -87,7 +86,7 @@ pub fn begin(
 ) -> u64
     requires well_formed { WellFormed game.now × (small_edges ≤ length edges.now) × EdgeSets word_bits (game_of game.now) (bit edges.now) }
     requires word_bits_in_bounds { (word_bits ≤ length related.old) × (word_bits ≤ length lost.old) × (word_bits ≤ length falls.old) }
-    ensures { BegunIn word_bits (game_of (old game)) (bit (new related)) (bit (new lost)) (bit (new falls)) (digit result) }
+    ensures { BegunIn word_bits (game_of game.now) (bit related.new) (bit lost.new) (bit falls.new) (digit result) }
 {
     let n = game[0] as usize;
     // No vertex has owner 2.

@@ -1,7 +1,6 @@
 // Refusal 15: positions that lack a needed link. A part of the plan acceptor; no host calls it.
 // `edge_starts` and `edge_targets` index the game's edges, `starts` and `targets` the links.
 ghost use Rattle.std.specs.Prelude.{◌≡◌, ℕ, ◌+◌, ◌≤◌, ◌<◌, length, get_or};
-ghost use Rattle.table.specs.Lent.{old, new};
 ghost use Rattle.table.specs.Limits.{vertex_limit};
 ghost use Rattle.index.specs.Index.{among, Indexed};
 ghost use Rattle.plan_links.specs.PlanTable.{position_count, vertex_at};
@@ -26,7 +25,7 @@ fn stamp_answers(
 )
     requires plan_formed { PlanFormed (length stamps.old) plan.now × (i < position_count plan.now) }
     requires indexed { Indexed (position_count plan.now) starts.now targets.now }
-    ensures { Stamped (old plan) (old starts) (old targets) i stamp (old stamps) (new stamps) }
+    ensures { Stamped plan.now starts.now targets.now i stamp stamps.old stamps.new }
 {
     let run = run_of(starts, i);
     let mut t = run.from;
@@ -48,7 +47,7 @@ fn some_unstamped(
 ) -> bool
     requires indexed { Indexed n starts.now targets.now }
     requires v_lt_n { (v < n) × (n ≤ vertex_limit) × (n ≤ length stamps.now) }
-    ensures { result ≡ among (old starts) (old targets) v (unstamped (old stamps) stamp) }
+    ensures { result ≡ among starts.now targets.now v (unstamped stamps.now stamp) }
 {
     let run = run_of(starts, v);
     let mut t = run.from;
@@ -75,8 +74,8 @@ fn lacks_answer(
 ) -> bool
     requires answer_space { AnswerSpace n plan.now starts.now targets.now edge_starts.now edge_targets.now stamps.old i }
     requires no_later { NoLater i stamps.old }
-    ensures value { result ≡ among (old edge_starts) (old edge_targets) (vertex_at (old plan) i) (unanswered (old plan) (old starts) (old targets) i) }
-    ensures no_later_2 { NoLater (i + 1) (new stamps) }
+    ensures value { result ≡ among edge_starts.now edge_targets.now (vertex_at plan.now i) (unanswered plan.now starts.now targets.now i) }
+    ensures no_later_2 { NoLater (i + 1) stamps.new }
 {
     let stamp = (i + 1) as u16;
     stamp_answers(plan, starts, targets, stamps, i, stamp);
@@ -99,8 +98,8 @@ fn lacks_link(
     requires lack_space { LackSpace game.now player plan.now starts.now targets.now edge_starts.now edge_targets.now stamps.old }
     requires i_bound { i < position_count plan.now }
     requires no_later { NoLater i stamps.old }
-    ensures value { result ≡ lacks_link (old game) player (old plan) i }
-    ensures no_later_2 { NoLater (i + 1) (new stamps) }
+    ensures value { result ≡ lacks_link game.now player plan.now i }
+    ensures no_later_2 { NoLater (i + 1) stamps.new }
 {
     let n = game[0] as usize;
     let v = vertex_of(plan, i);
@@ -132,7 +131,7 @@ fn first_lacking_by(
 ) -> usize
     requires lack_space { LackSpace game.now player plan.now starts.now targets.now edge_starts.now edge_targets.now stamps.old }
     requires by_index { (x : ℕ) → get_or stamps.old x 0 ≡ 0 }
-    ensures { result ≡ first_lacking_link (old game) player (old plan) }
+    ensures { result ≡ first_lacking_link game.now player plan.now }
 {
     let p = plan[0] as usize;
     let mut i = 0;
@@ -166,7 +165,7 @@ pub fn first_lacking(
 ) -> usize
     requires words_pass { WordsPass game.now player plan.now }
     requires link_index { LinkIndex plan.now starts.now targets.now }
-    ensures { result ≡ first_lacking_link (old game) player (old plan) }
+    ensures { result ≡ first_lacking_link game.now player plan.now }
 {
     let mut edge_starts = [0u16; VERTEX_STARTS];
     let mut edge_targets = [0u16; EDGES];

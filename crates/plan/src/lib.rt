@@ -4,7 +4,6 @@
 mod answers;
 
 ghost use Rattle.std.specs.Prelude.{◌≡◌, [], drop};
-ghost use Rattle.table.specs.Lent.{old};
 ghost use Rattle.table.specs.Answers.{judge};
 ghost use Rattle.table.specs.Acceptance.{acceptance_answer};
 ghost use Rattle.table.specs.WellFormed.{WellFormed};
@@ -19,7 +18,7 @@ use table::{Acceptance, Filling, NoCounts, refusal_of};
 // Judges a game, a player (0 Even, 1 Odd) and a plan: the reader's refusals, then 11 to 16 in order. Accepted exactly if the plan wins
 // for the player from the vertex of position 0.
 pub fn accept_plan(game: &[u16], player: u32, plan: &[u16]) -> Acceptance
-    ensures { acceptance_answer result ≡ plan_answer (old game) player (old plan) }
+    ensures { acceptance_answer result ≡ plan_answer game.now player plan.now }
 {
     let reading = table_reader::read_sizes(game);
     let Filling::Accepted(_) = reading else {
@@ -31,7 +30,7 @@ pub fn accept_plan(game: &[u16], player: u32, plan: &[u16]) -> Acceptance
 // 11 to 16, for a game that was read already. A part of `accept_plan`, and of the calls that judge a plan after other checks.
 pub fn judge_plan(game: &[u16], player: u32, plan: &[u16]) -> Acceptance
     requires { WellFormed game.now }
-    ensures { acceptance_answer result ≡ judge (plan_rows (old game) player (old plan)) [] }
+    ensures { acceptance_answer result ≡ judge (plan_rows game.now player plan.now) [] }
 {
     if 1 < player {
         return refused(11, 0);
@@ -55,7 +54,7 @@ pub fn judge_plan(game: &[u16], player: u32, plan: &[u16]) -> Acceptance
 // 15 and 16, over an index of the links.
 fn judge_positions(game: &[u16], player: u32, plan: &[u16]) -> Acceptance
     requires { WordsPass game.now player plan.now }
-    ensures { acceptance_answer result ≡ judge (drop 4 (plan_rows (old game) player (old plan))) [] }
+    ensures { acceptance_answer result ≡ judge (drop 4 (plan_rows game.now player plan.now)) [] }
 {
     let mut starts = [0u16; POSITION_STARTS];
     let mut targets = [0u16; LINKS];
@@ -72,7 +71,7 @@ fn judge_indexed(
 ) -> Acceptance
     requires words_pass { WordsPass game.now player plan.now }
     requires link_index { LinkIndex plan.now starts.now targets.now }
-    ensures { acceptance_answer result ≡ judge (drop 4 (plan_rows (old game) player (old plan))) [] }
+    ensures { acceptance_answer result ≡ judge (drop 4 (plan_rows game.now player plan.now)) [] }
 {
     let p = plan[0] as usize;
     let lacking = answers::first_lacking(game, player, plan, starts, targets);

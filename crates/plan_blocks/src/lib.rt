@@ -4,7 +4,6 @@
 
 ghost use Rattle.std.specs.Prelude.{◌≡◌, ◌≤◌, ◌<◌, length};
 ghost use Rattle.theory.specs.Logic.Range.{all_below};
-ghost use Rattle.table.specs.Lent.{old, new};
 ghost use Rattle.table.specs.Limits.{position_limit};
 ghost use Rattle.plan_blocks.specs.Blocks.{link_by, Confined};
 ghost use Rattle.plan_blocks.specs.Refining.{numbered, leads_to, fits, taken, Taken, lowest, leaves, Bounded};
@@ -14,7 +13,7 @@ use table::limits::POSITION_STARTS;
 
 // Whether position w is in a block and has a number of at least `least`.
 fn numbered(blocks: &[u16], numbers: &[u16], block: u16, least: u16, w: u16) -> bool
-    ensures { result ≡ numbered (old blocks) (old numbers) block least w }
+    ensures { result ≡ numbered blocks.now numbers.now block least w }
 {
     if word_at(blocks, w as usize) != block {
         return false;
@@ -32,7 +31,7 @@ fn leads_to(
     least: u16,
 ) -> bool
     requires { u < position_limit }
-    ensures { result ≡ leads_to (old starts) (old targets) (old blocks) (old numbers) u least }
+    ensures { result ≡ leads_to starts.now targets.now blocks.now numbers.now u least }
 {
     let block = word_at(blocks, u);
     let end = word_at(starts, u + 1);
@@ -59,7 +58,7 @@ fn fits(
     u: usize,
 ) -> bool
     requires { u < position_limit }
-    ensures { result ≡ fits (old starts) (old targets) (old priorities) (old blocks) (old numbers) (old leasts) u }
+    ensures { result ≡ fits starts.now targets.now priorities.now blocks.now numbers.now leasts.now u }
 {
     if word_at(blocks, u) == GONE {
         return true;
@@ -85,7 +84,7 @@ fn all_fit(
     p: usize,
 ) -> bool
     requires { p ≤ position_limit }
-    ensures { result ≡ all_below p (fits (old starts) (old targets) (old priorities) (old blocks) (old numbers) (old leasts)) }
+    ensures { result ≡ all_below p (fits starts.now targets.now priorities.now blocks.now numbers.now leasts.now) }
 {
     let mut u = 0;
     while u < p {
@@ -111,7 +110,7 @@ fn taken(block: u16, number: u16) -> u16
 // Each of the p positions that is in a block gets its number as its block.
 fn take_numbers(blocks: &mut [u16], numbers: &[u16], p: usize)
     requires { (p ≤ position_limit) × (p ≤ length blocks.old) }
-    ensures { Taken p (old blocks) (old numbers) (new blocks) }
+    ensures { Taken p blocks.old numbers.now blocks.new }
 {
     let mut u = 0;
     while u < p {
@@ -122,7 +121,7 @@ fn take_numbers(blocks: &mut [u16], numbers: &[u16], p: usize)
 
 // Whether position v has the right parity and its block's lowest priority.
 fn lowest(priorities: &[u16], blocks: &[u16], leasts: &[u16], player: u32, v: usize) -> bool
-    ensures { result ≡ lowest (old priorities) (old blocks) (old leasts) player v }
+    ensures { result ≡ lowest priorities.now blocks.now leasts.now player v }
 {
     let priority = word_at(priorities, v);
     if (priority % 2) as u32 != player {
@@ -143,7 +142,7 @@ fn leaves(
     v: usize,
 ) -> bool
     requires { v < position_limit }
-    ensures { result ≡ leaves (old starts) (old targets) (old priorities) (old blocks) (old leasts) player v }
+    ensures { result ≡ leaves starts.now targets.now priorities.now blocks.now leasts.now player v }
 {
     if lowest(priorities, blocks, leasts, player, v) {
         return true;
@@ -165,8 +164,8 @@ fn leave(
     requires p_le_position_limit { (p ≤ position_limit) × (p ≤ length blocks.old) × (v < p) }
     requires confined { Confined p player (link_by starts.now targets.now) priorities.now blocks.old }
     requires bounded { Bounded p priorities.now blocks.old leasts.now }
-    ensures confined_2 { Confined p player (link_by (old starts) (old targets)) (old priorities) (new blocks) }
-    ensures bounded_2 { Bounded p (old priorities) (new blocks) (old leasts) }
+    ensures confined_2 { Confined p player (link_by starts.now targets.now) priorities.now blocks.new }
+    ensures bounded_2 { Bounded p priorities.now blocks.new leasts.now }
 {
     if leaves(starts, targets, priorities, blocks, leasts, player, v) {
         blocks[v] = GONE;
@@ -187,7 +186,7 @@ fn remove(
     requires p_le_position_limit { (p ≤ position_limit) × (p ≤ length blocks.old) }
     requires confined { Confined p player (link_by starts.now targets.now) priorities.now blocks.old }
     requires bounded { Bounded p priorities.now blocks.old leasts.now }
-    ensures { Confined p player (link_by (old starts) (old targets)) (old priorities) (new blocks) }
+    ensures { Confined p player (link_by starts.now targets.now) priorities.now blocks.new }
 {
     let mut v = 0;
     while v < p {
@@ -209,7 +208,7 @@ fn split(
 )
     requires p_le_position_limit { (p ≤ position_limit) × (p ≤ length blocks.old) }
     requires confined { Confined p player (link_by starts.now targets.now) priorities.now blocks.old }
-    ensures { Confined p player (link_by (old starts) (old targets)) (old priorities) (new blocks) }
+    ensures { Confined p player (link_by starts.now targets.now) priorities.now blocks.new }
 {
     if all_fit(starts, targets, priorities, blocks, numbers, leasts, p) {
         take_numbers(blocks, numbers, p);
@@ -229,7 +228,7 @@ pub fn refine(
 )
     requires p_le_position_limit { (p ≤ position_limit) × (p ≤ length blocks.old) }
     requires confined { Confined p player (link_by starts.now targets.now) priorities.now blocks.old }
-    ensures { Confined p player (link_by (old starts) (old targets)) (old priorities) (new blocks) }
+    ensures { Confined p player (link_by starts.now targets.now) priorities.now blocks.new }
 {
     let mut numbers = [0u16; POSITION_STARTS];
     let mut leasts = [0u16; POSITION_STARTS];

@@ -5,7 +5,6 @@
 #![tactic(auto)]
 
 ghost use Rattle.std.specs.Prelude.{◌≡◌, get_or};
-ghost use Rattle.table.specs.Lent.{old};
 
 // The number of a position that is in no block; the order of a position whose component is found.
 pub const GONE: u16 = 65535;
@@ -36,7 +35,7 @@ struct Search {
 
 // Word i; 0 beyond the end.
 pub fn word_at(words: &[u16], i: usize) -> u16
-    ensures { result ≡ get_or (old words) i 0 }
+    ensures { result ≡ get_or words.now i 0 }
 {
     if i < words.len() { words[i] } else { 0 }
 }

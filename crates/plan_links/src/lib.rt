@@ -2,7 +2,6 @@
 #![tactic(auto)]
 
 ghost use Rattle.std.specs.Prelude.{◌≡◌, cond, ℕ, ◌+◌, ◌≤◌, ◌<◌, ltb, length, get_or};
-ghost use Rattle.table.specs.Lent.{old, new};
 ghost use Rattle.table.specs.Limits.{position_limit};
 ghost use Rattle.table.specs.Table.{vertex_count};
 ghost use Rattle.table.specs.WellFormed.{WellFormed};
@@ -16,7 +15,7 @@ use table::limits::{LINKS, PAIR_WORDS, POSITIONS};
 
 // 12: under 2 words, p or l out of limits, or length not 2 + p + 2l.
 pub fn bad_size(plan: &[u16]) -> bool
-    ensures { result ≡ bad_size (old plan) }
+    ensures { result ≡ bad_size plan.now }
 {
     let len = plan.len();
     if len < 2 {
@@ -47,7 +46,7 @@ fn limit(k: usize, p: usize, n: usize) -> usize
 // 13: the first word that isn't below its limit; the plan's length where there is none.
 pub fn first_beyond(plan: &[u16], n: usize) -> usize
     requires { PlanSized plan.now }
-    ensures { result ≡ first_beyond n (old plan) }
+    ensures { result ≡ first_beyond n plan.now }
 {
     let p = plan[0] as usize;
     let mut k = 2;
@@ -70,14 +69,14 @@ fn wide(word: u16) -> usize
 // The vertex of position i.
 pub fn vertex_of(plan: &[u16], i: usize) -> usize
     requires { PlanSized plan.now × (i < position_count plan.now) }
-    ensures { result ≡ vertex_at (old plan) i }
+    ensures { result ≡ vertex_at plan.now i }
 {
     wide(plan[2 + i])
 }
 
 fn source_of(plan: &[u16], k: usize) -> usize
     requires { PlanSized plan.now × (k < link_count plan.now) }
-    ensures { result ≡ link_source (old plan) k }
+    ensures { result ≡ link_source plan.now k }
 {
     let p = plan[0] as usize;
     wide(plan[2 + p + k])
@@ -85,7 +84,7 @@ fn source_of(plan: &[u16], k: usize) -> usize
 
 fn target_of(plan: &[u16], k: usize) -> usize
     requires { PlanSized plan.now × (k < link_count plan.now) }
-    ensures { result ≡ link_target (old plan) k }
+    ensures { result ≡ link_target plan.now k }
 {
     let p = plan[0] as usize;
     let l = plan[1] as usize;
@@ -95,7 +94,7 @@ fn target_of(plan: &[u16], k: usize) -> usize
 // Whether link k follows no edge: one look at the flags of the edges.
 fn strays(edges: &[u64], game: &[u16], plan: &[u16], k: usize) -> bool
     requires { Followable game.now plan.now edges.now × (k < link_count plan.now) }
-    ensures { result ≡ strays (old game) (old plan) k }
+    ensures { result ≡ strays game.now plan.now k }
 {
     let n = game[0] as usize;
     let v = vertex_of(plan, source_of(plan, k));
@@ -105,7 +104,7 @@ fn strays(edges: &[u64], game: &[u16], plan: &[u16], k: usize) -> bool
 
 fn first_straying(edges: &[u64], game: &[u16], plan: &[u16]) -> usize
     requires { Followable game.now plan.now edges.now }
-    ensures { result ≡ first_stray (old game) (old plan) }
+    ensures { result ≡ first_stray game.now plan.now }
 {
     let l = plan[1] as usize;
     let mut k = 0;
@@ -121,7 +120,7 @@ fn first_straying(edges: &[u64], game: &[u16], plan: &[u16]) -> usize
 // 14: the first link along no edge; the number of links where there is none. Flags of the edges are in a local array of 32,768 bytes.
 pub fn first_stray(game: &[u16], plan: &[u16]) -> usize
     requires { WellFormed game.now × PlanFormed (vertex_count game.now) plan.now }
-    ensures { result ≡ first_stray (old game) (old plan) }
+    ensures { result ≡ first_stray game.now plan.now }
 {
     let mut edges = [0u64; PAIR_WORDS];
     flag_edges(game, game[0] as usize, game[1] as usize, &mut edges);
@@ -133,7 +132,7 @@ pub fn index_links(plan: &[u16], starts: &mut [u16], targets: &mut [u16])
     requires by_index { (n : ℕ) × PlanFormed n plan.now }
     requires plan_in_bounds { (position_count plan.now < length starts.old) × (link_count plan.now ≤ length targets.old) }
     requires by_index_2 { (i : ℕ) → get_or starts.old i 0 ≡ 0 }
-    ensures { LinkIndex (old plan) (new starts) (new targets) }
+    ensures { LinkIndex plan.now starts.new targets.new }
 {
     let p = plan[0] as usize;
     let l = plan[1] as usize;

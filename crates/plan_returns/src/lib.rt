@@ -6,7 +6,6 @@
 ghost use Rattle.std.specs.Prelude.{◌≡◌, ℕ, ◌+◌, ◌≤◌, ◌<◌, length, get_or};
 ghost use Rattle.theory.specs.Logic.Range.{first};
 ghost use Rattle.theory.specs.Plans.Reach.{reaches};
-ghost use Rattle.table.specs.Lent.{old, new};
 ghost use Rattle.table.specs.Limits.{position_limit};
 ghost use Rattle.table.specs.Table.{vertex_count};
 ghost use Rattle.table.specs.WellFormed.{WellFormed};
@@ -38,7 +37,7 @@ fn visit(
     tail: usize,
 ) -> usize
     requires { (j < length priorities.now) × (j < length blocks.now) × (j < length seen.old) × (tail < length queue.old) × (j < position_limit) }
-    ensures { Visited (fresh (passes (old priorities) (old blocks) least block) stamp (old seen) j) stamp j (old seen) (old queue) tail (new seen) (new queue) result }
+    ensures { Visited (fresh (passes priorities.now blocks.now least block) stamp seen.old j) stamp j seen.old queue.old tail seen.new queue.new result }
 {
     if priorities[j] < least {
         return tail;
@@ -71,8 +70,8 @@ fn expand(
 ) -> usize
     requires workspace { Workspace p starts.now targets.now priorities.now blocks.now seen.old queue.old × (i < p) }
     requires queued { Queued p stamp seen.old queue.old tail }
-    ensures { Grown p stamp (follows (passes (old priorities) (old blocks) least block) (link_by (old starts) (old targets)) i) (old seen) (old queue) tail
-        (new seen) (new queue) result }
+    ensures { Grown p stamp (follows (passes priorities.now blocks.now least block) (link_by starts.now targets.now) i) seen.old queue.old tail
+        seen.new queue.new result }
 {
     let run = run_of(starts, i);
     let mut t = run.from;
@@ -131,8 +130,8 @@ fn search_queue(
 ) -> Outcome
     requires workspace { Workspace p starts.now targets.now priorities.now blocks.now seen.old queue.old × (i < p) }
     requires searched { Searched p (link_by starts.now targets.now) (from_of priorities.now blocks.now i) i (i + 1) seen.old queue.old 0 entries }
-    ensures found_value { result.found ≡ reaches p (link_by (old starts) (old targets)) (from_of (old priorities) (old blocks) i) p i i }
-    ensures no_later { NoLater (i + 1) (new seen) }
+    ensures found_value { result.found ≡ reaches p (link_by starts.now targets.now) (from_of priorities.now blocks.now i) p i i }
+    ensures no_later { NoLater (i + 1) seen.new }
 {
     let least = priorities[i];
     let block = blocks[i];
@@ -176,8 +175,8 @@ fn returns(
 ) -> Outcome
     requires workspace { Workspace p starts.now targets.now priorities.now blocks.now seen.old queue.old × (i < p) }
     requires no_later { NoLater i seen.old }
-    ensures found_value { result.found ≡ reaches p (link_by (old starts) (old targets)) (from_of (old priorities) (old blocks) i) p i i }
-    ensures no_later_2 { NoLater (i + 1) (new seen) }
+    ensures found_value { result.found ≡ reaches p (link_by starts.now targets.now) (from_of priorities.now blocks.now i) p i i }
+    ensures no_later_2 { NoLater (i + 1) seen.new }
 {
     let least = priorities[i];
     let block = blocks[i];
@@ -207,8 +206,8 @@ fn returns_wrong(
     requires workspace { Workspace p starts.now targets.now priorities.now blocks.now seen.old queue.old × (i < p) × (player ≤ 1) }
     requires no_later { NoLater i seen.old }
     requires confined { Confined p player (link_by starts.now targets.now) priorities.now blocks.now }
-    ensures found_value { result.found ≡ wrong_by (old starts) (old targets) (old priorities) p player i }
-    ensures no_later_2 { NoLater (i + 1) (new seen) }
+    ensures found_value { result.found ≡ wrong_by starts.now targets.now priorities.now p player i }
+    ensures no_later_2 { NoLater (i + 1) seen.new }
 {
     if (priorities[i] % 2) as u32 == player {
         return Outcome {
@@ -239,7 +238,7 @@ fn renew(
 ) -> usize
     requires p_le_position_limit { (p ≤ position_limit) × (p ≤ length blocks.old) }
     requires confined { Confined p player (link_by starts.now targets.now) priorities.now blocks.old }
-    ensures { Confined p player (link_by (old starts) (old targets)) (old priorities) (new blocks) }
+    ensures { Confined p player (link_by starts.now targets.now) priorities.now blocks.new }
 {
     if 0 < left {
         return left;
@@ -265,7 +264,7 @@ fn first_returning(
     requires workspace { Workspace p starts.now targets.now priorities.now blocks.old seen.old queue.old × (player ≤ 1) }
     requires by_index { (j : ℕ) → get_or seen.old j 0 ≡ 0 }
     requires by_index_2 { (j : ℕ) → get_or blocks.old j 0 ≡ 0 }
-    ensures { result ≡ first (wrong_by (old starts) (old targets) (old priorities) p player) 0 p }
+    ensures { result ≡ first (wrong_by starts.now targets.now priorities.now p player) 0 p }
 {
     let mut left = budget;
     let mut i = 0;
@@ -295,7 +294,7 @@ fn first_returning(
 fn fill_priorities(game: &[u16], plan: &[u16], priorities: &mut [u16])
     requires well_formed { WellFormed game.now × PlanFormed (vertex_count game.now) plan.now }
     requires plan_in_bounds { position_count plan.now ≤ length priorities.old }
-    ensures { (i : ℕ) → i < position_count (old plan) → get_or (new priorities) i 0 ≡ position_priority (old game) (old plan) i }
+    ensures { (i : ℕ) → i < position_count plan.now → get_or priorities.new i 0 ≡ position_priority game.now plan.now i }
 {
     let p = plan[0] as usize;
     let mut j = 0;
@@ -315,7 +314,7 @@ pub fn first_return(
 ) -> usize
     requires words_pass { WordsPass game.now player plan.now }
     requires link_index { LinkIndex plan.now starts.now targets.now }
-    ensures { result ≡ first_return (old game) player (old plan) }
+    ensures { result ≡ first_return game.now player plan.now }
 {
     let p = plan[0] as usize;
     let l = plan[1] as usize;

@@ -4,7 +4,6 @@
 pub mod tables;
 
 ghost use Rattle.theory.specs.Classes.Reduction.{quotient, reduced};
-ghost use Rattle.table.specs.Lent.{old, new};
 ghost use Rattle.table.specs.WellFormed.{WellSized};
 ghost use Rattle.reduction_edges.specs.Rows.{game_by};
 ghost use Rattle.reduction.specs.TableCall.{tabulation_answer, TableCall};
@@ -38,8 +37,8 @@ pub fn tabulate_classes(
     drop: bool,
 ) -> Tabulation
     requires { WellSized game.now sizes }
-    ensures { TableCall (game_by drop) (old game) (old marks) (old spare) (old classes) (old output) (tabulation_answer result)
-        (new marks) (new spare) (new classes) (new output) }
+    ensures { TableCall (game_by drop) game.now marks.old spare.old classes.old output.old (tabulation_answer result)
+        marks.new spare.new classes.new output.new }
 {
     let memory = judge_memory(sizes.vertices, marks.len(), spare.len(), classes.len());
     if let Memory::Short(refusal) = memory {
@@ -65,8 +64,8 @@ pub fn write_quotient(
     classes: &mut [u16],
     output: &mut [u16],
 ) -> Tabulation
-    ensures { TableCall quotient (old game) (old marks) (old spare) (old classes) (old output) (tabulation_answer result)
-        (new marks) (new spare) (new classes) (new output) }
+    ensures { TableCall quotient game.now marks.old spare.old classes.old output.old (tabulation_answer result)
+        marks.new spare.new classes.new output.new }
 {
     let reading = table_reader::read_sizes(game);
     let Filling::Accepted(sizes) = reading else {
@@ -83,8 +82,8 @@ pub fn write_reduced(
     classes: &mut [u16],
     output: &mut [u16],
 ) -> Tabulation
-    ensures { TableCall reduced (old game) (old marks) (old spare) (old classes) (old output) (tabulation_answer result)
-        (new marks) (new spare) (new classes) (new output) }
+    ensures { TableCall reduced game.now marks.old spare.old classes.old output.old (tabulation_answer result)
+        marks.new spare.new classes.new output.new }
 {
     let reading = table_reader::read_sizes(game);
     let Filling::Accepted(sizes) = reading else {

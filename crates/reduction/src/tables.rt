@@ -3,7 +3,6 @@
 ghost use Rattle.std.specs.Prelude.{◌≡◌, ◌+◌, ◌*◌, ◌≤◌, length, get_or};
 ghost use Rattle.theory.specs.Logic.Range.{tabulate};
 ghost use Rattle.theory.specs.Order.Order.{order};
-ghost use Rattle.table.specs.Lent.{old, new};
 ghost use Rattle.table.specs.Limits.{vertex_limit, edge_limit};
 ghost use Rattle.table.specs.Table.{vertex_count, table_edges, table_length, game_of};
 ghost use Rattle.table.specs.Answers.{written};
@@ -34,7 +33,7 @@ pub struct Filled {
 // Puts the `count` words from `at` on once more, behind them.
 fn put_again(words: &mut [u16], at: usize, count: usize)
     requires { at + count + count ≤ length words.old }
-    ensures { new words ≡ placed (at + count) (tabulate count (λ i. get_or (old words) (at + i) 0)) (old words) }
+    ensures { words.new ≡ placed (at + count) (tabulate count (λ i. get_or words.old (at + i) 0)) words.old }
 {
     let mut i = 0;
     while i < count {
@@ -46,7 +45,7 @@ fn put_again(words: &mut [u16], at: usize, count: usize)
 // Puts the sources of the edges of k classes from `at` on, by the places where the edges of each class stop.
 fn write_sources(stops: &[u16], k: usize, output: &mut [u16], at: usize)
     requires { (k ≤ vertex_limit) × (k ≤ length stops.now) × Ascending at stops.now k (length output.old) }
-    ensures { new output ≡ placed at (spread at (old stops) k) (old output) }
+    ensures { output.new ≡ placed at (spread at stops.now k) output.old }
 {
     let mut start = at;
     let mut c = 0;
@@ -62,7 +61,7 @@ fn write_sources(stops: &[u16], k: usize, output: &mut [u16], at: usize)
 fn write_head(game: &[u16], reps: &[u16], k: usize, stops: &[u16], e: usize, output: &mut [u16])
     requires well_formed { WellFormed game.now × Represented (game_of game.now).n (order (game_of game.now)) reps.now × (k ≡ classes_in (game_of game.now)) }
     requires e_le_edge_limit { (e ≤ edge_limit) × (k ≤ length stops.now) × Ascending (2 + 2 * k) stops.now k (length output.old) }
-    ensures { new output ≡ written (head_by (old game) (old reps) k e (spread (2 + 2 * k) (old stops) k)) (old output) }
+    ensures { output.new ≡ written (head_by game.now reps.now k e (spread (2 + 2 * k) stops.now k)) output.old }
 {
     let n = game[0] as usize;
     output[0] = k as u16;
@@ -88,7 +87,7 @@ fn fill_within(
     requires well_formed { WellFormed game.now × Ordered (game_of game.now) marks.now }
     requires game_in_bounds { (vertex_count game.now ≤ length classes.old) × (table_length (vertex_count game.now) (table_edges game.now) ≤ length output.old) }
     requires workspace { Workspace game.now reps.old words.old stops.old }
-    ensures { TableFilled (game_by drop) (old game) (old classes) (old output) result (new classes) (new output) }
+    ensures { TableFilled (game_by drop) game.now classes.old output.old result classes.new output.new }
 {
     let n = game[0] as usize;
     let k = number_classes(marks, n, classes, reps);
@@ -117,7 +116,7 @@ fn fill_small(
     requires well_formed { WellFormed game.now × Ordered (game_of game.now) marks.now }
     requires game_in_bounds { (vertex_count game.now ≤ length classes.old) × (table_length (vertex_count game.now) (table_edges game.now) ≤ length output.old) }
     requires game_bound { vertex_count game.now ≤ small_vertices }
-    ensures { TableFilled (game_by drop) (old game) (old classes) (old output) result (new classes) (new output) }
+    ensures { TableFilled (game_by drop) game.now classes.old output.old result classes.new output.new }
 {
     let mut reps = [0u16; SMALL_VERTICES];
     let mut words = [0u64; SMALL_VERTICES];
@@ -137,7 +136,7 @@ fn fill_large(
 ) -> TableCounts
     requires well_formed { WellFormed game.now × Ordered (game_of game.now) marks.now }
     requires game_in_bounds { (vertex_count game.now ≤ length classes.old) × (table_length (vertex_count game.now) (table_edges game.now) ≤ length output.old) }
-    ensures { TableFilled (game_by drop) (old game) (old classes) (old output) result (new classes) (new output) }
+    ensures { TableFilled (game_by drop) game.now classes.old output.old result classes.new output.new }
 {
     let mut reps = [0u16; VERTICES];
     let mut words = [0u64; PAIR_WORDS];
@@ -157,7 +156,7 @@ fn fill_table(
 ) -> TableCounts
     requires well_formed { WellFormed game.now × Ordered (game_of game.now) marks.now }
     requires game_in_bounds { (vertex_count game.now ≤ length classes.old) × (table_length (vertex_count game.now) (table_edges game.now) ≤ length output.old) }
-    ensures { TableFilled (game_by drop) (old game) (old classes) (old output) result (new classes) (new output) }
+    ensures { TableFilled (game_by drop) game.now classes.old output.old result classes.new output.new }
 {
     let n = game[0] as usize;
     if SMALL_VERTICES < n {
@@ -176,8 +175,8 @@ pub fn fill_memory(
     drop: bool,
 ) -> Filled
     requires { TableFits game.now marks.old spare.old classes.old output.old }
-    ensures { TableDone (game_by drop) (old game) (old marks) (old spare) (old classes) (old output) result.passes result.counts
-        (new marks) (new spare) (new classes) (new output) }
+    ensures { TableDone (game_by drop) game.now marks.old spare.old classes.old output.old result.passes result.counts
+        marks.new spare.new classes.new output.new }
 {
     let passes = fill_order(game, marks, spare);
     let counts = fill_table(game, marks, classes, output, drop);

@@ -2,7 +2,6 @@
 ghost use Rattle.std.specs.Prelude.{◌≡◌, not, false, cond, [], ◌∷◌, map, ℕ, ◌+◌, ◌*◌, ◌/◌, ◌<◌, ◌≤◌, length, get_or};
 ghost use Rattle.words.specs.Word.{word_bits};
 ghost use Rattle.words.specs.Words.{has};
-ghost use Rattle.table.specs.Lent.{old, new};
 ghost use Rattle.table.specs.Limits.{vertex_limit};
 ghost use Rattle.table.specs.Table.{vertex_count, table_edges, game_of};
 ghost use Rattle.classes.specs.Numbering.{classes_in};
@@ -20,7 +19,7 @@ use words::members::next_member;
 fn append_target(classes: &[u16], dropped: &[u64], d: usize, ends: &mut [u16], e: usize) -> usize
     requires d_in_bounds { (d < length classes.now) × (d / word_bits < length dropped.now) }
     requires e_in_bounds { has dropped.now d ≡ false → e < length ends.old }
-    ensures { Put (cond (not (has (old dropped) d)) (number_of (old classes) d ∷ []) []) e (old ends) (new ends) result }
+    ensures { Put (cond (not (has dropped.now d)) (number_of classes.now d ∷ []) []) e ends.old ends.new result }
 {
     if is_flagged(dropped, d) {
         return e;
@@ -40,7 +39,7 @@ fn append_row(
 ) -> usize
     requires n_le_vertex_limit { (n ≤ vertex_limit) × (n ≤ length classes.now) × RowFits n row.now × RowFits n dropped.now }
     requires room { Room e (picked n (keeps row.now dropped.now)) ends.old }
-    ensures { Put (map (number_of (old classes)) (picked n (keeps (old row) (old dropped)))) e (old ends) (new ends) result }
+    ensures { Put (map (number_of classes.now) (picked n (keeps row.now dropped.now))) e ends.old ends.new result }
 {
     let mut r = e;
     let mut d = next_member(row, 0, n);
@@ -67,7 +66,7 @@ fn append_class(
     requires prepared { Prepared game.now marks.now classes.now reps.now × (c < classes_in (game_of game.now)) }
     requires rows_fit { RowsFit game.now width words.now × RowsReach (game_of game.now) width words.now }
     requires room { Room e (picked (classes_in (game_of game.now)) ((game_by drop (game_of game.now)).edge c)) ends.old }
-    ensures { Put (picked (classes_in (game_of (old game))) ((game_by drop (game_of (old game))).edge c)) e (old ends) (new ends) result }
+    ensures { Put (picked (classes_in (game_of game.now)) ((game_by drop (game_of game.now)).edge c)) e ends.old ends.new result }
 {
     let n = game[0] as usize;
     let r = reps[c] as usize;
@@ -95,7 +94,7 @@ fn list_classes(
     requires prepared { Prepared game.now marks.now classes.now reps.now × (k ≡ classes_in (game_of game.now)) }
     requires rows_fit { RowsFit game.now width words.now × RowsReach (game_of game.now) width words.now }
     requires k_in_bounds { (k ≤ length stops.old) × (at + table_edges game.now ≤ length ends.old) × (at ≤ 2 + 2 * vertex_limit) }
-    ensures { Listed k (game_by drop (game_of (old game))).edge at k (old ends) (new ends) (new stops) result }
+    ensures { Listed k (game_by drop (game_of game.now)).edge at k ends.old ends.new stops.new result }
 {
     let mut e = at;
     let mut c = 0;
@@ -125,7 +124,7 @@ pub fn list_edges(
     requires k_value { k ≡ classes_in (game_of game.now) }
     requires game_in_bounds { (vertex_count game.now * words_for (vertex_count game.now) ≤ length words.old) × ((i : ℕ) → get_or words.old i 0 ≡ 0) }
     requires k_in_bounds { (k ≤ length stops.old) × (at + table_edges game.now ≤ length ends.old) × (at ≤ 2 + 2 * vertex_limit) }
-    ensures { Listed k (game_by drop (game_of (old game))).edge at k (old ends) (new ends) (new stops) result }
+    ensures { Listed k (game_by drop (game_of game.now)).edge at k ends.old ends.new stops.new result }
 {
     let width = words_for(game[0] as usize);
     reach_rows(game, classes, reps, width, words);

@@ -3,7 +3,6 @@
 // bits, in which a class stands as its lowest member, so that a row of marks is compared with it word by word.
 ghost use Rattle.std.specs.Prelude.{◌≡◌, ℕ, ◌+◌, ◌*◌, ◌%◌, ◌<◌, ◌≤◌, eqb, ltb, length, get_or};
 ghost use Rattle.theory.specs.Logic.Bools.{◌&◌, ◌or◌};
-ghost use Rattle.table.specs.Lent.{old, new};
 ghost use Rattle.table.specs.Table.{vertex_count, owner_at};
 ghost use Rattle.table.specs.WellFormed.{WellFormed};
 ghost use Rattle.words.specs.Word.{word_bits, digit};
@@ -19,7 +18,7 @@ use words::members::next_member;
 // The marks of d's row from w on, as many as a word has bits, without the mark of d itself.
 fn word_of(marks: &[u8], n: usize, d: usize, w: usize) -> u64
     requires { Marked n marks.now × (d < n) × (w < n) × (w % word_bits ≡ 0) }
-    ensures { (k : ℕ) → k < word_bits → digit result k ≡ ltb (w + k) n & below_other n (old marks) d (w + k) }
+    ensures { (k : ℕ) → k < word_bits → digit result k ≡ ltb (w + k) n & below_other n marks.now d (w + k) }
 {
     let end = end_of(w, n);
     let word = read_wide(marks, d * n + w, end - w);
@@ -30,7 +29,7 @@ fn word_of(marks: &[u8], n: usize, d: usize, w: usize) -> u64
 // Those of the row's word from w on that d is below, without d itself. Most words of a row are empty where a class has few targets.
 fn beaten_word(marks: &[u8], n: usize, row: &[u64], d: usize, w: usize) -> u64
     requires { Marked n marks.now × RowFits n row.now × (d < n) × (w < n) × (w % word_bits ≡ 0) }
-    ensures { (k : ℕ) → k < word_bits → digit result k ≡ beaten_at n (old marks) (old row) d w k }
+    ensures { (k : ℕ) → k < word_bits → digit result k ≡ beaten_at n marks.now row.now d w k }
 {
     let here = row[w / 64];
     if here == 0 {
@@ -42,7 +41,7 @@ fn beaten_word(marks: &[u8], n: usize, row: &[u64], d: usize, w: usize) -> u64
 // Whether d is below another one in the row.
 fn is_beaten(marks: &[u8], n: usize, row: &[u64], d: usize) -> bool
     requires { Marked n marks.now × RowFits n row.now × (d < n) }
-    ensures { result ≡ beaten n (old marks) (old row) d }
+    ensures { result ≡ beaten n marks.now row.now d }
 {
     let mut w = 0;
     while w < n {
@@ -57,7 +56,7 @@ fn is_beaten(marks: &[u8], n: usize, row: &[u64], d: usize) -> bool
 // Puts all others of the row that d is below into `dropped`.
 fn unite_others(marks: &[u8], n: usize, row: &[u64], d: usize, dropped: &mut [u64])
     requires { Marked n marks.now × RowFits n row.now × RowFits n dropped.old × (d < n) }
-    ensures { (x : ℕ) → x < n → has (new dropped) x ≡ (has (old dropped) x or (has (old row) x & below_other n (old marks) d x)) }
+    ensures { (x : ℕ) → x < n → has dropped.new x ≡ (has dropped.old x or (has row.now x & below_other n marks.now d x)) }
 {
     let mut w = 0;
     while w < n {
@@ -71,7 +70,7 @@ fn unite_others(marks: &[u8], n: usize, row: &[u64], d: usize, dropped: &mut [u6
 // d is below.
 fn drop_by(marks: &[u8], n: usize, even: bool, row: &[u64], d: usize, dropped: &mut [u64])
     requires { Marked n marks.now × RowFits n row.now × RowFits n dropped.old × (d < n) }
-    ensures { (x : ℕ) → x < n → has (new dropped) x ≡ (has (old dropped) x or drops even n (old marks) (old row) d x) }
+    ensures { (x : ℕ) → x < n → has dropped.new x ≡ (has dropped.old x or drops even n marks.now row.now d x) }
 {
     if !even {
         unite_others(marks, n, row, d, dropped);
@@ -87,7 +86,7 @@ fn drop_by(marks: &[u8], n: usize, even: bool, row: &[u64], d: usize, dropped: &
 fn drop_all(marks: &[u8], n: usize, even: bool, row: &[u64], dropped: &mut [u64])
     requires marked { Marked n marks.now × RowFits n row.now × RowFits n dropped.old }
     requires by_index { (i : ℕ) → get_or dropped.old i 0 ≡ 0 }
-    ensures { (x : ℕ) → x < n → has (new dropped) x ≡ dropped_by even n (old marks) (old row) x }
+    ensures { (x : ℕ) → x < n → has dropped.new x ≡ dropped_by even n marks.now row.now x }
 {
     let mut d = next_member(row, 0, n);
     while d < n {
@@ -101,8 +100,8 @@ pub fn drop_row(game: &[u16], marks: &[u8], r: usize, row: &[u64], drop: bool, d
     requires well_formed { WellFormed game.now × (r < vertex_count game.now) × Marked (vertex_count game.now) marks.now }
     requires row_fits { RowFits (vertex_count game.now) row.now × RowFits (vertex_count game.now) dropped.old }
     requires by_index { (i : ℕ) → get_or dropped.old i 0 ≡ 0 }
-    ensures { (x : ℕ) → x < vertex_count (old game)
-        → has (new dropped) x ≡ drop & dropped_by (eqb (owner_at (old game) r) 0) (vertex_count (old game)) (old marks) (old row) x }
+    ensures { (x : ℕ) → x < vertex_count game.now
+        → has dropped.new x ≡ drop & dropped_by (eqb (owner_at game.now r) 0) (vertex_count game.now) marks.now row.now x }
 {
     if !drop {
         return;

@@ -3,7 +3,6 @@
 #![tactic(auto)]
 
 ghost use Rattle.std.specs.Prelude.{◌≡◌, ℕ, ◌+◌, ◌*◌, ◌<◌, ◌≤◌, length, get_or};
-ghost use Rattle.table.specs.Lent.{old, new};
 ghost use Rattle.table.specs.Limits.{vertex_limit};
 ghost use Rattle.table.specs.Table.{vertex_count, table_edges, game_of};
 ghost use Rattle.table.specs.Flags.{Raised};
@@ -22,7 +21,7 @@ pub fn words_for(n: usize) -> usize
 // The representative of v's class.
 fn lowest_of(classes: &[u16], reps: &[u16], v: usize) -> usize
     requires { (v < length classes.now) × (get_or classes.now v 0 < length reps.now) }
-    ensures { result ≡ get_or (old reps) (get_or (old classes) v 0) 0 }
+    ensures { result ≡ get_or reps.now (get_or classes.now v 0) 0 }
 {
     reps[classes[v] as usize] as usize
 }
@@ -38,7 +37,7 @@ fn reach_edge(
 )
     requires grouped { Grouped game.now classes.now reps.now × RowsFit game.now width words.old }
     requires j_bound { j < table_edges game.now }
-    ensures { Raised (old words) (new words) (edge_place (old game) width j) }
+    ensures { Raised words.old words.new (edge_place game.now width j) }
 {
     let n = game[0] as usize;
     let m = game[1] as usize;
@@ -52,7 +51,7 @@ fn reach_edge(
 fn reach_edges(game: &[u16], classes: &[u16], reps: &[u16], width: usize, words: &mut [u64])
     requires grouped { Grouped game.now classes.now reps.now × RowsFit game.now width words.old }
     requires by_index { (i : ℕ) → get_or words.old i 0 ≡ 0 }
-    ensures { Reaching (game_of (old game)) width (new words) }
+    ensures { Reaching (game_of game.now) width words.new }
 {
     let m = game[1] as usize;
     let mut j = 0;
@@ -65,7 +64,7 @@ fn reach_edges(game: &[u16], classes: &[u16], reps: &[u16], width: usize, words:
 // Leaves in row r what is in row v too.
 fn meet_row(words: &mut [u64], width: usize, r: usize, v: usize)
     requires { (r * width + width ≤ length words.old) × (v * width + width ≤ length words.old) }
-    ensures { Met width r v (old words) (new words) }
+    ensures { Met width r v words.old words.new }
 {
     let to = r * width;
     let from = v * width;
@@ -79,7 +78,7 @@ fn meet_row(words: &mut [u64], width: usize, r: usize, v: usize)
 // Leaves in the row of each representative what is in the rows of all members of its class.
 fn meet_members(game: &[u16], classes: &[u16], reps: &[u16], width: usize, words: &mut [u64])
     requires { Grouped game.now classes.now reps.now × RowsFit game.now width words.old }
-    ensures { MembersMet (game_of (old game)) width (vertex_count (old game)) (old words) (new words) }
+    ensures { MembersMet (game_of game.now) width (vertex_count game.now) words.old words.new }
 {
     let n = game[0] as usize;
     let mut v = 0;
@@ -94,7 +93,7 @@ fn meet_members(game: &[u16], classes: &[u16], reps: &[u16], width: usize, words
 pub fn reach_rows(game: &[u16], classes: &[u16], reps: &[u16], width: usize, words: &mut [u64])
     requires grouped { Grouped game.now classes.now reps.now × RowsFit game.now width words.old }
     requires by_index { (i : ℕ) → get_or words.old i 0 ≡ 0 }
-    ensures { RowsReach (game_of (old game)) width (new words) }
+    ensures { RowsReach (game_of game.now) width words.new }
 {
     reach_edges(game, classes, reps, width, words);
     meet_members(game, classes, reps, width, words);

@@ -3,7 +3,6 @@
 
 ghost use Rattle.std.specs.Prelude.{◌≡◌, ◌≤◌, length, get_or};
 ghost use Rattle.theory.specs.Logic.Range.{sum, tabulate};
-ghost use Rattle.table.specs.Lent.{old, new};
 ghost use Rattle.table.specs.Limits.{vertex_limit};
 ghost use Rattle.table.specs.Answers.{written};
 ghost use Rattle.index.specs.Index.{from, source_count, Column};
@@ -25,7 +24,7 @@ pub struct Totals {
 fn tally(words: &[u16], a: usize, m: usize, k: usize, counts: &mut [u16])
     requires column { Column words.now a m k }
     requires k_le_vertex_limit { (k ≤ vertex_limit) × (k ≤ length counts.old) }
-    ensures { new counts ≡ written (tabulate k (source_count (from (old words) a) m)) (old counts) }
+    ensures { counts.new ≡ written (tabulate k (source_count (from words.now a) m)) counts.old }
 {
     let mut tallied = [0u16; VERTICES];
     count_sources(words, a, m, k, &mut tallied);
@@ -35,7 +34,7 @@ fn tally(words: &[u16], a: usize, m: usize, k: usize, counts: &mut [u16])
 // The sum of the first k words.
 fn sum_of(values: &[u16], k: usize) -> usize
     requires { (k ≤ vertex_limit) × (k ≤ length values.now) }
-    ensures { result ≡ sum k (λ c. get_or (old values) c 0) }
+    ensures { result ≡ sum k (λ c. get_or values.now c 0) }
 {
     let mut total = 0;
     let mut c = 0;
@@ -57,7 +56,7 @@ pub fn write_totals(
 ) -> Totals
     requires tabulated { Tabulated game.now classes.now reduced.now }
     requires game_in_bounds { (class_total game.now ≤ length members.old) × (class_total game.now ≤ length edges.old) }
-    ensures { Totalled (old game) (old members) (old edges) result (new members) (new edges) }
+    ensures { Totalled game.now members.old edges.old result members.new edges.new }
 {
     let n = game[0] as usize;
     let k = reduced[0] as usize;

@@ -4,7 +4,6 @@
 mod print;
 
 ghost use Rattle.std.specs.Prelude.{◌*◌, ◌≤◌, length};
-ghost use Rattle.table.specs.Lent.{old};
 ghost use Rattle.report_findings.specs.Words.{read_limit};
 ghost use Rattle.report_findings.specs.ReportMemory.{AtMost};
 ghost use Rattle.report.specs.Page.{OnPage};
@@ -23,7 +22,7 @@ const PAGE: usize = 4096;
 // The first lines of an accepted game: its sizes, passes and classes. Like those below, returns where the page goes on.
 fn print_sizes(page: &mut [u8], at: usize, sizes: Sizes, passes: u32, classes: usize) -> usize
     requires { OnPage (length page.old) at }
-    ensures { OnPage (length (old page)) result }
+    ensures { OnPage (length page.old) result }
 {
     let a = print::two(
         page,
@@ -40,7 +39,7 @@ fn print_sizes(page: &mut [u8], at: usize, sizes: Sizes, passes: u32, classes: u
 // The last lines: the sums, and the sizes of the reduced game.
 fn print_sums(page: &mut [u8], at: usize, report: Report) -> usize
     requires { OnPage (length page.old) at }
-    ensures { OnPage (length (old page)) result }
+    ensures { OnPage (length page.old) result }
 {
     let totals = report.totals;
     let a = print::two(
@@ -72,7 +71,7 @@ fn print_accepted(
 ) -> usize
     requires on_page { OnPage (length page.old) 0 × (sizes.vertices ≤ length classes.now) }
     requires classes_in_bounds { (report.classes ≤ length members.now) × (report.classes ≤ length edges.now) }
-    ensures { OnPage (length (old page)) result }
+    ensures { OnPage (length page.old) result }
 {
     let a = print_sizes(page, 0, sizes, report.passes, report.classes);
     let b = print::vertices(page, a, classes, sizes.vertices);
@@ -90,7 +89,7 @@ fn print_lines(
 ) -> usize
     requires on_page { OnPage (length page.old) 0 × AtMost (length classes.now) report.verdict }
     requires classes_in_bounds { (report.classes ≤ length members.now) × (report.classes ≤ length edges.now) }
-    ensures { OnPage (length (old page)) result }
+    ensures { OnPage (length page.old) result }
 {
     let verdict = report.verdict;
     match verdict {

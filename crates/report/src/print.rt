@@ -1,6 +1,5 @@
 // The report's lines. They go into a page, which is written to standard output whenever it is full.
 ghost use Rattle.std.specs.Prelude.{◌<◌, ◌≤◌, length};
-ghost use Rattle.table.specs.Lent.{old};
 ghost use Rattle.report.specs.Page.{OnPage};
 
 use libc::STDOUT_FILENO;
@@ -15,7 +14,7 @@ pub fn flush(page: &[u8], at: usize)
 // Where the next byte goes: at `at`, or at the start of a page that is full and is written first.
 fn next_place(page: &[u8], at: usize) -> usize
     requires { OnPage (length page.now) at }
-    ensures { result < length (old page) }
+    ensures { result < length page.now }
 {
     if at < page.len() {
         return at;
@@ -27,7 +26,7 @@ fn next_place(page: &[u8], at: usize) -> usize
 // Puts a byte into the page. Returns where the page goes on.
 fn push(page: &mut [u8], at: usize, byte: u8) -> usize
     requires { OnPage (length page.old) at }
-    ensures { OnPage (length (old page)) result }
+    ensures { OnPage (length page.old) result }
 {
     let k = next_place(page, at);
     page[k] = byte;
@@ -36,7 +35,7 @@ fn push(page: &mut [u8], at: usize, byte: u8) -> usize
 
 fn text(page: &mut [u8], at: usize, s: &[u8]) -> usize
     requires { OnPage (length page.old) at }
-    ensures { OnPage (length (old page)) result }
+    ensures { OnPage (length page.old) result }
 {
     let size = s.len();
     let mut k = at;
@@ -51,7 +50,7 @@ fn text(page: &mut [u8], at: usize, s: &[u8]) -> usize
 // A word and a number.
 fn labelled(page: &mut [u8], at: usize, label: &[u8], x: u64) -> usize
     requires { OnPage (length page.old) at }
-    ensures { OnPage (length (old page)) result }
+    ensures { OnPage (length page.old) result }
 {
     let mut digits = [0u8; 20];
     let count = io::decimal(x, &mut digits);
@@ -62,7 +61,7 @@ fn labelled(page: &mut [u8], at: usize, label: &[u8], x: u64) -> usize
 // A line of a word and a number.
 pub fn one(page: &mut [u8], at: usize, label: &[u8], x: u64) -> usize
     requires { OnPage (length page.old) at }
-    ensures { OnPage (length (old page)) result }
+    ensures { OnPage (length page.old) result }
 {
     let k = labelled(page, at, label, x);
     text(page, k, b"\n")
@@ -71,7 +70,7 @@ pub fn one(page: &mut [u8], at: usize, label: &[u8], x: u64) -> usize
 // A line of a word and a number, and again.
 pub fn two(page: &mut [u8], at: usize, first: &[u8], x: u64, second: &[u8], y: u64) -> usize
     requires { OnPage (length page.old) at }
-    ensures { OnPage (length (old page)) result }
+    ensures { OnPage (length page.old) result }
 {
     let k = labelled(page, at, first, x);
     one(page, k, second, y)
@@ -80,7 +79,7 @@ pub fn two(page: &mut [u8], at: usize, first: &[u8], x: u64, second: &[u8], y: u
 // A line for each of the first n vertices.
 pub fn vertices(page: &mut [u8], at: usize, classes: &[u16], n: usize) -> usize
     requires { OnPage (length page.old) at × (n ≤ length classes.now) }
-    ensures { OnPage (length (old page)) result }
+    ensures { OnPage (length page.old) result }
 {
     let mut k = at;
     let mut v = 0;
@@ -94,7 +93,7 @@ pub fn vertices(page: &mut [u8], at: usize, classes: &[u16], n: usize) -> usize
 // A line for each of the first k classes.
 pub fn classes(page: &mut [u8], at: usize, members: &[u16], edges: &[u16], k: usize) -> usize
     requires { OnPage (length page.old) at × (k ≤ length members.now) × (k ≤ length edges.now) }
-    ensures { OnPage (length (old page)) result }
+    ensures { OnPage (length page.old) result }
 {
     let mut end = at;
     let mut c = 0;

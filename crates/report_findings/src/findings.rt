@@ -1,6 +1,5 @@
 // All numbers of the report.
 ghost use Rattle.std.specs.Prelude.{◌*◌, ◌≤◌, length};
-ghost use Rattle.table.specs.Lent.{old, new};
 ghost use Rattle.report_findings.specs.Words.{read_limit, words_of};
 ghost use Rattle.report_findings.specs.Findings.{Reported};
 ghost use Rattle.report_findings.specs.ReportMemory.{Enough};
@@ -22,7 +21,7 @@ fn find(
     edges: &mut [u16],
 ) -> Report
     requires { Enough marks.old spare.old output.old classes.old members.old edges.old }
-    ensures { Reported (old game) (old classes) (old members) (old edges) result (new classes) (new members) (new edges) }
+    ensures { Reported game.now classes.old members.old edges.old result classes.new members.new edges.new }
 {
     let verdict = table_reader::read(game);
     let Reading::Accepted(_) = verdict else {
@@ -64,7 +63,7 @@ pub fn find_from_bytes(
 ) -> Report
     requires bytes_len_bound { (length bytes.now ≤ 2 * read_limit) × (read_limit ≤ length words.old) }
     requires enough { Enough marks.old spare.old output.old classes.old members.old edges.old }
-    ensures { Reported (words_of (old bytes)) (old classes) (old members) (old edges) result (new classes) (new members) (new edges) }
+    ensures { Reported (words_of bytes.now) classes.old members.old edges.old result classes.new members.new edges.new }
 {
     let count = words::decode(bytes, words);
     find(

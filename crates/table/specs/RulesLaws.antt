@@ -59,6 +59,7 @@ judge_refused (next {r = r} {q = q} {rs = rs} {qs = qs} x xs) counts k p e = go 
     go false f e ih = later (λ h. clash (x.holds.1 h) f) (ih e)
 
 pub judge_refuses : {rs : List Row} {qs : List Rule} {k p : ℕ} → Rendered rs qs → FirstRule qs k p → (counts : List ℕ) → judge rs counts ≡ refused k p
+judge_refuses none f counts = elim f [ ]
 judge_refuses (next {r = r} {rs = rs} x xs) (here {k = k} {p = p} h e a) counts =
     let f = x.holds.1 h in
     judge_hit r rs counts f ∙ cc (x.number ∙ e, (x.place f p).1 a)

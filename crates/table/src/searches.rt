@@ -3,7 +3,6 @@ ghost use Rattle.std.specs.Prelude.{◌≡◌, ◌+◌, ◌*◌, ◌<◌, ◌≤
 ghost use Rattle.theory.specs.Logic.Bools.{bit};
 ghost use Rattle.theory.specs.Logic.Range.{first, tabulate};
 ghost use Rattle.theory.specs.Games.Game.{edge_count};
-ghost use Rattle.table.specs.Lent.{old, new};
 ghost use Rattle.table.specs.Limits.{vertex_limit};
 ghost use Rattle.table.specs.Table.{vertex_count, game_of};
 ghost use Rattle.table.specs.Reading.{first_owner, first_end, first_lacking, lacks_edge};
@@ -17,7 +16,7 @@ use crate::slices;
 // it is found several words at a time.
 fn first_at_least(words: &[u16], limit: usize, from: usize, end: usize) -> usize
     requires { (from ≤ end) × (end ≤ length words.now) }
-    ensures { result ≡ first (at_least (old words) limit) from end }
+    ensures { result ≡ first (at_least words.now limit) from end }
 {
     if (slices::highest(words, from, end - from) as usize) < limit {
         return end;
@@ -35,7 +34,7 @@ fn first_at_least(words: &[u16], limit: usize, from: usize, end: usize) -> usize
 // 5: the first word of an owner above 1.
 pub fn first_owner(game: &[u16], n: usize) -> usize
     requires { (n ≡ vertex_count game.now) × (n ≤ vertex_limit) × (2 + 2 * n ≤ length game.now) }
-    ensures { result ≡ first_owner (old game) }
+    ensures { result ≡ first_owner game.now }
 {
     first_at_least(game, 2, 2 + n, 2 + 2 * n)
 }
@@ -43,7 +42,7 @@ pub fn first_owner(game: &[u16], n: usize) -> usize
 // 6: the first word of an edge end not below n; sources stand before targets.
 pub fn first_end(game: &[u16], n: usize, m: usize) -> usize
     requires { Sized game.now n m }
-    ensures { result ≡ first_end (old game) }
+    ensures { result ≡ first_end game.now }
 {
     first_at_least(game, n, 2 + 2 * n, 2 + 2 * n + 2 * m)
 }
@@ -51,7 +50,7 @@ pub fn first_end(game: &[u16], n: usize, m: usize) -> usize
 // How many different edges there are.
 pub fn count_different(game: &[u16], n: usize, m: usize) -> usize
     requires { Sized game.now n m × EndsInside game.now }
-    ensures { result ≡ edge_count (game_of (old game)) }
+    ensures { result ≡ edge_count (game_of game.now) }
 {
     let mut flags = [0u64; PAIR_WORDS];
     flag_edges(game, n, m, &mut flags)
@@ -60,7 +59,7 @@ pub fn count_different(game: &[u16], n: usize, m: usize) -> usize
 // 8: the lowest vertex without an edge out.
 pub fn first_lacking(game: &[u16], n: usize, m: usize) -> usize
     requires { Sized game.now n m × EndsInside game.now }
-    ensures { result ≡ first_lacking (old game) }
+    ensures { result ≡ first_lacking game.now }
 {
     let mut lacking = [1u16; VERTICES];
     clear_sources(game, n, m, &mut lacking);
@@ -71,7 +70,7 @@ pub fn first_lacking(game: &[u16], n: usize, m: usize) -> usize
 fn clear_sources(game: &[u16], n: usize, m: usize, lacking: &mut [u16])
     requires sized { Sized game.now n m × EndsInside game.now }
     requires n_in_bounds { (n ≤ length lacking.old) × Filled 1 lacking.old }
-    ensures { new lacking ≡ tabulate (length (old lacking)) (λ v. bit (lacks_edge (old game) v)) }
+    ensures { lacking.new ≡ tabulate (length lacking.old) (λ v. bit (lacks_edge game.now v)) }
 {
     let mut j = 0;
     while j < m {

@@ -1,14 +1,13 @@
 // Words put into a buffer from a place on, and the highest word from a place on. No host calls these.
 ghost use Rattle.std.specs.Prelude.{◌≡◌, ℕ, ◌+◌, ◌<◌, ◌≤◌, length, get_or};
 ghost use Rattle.theory.specs.Logic.Range.{tabulate};
-ghost use Rattle.table.specs.Lent.{old, new};
 ghost use Rattle.table.specs.Placing.{placed};
 ghost use Rattle.table.specs.Highest.{highest_of};
 
 // Puts `count` times the same word.
 pub fn fill(words: &mut [u16], at: usize, count: usize, value: u16)
     requires { at + count ≤ length words.old }
-    ensures { new words ≡ placed at (tabulate count (λ i. value)) (old words) }
+    ensures { words.new ≡ placed at (tabulate count (λ i. value)) words.old }
 {
     let mut i = 0;
     while i < count {
@@ -20,7 +19,7 @@ pub fn fill(words: &mut [u16], at: usize, count: usize, value: u16)
 // Puts the first `count` words of another buffer.
 pub fn copy(words: &mut [u16], at: usize, from: &[u16], count: usize)
     requires { (at + count ≤ length words.old) × (count ≤ length from.now) }
-    ensures { new words ≡ placed at (tabulate count (λ i. get_or (old from) i 0)) (old words) }
+    ensures { words.new ≡ placed at (tabulate count (λ i. get_or from.now i 0)) words.old }
 {
     let mut j = 0;
     while j < count {
@@ -33,7 +32,7 @@ pub fn copy(words: &mut [u16], at: usize, from: &[u16], count: usize)
 pub fn gather(words: &mut [u16], at: usize, from: &[u16], start: usize, picks: &[u16], count: usize)
     requires count_in_bounds { (at + count ≤ length words.old) × (count ≤ length picks.now) }
     requires by_index { (i : ℕ) → i < count → start + get_or picks.now i 0 < length from.now }
-    ensures { new words ≡ placed at (tabulate count (λ i. get_or (old from) (start + get_or (old picks) i 0) 0)) (old words) }
+    ensures { words.new ≡ placed at (tabulate count (λ i. get_or from.now (start + get_or picks.now i 0) 0)) words.old }
 {
     let mut c = 0;
     while c < count {
@@ -45,7 +44,7 @@ pub fn gather(words: &mut [u16], at: usize, from: &[u16], start: usize, picks: &
 // The highest of `count` words from `at` on; 0 where there is none.
 pub fn highest(words: &[u16], at: usize, count: usize) -> u16
     requires { at + count ≤ length words.now }
-    ensures { result ≡ highest_of count (λ i. get_or (old words) (at + i) 0) }
+    ensures { result ≡ highest_of count (λ i. get_or words.now (at + i) 0) }
 {
     let mut most = 0;
     let mut i = 0;

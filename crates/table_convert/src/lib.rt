@@ -4,7 +4,6 @@
 mod writing;
 
 ghost use Rattle.std.specs.Prelude.{◌≡◌};
-ghost use Rattle.table.specs.Lent.{old, new};
 ghost use Rattle.table.specs.Filling.{filling_answer};
 ghost use Rattle.table_convert.specs.ConvertCall.{ConvertCall};
 
@@ -14,7 +13,7 @@ use writing::{even_from, first_oversize, write_table};
 // Judges the game and the memory, and writes the table with M − q for each priority q, M the smallest even number not below the highest.
 // The verdict carries n and m.
 pub fn write_lowest(game: &[u16], output: &mut [u16]) -> Filling
-    ensures { ConvertCall (old game) (old output) (filling_answer result) (new output) }
+    ensures { ConvertCall game.now output.old (filling_answer result) output.new }
 {
     let reading = table_reader::read_sizes(game);
     let Filling::Accepted(sizes) = reading else {

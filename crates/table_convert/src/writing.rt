@@ -1,7 +1,6 @@
 // M, and the words of the table that is written. Parts of the call; no host calls these.
 ghost use Rattle.std.specs.Prelude.{◌≡◌, ◌+◌, ◌-◌, ◌≤◌, length};
 ghost use Rattle.theory.specs.Logic.Range.{tabulate};
-ghost use Rattle.table.specs.Lent.{old, new};
 ghost use Rattle.table.specs.Table.{vertex_count, table_edges, priority_at, table_length};
 ghost use Rattle.table.specs.Answers.{written};
 ghost use Rattle.table.specs.WellFormed.{WellFormed};
@@ -22,7 +21,7 @@ pub fn even_from(q: u16) -> usize
 // 36: the first word of a priority 0, where the highest is 65,535.
 pub fn first_oversize(game: &[u16], n: usize, most: u16) -> usize
     requires { (n ≡ vertex_count game.now) × (most ≡ highest game.now) × (2 + n ≤ length game.now) }
-    ensures { result ≡ first_oversize (old game) }
+    ensures { result ≡ first_oversize game.now }
 {
     let mut k = 2;
     while k < 2 + n {
@@ -37,7 +36,7 @@ pub fn first_oversize(game: &[u16], n: usize, most: u16) -> usize
 // Writes even − q for each priority q.
 fn write_priorities(game: &[u16], n: usize, even: usize, output: &mut [u16])
     requires { (2 + n ≤ length game.now) × (2 + n ≤ length output.old) × PriorityRange n even game.now }
-    ensures { new output ≡ placed 2 (tabulate n (λ v. even - priority_at (old game) v)) (old output) }
+    ensures { output.new ≡ placed 2 (tabulate n (λ v. even - priority_at game.now v)) output.old }
 {
     let mut v = 0;
     while v < n {
@@ -50,7 +49,7 @@ fn write_priorities(game: &[u16], n: usize, even: usize, output: &mut [u16])
 pub fn write_table(game: &[u16], n: usize, m: usize, even: usize, output: &mut [u16])
     requires well_formed { WellFormed game.now × (n ≡ vertex_count game.now) × (m ≡ table_edges game.now) × (even ≡ even_above game.now) }
     requires m_in_bounds { (table_length n m ≤ length output.old) × PriorityRange n even game.now }
-    ensures { new output ≡ written (lowest_table (old game)) (old output) }
+    ensures { output.new ≡ written (lowest_table game.now) output.old }
 {
     output[0] = n as u16;
     output[1] = m as u16;

@@ -2,7 +2,6 @@
 #![tactic(auto)]
 
 ghost use Rattle.std.specs.Prelude.{◌≡◌};
-ghost use Rattle.table.specs.Lent.{old};
 ghost use Rattle.table.specs.Filling.{filling_answer};
 ghost use Rattle.table.specs.Reading.{read_answer, reading_answer, sizes_answer};
 ghost use Rattle.table.specs.Kind.{kind_of};
@@ -12,7 +11,7 @@ use table::{FilledSizes, Filling, Reading, Refusal, Sizes, refusal_of, searches}
 
 // Judges a game table, and counts its different edges. The calls that go on with the table ask `read_sizes`.
 pub fn read(game: &[u16]) -> Reading
-    ensures { reading_answer result ≡ read_answer (old game) }
+    ensures { reading_answer result ≡ read_answer game.now }
 {
     let judged = read_sizes(game);
     let Filling::Accepted(sizes) = judged else {
@@ -30,7 +29,7 @@ pub fn read(game: &[u16]) -> Reading
 
 // Judges a game table: refusals 1 to 6 and 8 in order, each over the whole table before the next. A part of the calls; no host calls it.
 pub fn read_sizes(game: &[u16]) -> Filling
-    ensures { filling_answer result ≡ sizes_answer (old game) }
+    ensures { filling_answer result ≡ sizes_answer game.now }
 {
     let len = game.len();
     if len < 2 {

@@ -5,7 +5,6 @@ mod generator;
 mod writing;
 
 ghost use Rattle.std.specs.Prelude.{◌≡◌};
-ghost use Rattle.table.specs.Lent.{old, new};
 ghost use Rattle.table.specs.Filling.{filling_answer};
 ghost use Rattle.table_seed.specs.SeedCall.{outside, unfit, SeedCall};
 
@@ -48,7 +47,7 @@ pub fn write_seeded(
     priorities: u32,
     output: &mut [u16],
 ) -> Filling
-    ensures { SeedCall seed vertices degree priorities (old output) (filling_answer result) (new output) }
+    ensures { SeedCall seed vertices degree priorities output.old (filling_answer result) output.new }
 {
     if is_unfit(vertices, degree, priorities) {
         return Filling::Refused(Refusal {

@@ -1,6 +1,5 @@
 // The words of a seeded table. Parts of the call; no host calls these.
 ghost use Rattle.std.specs.Prelude.{◌≡◌, ◌+◌, ◌*◌, ◌%◌, ◌<◌, ◌≤◌, length, slice_set};
-ghost use Rattle.table.specs.Lent.{old, new};
 ghost use Rattle.table.specs.Limits.{vertex_limit};
 ghost use Rattle.table.specs.Table.{table_length};
 ghost use Rattle.table.specs.Answers.{written};
@@ -21,7 +20,7 @@ fn write_edge(
 ) -> Generator
     requires { (v < n) × (n ≤ vertex_limit) × (j < m) × (table_length n m ≤ length output.old) }
     ensures state_value { result.state ≡ step generator.state }
-    ensures output_value { new output ≡ slice_set (slice_set (old output) (2 + 2 * n + j) v) (2 + 2 * n + m + j) (draw_of generator.state % n) }
+    ensures output_value { output.new ≡ slice_set (slice_set output.old (2 + 2 * n + j) v) (2 + 2 * n + m + j) (draw_of generator.state % n) }
 {
     let target = generator.draw_below(n as u32);
     output[2 + 2 * n + j] = v as u16;
@@ -32,7 +31,7 @@ fn write_edge(
 // Writes the d edges that leave v.
 fn write_edges(generator: Generator, n: usize, d: usize, v: usize, output: &mut [u16]) -> Generator
     requires { TableFits n d output.old × (v < n) }
-    ensures { EdgesDrawn n d v d generator.state (old output) result.state (new output) }
+    ensures { EdgesDrawn n d v d generator.state output.old result.state output.new }
 {
     let m = n * d;
     let mut next = generator;
@@ -54,7 +53,7 @@ fn write_vertex(
     output: &mut [u16],
 ) -> Generator
     requires { TableFits n d output.old × (0 < c) × (v < n) }
-    ensures { VertexDrawn n d c v generator.state (old output) result.state (new output) }
+    ensures { VertexDrawn n d c v generator.state output.old result.state output.new }
 {
     let priority = generator.draw_below(c);
     let next = priority.next;
@@ -67,7 +66,7 @@ fn write_vertex(
 // Writes the table.
 pub fn write_table(seed: u32, n: usize, d: usize, c: u32, output: &mut [u16])
     requires { TableFits n d output.old × (0 < c) }
-    ensures { new output ≡ written (seed_table seed n d c) (old output) }
+    ensures { output.new ≡ written (seed_table seed n d c) output.old }
 {
     output[0] = n as u16;
     output[1] = (n * d) as u16;

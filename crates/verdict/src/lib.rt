@@ -3,7 +3,6 @@
 #![tactic(auto)]
 
 ghost use Rattle.std.specs.Prelude.{◌≡◌};
-ghost use Rattle.table.specs.Lent.{old, new};
 ghost use Rattle.table.specs.WellFormed.{WellFormed};
 ghost use Rattle.verdict.specs.VerdictCall.{verdict_answer, start_answer, VerdictCall};
 
@@ -31,8 +30,8 @@ pub fn give_verdict(
     classes: &mut [u16],
     reduction: &mut [u16],
 ) -> Verdict
-    ensures { VerdictCall (old game) vertex player (old plan) (old marks) (old spare) (old classes) (old reduction) (verdict_answer result)
-        (new marks) (new spare) (new classes) (new reduction) }
+    ensures { VerdictCall game.now vertex player plan.now marks.old spare.old classes.old reduction.old (verdict_answer result)
+        marks.new spare.new classes.new reduction.new }
 {
     let reading = table_reader::read_sizes(game);
     let Filling::Accepted(sizes) = reading else {
@@ -64,7 +63,7 @@ fn judge_reduced(
     counts: TableCounts,
 ) -> Verdict
     requires { WellFormed reduced.now }
-    ensures { verdict_answer result ≡ start_answer (old reduced) player (old plan) class counts }
+    ensures { verdict_answer result ≡ start_answer reduced.now player plan.now class counts }
 {
     let judged = judge_plan(reduced, player, plan);
     if let Acceptance::Refused(refusal) = judged {

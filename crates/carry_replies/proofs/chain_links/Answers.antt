@@ -6,16 +6,11 @@ use Prim.Native.Nat.{ℕ, ◌+◌, ◌-◌, ◌≤◌, ◌<◌}
 use lib.ListN.{length, length-set}
 use Rattle.plan_links.specs.PlanTable.{position_count, link_count, link_source}
 use Rattle.carry_replies.specs.ChainLaws.{Chained, chained_none, chained_all, chained_more}
+use Rattle.carry_replies.proofs.chain_links.Invariants.{Inv}
 use Rattle.carry_replies.proofs.chain_links.Goals as goal
 use Rattle.carry_replies.proofs.chain_links.Lts as lts
 use Rattle.carry_replies.proofs.chain_links.Reads as reads
 use Rattle.carry_replies.proofs.chain_links.Tie as tie
-
-record Inv (plan firsts₀ follow₀ firsts follow : List ℕ) (k : ℕ) : Type 0 where
-  to : k ≤ link_count plan
-  same-firsts : length firsts ≡ length firsts₀
-  same-follow : length follow ≡ length follow₀
-  chained : Chained (link_source plan) (link_count plan) (position_count plan) firsts follow k
 
 abbrev start : lts.At-loop tie.the-claims reads.Pre reads.Post goal.the-invariant-loop-k goal.the-decreases-loop-k → lts.Start tie.the-claims reads.Pre reads.Post goal.the-invariant-loop-k goal.the-decreases-loop-k
 start c = search

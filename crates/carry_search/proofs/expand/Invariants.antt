@@ -3,7 +3,7 @@ use mathlib.Core.Path.{◌≡◌, refl, ◌∙◌}
 use Prim.Native.Nat.{◌+◌, ◌-◌, ◌≤◌}
 use native.Mathlib.Omega.{arith}
 use lib.ListN.{length}
-use Rattle.theory.specs.Carry.Carry.{moves_below}
+use Rattle.theory.proofs.Carry.Carry.{moves_below}
 use Rattle.table.specs.Table.{vertex_count}
 use Rattle.plan_links.specs.PlanTable.{position_count}
 use Rattle.carry_replies.specs.SuccessorLaws.{successor_le, successor_ge}
@@ -26,10 +26,10 @@ pub most : (a : tie.At-loop invariant-loop decreases-loop)
 most a = a.before.before.most-links.ensures
 
 abbrev pub invariant-loop-w : goal.invariant-loop-w
-invariant-loop-w l = (l.w ≤ l.k) × (length l.initial.links ≡ length l.initial.work)
-    × Moved l.work (table_moves_below l.game l.player l.plan l.seats l.n l.i l.w) (position_count l.plan) (memory_in l.initial.work (record { l.links = l.most; l.initial.w = l.initial.pairs }))
-    (memory_in l.initial.links (record { l.links = l.links; l.initial.w = l.initial.w }))
-    × (l.initial.w ≤ l.u + 1)
+invariant-loop-w l = (l.w ≤ l.n) × (length l.work ≡ length l.initial.work)
+    × Moved l.k (table_moves_below l.game l.player l.plan l.seats l.i l.u l.w) (position_count l.plan) (memory_in l.initial.work (record { l.pairs = l.initial.pairs; l.links = l.initial.links }))
+    (memory_in l.work (record { l.pairs = l.pairs; l.links = l.links }))
+    × (l.links ≤ l.most + 1)
 
 abbrev pub decreases-loop-w : goal.decreases-loop-w
-decreases-loop-w l = l.k - l.w
+decreases-loop-w l = l.n - l.w

@@ -8,12 +8,13 @@ use Rattle.marks.specs.Marks.{marks_length}
 use Rattle.classes.proofs.judge_memory.Goals as goal
 use Rattle.classes.proofs.judge_memory.Lts as lts
 use Rattle.classes.proofs.judge_memory.Reads as reads
+use Rattle.classes.proofs.judge_memory.Tie as tie
 
 -- marks, spare and class words are long enough
-marks_fit_lem : (c : lts.Else1 reads.Pre reads.Post) → let a = c.args in ltb a.marks (marks_length a.n) ≡ false
+marks_fit_lem : (c : lts.Else1 tie.the-claims reads.Pre reads.Post) → let a = c.args in ltb a.marks (marks_length a.n) ≡ false
 marks_fit_lem c = le-ltb _ _ (rw c.length_for-needed.ensures at c.if-marks-needed.false)
 
-spare_fits : (c : lts.Else2 reads.Pre reads.Post) → let a = c.args in ltb a.spare (marks_length a.n) ≡ false
+spare_fits : (c : lts.Else2 tie.the-claims reads.Pre reads.Post) → let a = c.args in ltb a.spare (marks_length a.n) ≡ false
 spare_fits c = le-ltb _ _ (rw c.length_for-needed.ensures at c.if-spare-needed.false)
 
 pub returns-then-marks-needed : goal.returns-then-marks-needed

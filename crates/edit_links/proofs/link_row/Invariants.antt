@@ -9,7 +9,7 @@ use Rattle.edit_links.specs.LinksLaws.{Walk, walk_start, walk_on, walk_end, last
 use Rattle.edit_links.proofs.link_row.Given as goal
 
 abbrev pub invariant-loop-p : goal.invariant-loop-p
-invariant-loop-p l = (length l.links ≡ length l.initial.head) × (length l.initial.p ≡ length l.head) × Walk l.sources l.targets l.m l.count l.n l.v l.head l.links l.initial.p l.p
+invariant-loop-p l = (length l.head ≡ length l.initial.head) × (length l.links ≡ length l.initial.links) × Walk l.sources l.targets l.m l.count l.n l.v l.initial.links l.head l.links l.p
 
 abbrev pub decreases-loop-p : goal.decreases-loop-p
 decreases-loop-p l = l.p

@@ -5,7 +5,7 @@ use native.Mathlib.Omega.{arith}
 use lib.ListN.{length, get_or}
 use borrow.Author.Tests.{le-leb, lt-leb}
 use Rattle.theory.proofs.Logic.BoolsLaws.{or_left, or_right, or_fails}
-use Rattle.theory.specs.Logic.Range.{first}
+use Rattle.theory.proofs.Logic.Range.{first}
 use Rattle.theory.proofs.Logic.RangeLaws.{first_step, first_hit, first_end_lem}
 use Rattle.edit_trace.specs.Trace.{entry_count}
 use Rattle.edit_trace.proofs.TraceLaws.{trace_length, trace_few}
@@ -14,12 +14,11 @@ use Rattle.std.proofs.Common.{rules}
 use Rattle.edit_run.proofs.find_outside.Goals as goal
 use Rattle.edit_run.proofs.find_outside.Lts as lts
 use Rattle.edit_run.proofs.find_outside.Reads as reads
-use Rattle.edit_run.proofs.find_outside.Tie as tie
 
-size : (s : lts.Start tie.the-claims reads.Pre reads.Post goal.the-invariant-loop-i goal.the-decreases-loop-i) → length s.args.trace.now ≡ 1 + 2 * entry_count s.args.trace.now
+size : (s : lts.Start reads.Pre reads.Post goal.the-invariant-loop-i goal.the-decreases-loop-i) → length s.args.trace.now ≡ 1 + 2 * entry_count s.args.trace.now
 size s = trace_length s.args.trace.now s.requires
 
-few : (s : lts.Start tie.the-claims reads.Pre reads.Post goal.the-invariant-loop-i goal.the-decreases-loop-i) → entry_count s.args.trace.now ≤ 4096
+few : (s : lts.Start reads.Pre reads.Post goal.the-invariant-loop-i goal.the-decreases-loop-i) → entry_count s.args.trace.now ≤ 4096
 few s = trace_few s.args.trace.now s.requires
 
 pub bounds-trace-0 : goal.bounds-trace-0

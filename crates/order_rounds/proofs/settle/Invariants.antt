@@ -3,7 +3,7 @@ use Prim.Native.Nat.{◌+◌, ◌-◌, ◌≤◌}
 use native.Mathlib.Nat.{mul-le-mul}
 use native.Mathlib.Omega.{arith}
 use lib.ListN.{length}
-use Rattle.theory.specs.Order.Rows.{AfterRound}
+use Rattle.theory.proofs.Order.Rows.{AfterRound}
 use Rattle.table.specs.Limits.{pair_limit}
 use Rattle.table.specs.Table.{pair_count, game_of}
 use Rattle.words.specs.Words.{has}
@@ -14,13 +14,13 @@ use Rattle.order_sets.specs.RoundsLaws.{after_more, after_last}
 use Rattle.order_rounds.proofs.settle.Given as goal
 
 abbrev pub invariant-loop-mirror : goal.invariant-loop-mirror
-invariant-loop-mirror l = (length l.next ≡ length l.initial.related)
-    × (length l.initial.changed ≡ length l.related)
-    × (length l.changed ≡ length l.initial.lost)
-    × (length l.mirror ≡ length l.lost)
-    × (length l.initial.passes ≡ length l.initial.falls)
-    × Fell (game_of l.game) l.next l.initial.changed l.changed l.initial.passes
-    × AfterRound l.falls (game_of l.game) l.passes (cell l.next) (struck l.initial.passes l.initial.changed)
+invariant-loop-mirror l = (length l.related ≡ length l.initial.related)
+    × (length l.lost ≡ length l.initial.lost)
+    × (length l.falls ≡ length l.initial.falls)
+    × (length l.next ≡ length l.initial.next)
+    × (length l.changed ≡ length l.initial.changed)
+    × Fell (game_of l.game) l.related l.lost l.falls l.changed
+    × AfterRound l.mirror (game_of l.game) l.passes (cell l.related) (struck l.changed l.lost)
 
 abbrev pub decreases-loop-mirror : goal.decreases-loop-mirror
 decreases-loop-mirror l = pair_count l.game - l.passes

@@ -3,7 +3,7 @@ use Prim.Native.Nat.{◌+◌, ◌-◌, ◌≤◌}
 use native.Mathlib.Nat.{mul-le-mul}
 use native.Mathlib.Omega.{arith}
 use lib.ListN.{length}
-use Rattle.theory.specs.Order.Rows.{AfterRound}
+use Rattle.theory.proofs.Order.Rows.{AfterRound}
 use Rattle.table.specs.Limits.{pair_limit}
 use Rattle.table.specs.Table.{pair_count, game_of}
 use Rattle.words.specs.Word.{word_bits, digit}
@@ -15,12 +15,12 @@ use Rattle.order_small_losses.specs.Words.{bit}
 use Rattle.order_small_rounds.proofs.settle.Given as goal
 
 abbrev pub invariant-loop-taken : goal.invariant-loop-taken
-invariant-loop-taken l = (length l.first ≡ length l.initial.related)
-    × (length l.mirror ≡ length l.related)
-    × (length l.initial.passes ≡ length l.initial.lost)
-    × (length l.passes ≡ length l.lost)
-    × FellIn word_bits (game_of l.game) (bit l.first) (bit l.mirror) (bit l.initial.passes) (digit l.changed)
-    × AfterRound l.falls (game_of l.game) l.initial.changed (bit l.first) (struck (digit l.changed) (bit l.mirror))
+invariant-loop-taken l = (length l.related ≡ length l.initial.related)
+    × (length l.lost ≡ length l.initial.lost)
+    × (length l.falls ≡ length l.initial.falls)
+    × (length l.next ≡ length l.initial.next)
+    × FellIn word_bits (game_of l.game) (bit l.related) (bit l.lost) (bit l.falls) (digit l.changed)
+    × AfterRound l.mirror (game_of l.game) l.passes (bit l.related) (struck (digit l.changed) (bit l.lost))
 
 abbrev pub decreases-loop-taken : goal.decreases-loop-taken
-decreases-loop-taken l = pair_count l.game - l.initial.changed
+decreases-loop-taken l = pair_count l.game - l.passes

@@ -6,7 +6,7 @@ use Rattle.plan_blocks.specs.Refining.{Bounded}
 use Rattle.plan_blocks.proofs.remove.Given as goal
 
 abbrev pub invariant-loop-v : goal.invariant-loop-v
-invariant-loop-v l = (length l.initial.v ≡ length l.initial.blocks) × Confined l.leasts l.p (link_by l.starts l.targets) l.priorities l.initial.v × Bounded l.leasts l.priorities l.initial.v l.blocks
+invariant-loop-v l = (length l.blocks ≡ length l.initial.blocks) × Confined l.p l.player (link_by l.starts l.targets) l.priorities l.blocks × Bounded l.p l.priorities l.blocks l.leasts
 
 abbrev pub decreases-loop-v : goal.decreases-loop-v
-decreases-loop-v l = l.leasts - l.v
+decreases-loop-v l = l.p - l.v

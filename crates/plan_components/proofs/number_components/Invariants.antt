@@ -4,7 +4,7 @@ use lib.ListN.{length}
 use Rattle.plan_components.proofs.number_components.Given as goal
 
 abbrev pub invariant-loop-left : goal.invariant-loop-left
-invariant-loop-left l = (length l.steps ≡ length l.initial.numbers) × (length l.initial.s ≡ length l.numbers) × (length l.s ≡ length l.initial.leasts)
+invariant-loop-left l = (length l.numbers ≡ length l.initial.numbers) × (length l.leasts ≡ length l.initial.leasts) × (length l.work ≡ length l.initial.work)
 
 abbrev pub decreases-loop-left : goal.decreases-loop-left
 decreases-loop-left l = l.left

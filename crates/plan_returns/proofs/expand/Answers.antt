@@ -9,17 +9,11 @@ use Rattle.plan_links.specs.LinkIndexLaws.{Target, indexed_target}
 use Rattle.plan_returns.specs.Search.{Grown, followed}
 use Rattle.plan_returns.specs.SearchLaws.{queued_le, grown_none, grown_more, grown_all}
 use Rattle.plan_returns.specs.ReturnSearch.{Workspace, passes}
+use Rattle.plan_returns.proofs.expand.Invariants.{Inv}
 use Rattle.plan_returns.proofs.expand.Goals as goal
 use Rattle.plan_returns.proofs.expand.Lts as lts
 use Rattle.plan_returns.proofs.expand.Reads as reads
 use Rattle.plan_returns.proofs.expand.Tie as tie
-
-record Inv (starts targets priorities blocks seen₀ queue₀ : List ℕ) (p i least block stamp tail : ℕ) (seen queue : List ℕ) (t last : ℕ) : Type 0 where
-  from : get_or starts i 0 ≤ t
-  to : t ≤ get_or starts (i + 1) 0
-  stamps : length seen ≡ length seen₀
-  entries : length queue ≡ length queue₀
-  grown : Grown p stamp (followed (passes priorities blocks least block) targets (get_or starts i 0) t) seen₀ queue₀ tail seen queue last
 
 abbrev start : lts.At-loop tie.the-claims reads.Pre reads.Post goal.the-invariant-loop-t goal.the-decreases-loop-t → lts.Start tie.the-claims reads.Pre reads.Post goal.the-invariant-loop-t goal.the-decreases-loop-t
 start c = search

@@ -10,8 +10,15 @@ use Rattle.plan_returns.specs.SearchLaws.{queued_le, grown_none, grown_more, gro
 use Rattle.plan_returns.specs.ReturnSearch.{Workspace, passes}
 use Rattle.plan_returns.proofs.expand.Given as goal
 
+pub record Inv (starts targets priorities blocks seen₀ queue₀ : List ℕ) (p i least block stamp tail : ℕ) (seen queue : List ℕ) (t last : ℕ) : Type 0 where
+  pub from : get_or starts i 0 ≤ t
+  pub to : t ≤ get_or starts (i + 1) 0
+  pub stamps : length seen ≡ length seen₀
+  pub entries : length queue ≡ length queue₀
+  pub grown : Grown p stamp (followed (passes priorities blocks least block) targets (get_or starts i 0) t) seen₀ queue₀ tail seen queue last
+
 abbrev pub invariant-loop-t : goal.invariant-loop-t
-invariant-loop-t l = Inv l.starts l.targets l.priorities l.blocks l.initial.seen l.seen l.initial.queue l.queue l.p l.i l.least l.block l.initial.t l.t l.initial.last l.last
+invariant-loop-t l = Inv l.starts l.targets l.priorities l.blocks l.initial.seen l.initial.queue l.p l.i l.least l.block l.stamp l.tail l.seen l.queue l.t l.last
 
 abbrev pub decreases-loop-t : goal.decreases-loop-t
-decreases-loop-t l = l.stamp.end - l.initial.last
+decreases-loop-t l = l.run.end - l.t

@@ -7,7 +7,7 @@ use Rattle.theory.proofs.Logic.ListLaws.{after_set}
 use Rattle.plan_returns.proofs.fill_priorities.Given as goal
 
 abbrev pub invariant-loop-j : goal.invariant-loop-j
-invariant-loop-j l = (l.j ≤ l.priorities) × (length l.initial.j ≡ length l.initial.priorities) × ((i : ℕ) → i < l.j → get_or l.initial.j i 0 ≡ position_priority l.game l.plan i)
+invariant-loop-j l = (l.j ≤ l.p) × (length l.priorities ≡ length l.initial.priorities) × ((i : ℕ) → i < l.j → get_or l.priorities i 0 ≡ position_priority l.game l.plan i)
 
 abbrev pub decreases-loop-j : goal.decreases-loop-j
-decreases-loop-j l = l.priorities - l.j
+decreases-loop-j l = l.p - l.j

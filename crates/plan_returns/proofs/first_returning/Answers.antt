@@ -4,23 +4,15 @@ use Prim.Native.Nat.{ℕ, ◌≤◌, ◌-◌}
 use mathlib.Core.Path.{◌≡◌, refl, sym, ◌∙◌}
 use mathlib.Core.List.{List}
 use lib.ListN.{length}
-use Rattle.theory.specs.Logic.Range.{first}
+use Rattle.theory.proofs.Logic.Range.{first}
 use Rattle.theory.proofs.Logic.RangeLaws.{first_step, first_hit, first_end_lem}
 use Rattle.plan_blocks.specs.Blocks.{link_by, Confined}
 use Rattle.plan_blocks.specs.BlocksLaws.{confined_one}
 use Rattle.plan_returns.specs.Search.{NoLater}
 use Rattle.plan_returns.specs.ReturnSearch.{wrong_by}
 use Rattle.plan_returns.specs.ReturnSearchLaws.{workspace_kept}
+use Rattle.plan_returns.proofs.first_returning.Invariants.{Inv}
 use Rattle.plan_returns.proofs.first_returning.Goals as goal
-
-record Inv (starts targets priorities blocks₀ seen₀ queue₀ : List ℕ) (p player : ℕ) (blocks seen queue : List ℕ) (i : ℕ) : Type 0 where
-  inside : i ≤ p
-  groups : length blocks ≡ length blocks₀
-  stamps : length seen ≡ length seen₀
-  entries : length queue ≡ length queue₀
-  latest : NoLater i seen
-  confined : Confined p player (link_by starts targets) priorities blocks
-  rest : first (wrong_by starts targets priorities p player) 0 p ≡ first (wrong_by starts targets priorities p player) i p
 
 pub loop-i-init : goal.loop-i-init
 loop-i-init c = record {

@@ -11,16 +11,11 @@ use Rattle.plan_returns.specs.Search.{stamped, Searched}
 use Rattle.plan_returns.specs.SearchLaws.{queued_le, searched_more, searched_found, searched_all}
 use Rattle.plan_returns.specs.ReturnSearch.{Workspace, from_of}
 use Rattle.plan_returns.specs.ReturnSearchLaws.{workspace_kept, own_passes}
+use Rattle.plan_returns.proofs.search_queue.Invariants.{Inv}
 use Rattle.plan_returns.proofs.search_queue.Goals as goal
 use Rattle.plan_returns.proofs.search_queue.Lts as lts
 use Rattle.plan_returns.proofs.search_queue.Reads as reads
 use Rattle.plan_returns.proofs.search_queue.Tie as tie
-
-record Inv (starts targets priorities blocks : List ℕ) (i : ℕ) (seen₀ queue₀ : List ℕ) (p : ℕ) (seen queue : List ℕ) (head tail : ℕ) : Type 0 where
-  order : head ≤ tail
-  stamps : length seen ≡ length seen₀
-  entries : length queue ≡ length queue₀
-  searched : Searched p (link_by starts targets) (from_of priorities blocks i) i (i + 1) seen queue head tail
 
 abbrev start : lts.At-loop tie.the-claims reads.Pre reads.Post goal.the-invariant-loop-head goal.the-decreases-loop-head → lts.Start tie.the-claims reads.Pre reads.Post goal.the-invariant-loop-head goal.the-decreases-loop-head
 start c = search
@@ -28,11 +23,6 @@ start c = search
 -- the work memory keeps its lengths
 space : (c : lts.At-loop tie.the-claims reads.Pre reads.Post goal.the-invariant-loop-head goal.the-decreases-loop-head) → let e = (start c).args in Workspace e.p e.starts.now e.targets.now e.priorities.now e.blocks.now c.loop-head.seen c.loop-head.queue
 space c = workspace_kept (start c).requires.0.0 refl c.loop-head.invariant.stamps c.loop-head.invariant.entries
-
--- the next position in the queue
-record Next (queue : List ℕ) (p head : ℕ) : Type 0 where
-  few : head < p
-  below : get_or queue head 0 < p
 
 next : (c : lts.Else1 tie.the-claims reads.Pre reads.Post goal.the-invariant-loop-head goal.the-decreases-loop-head) → Next c.loop-head.queue (start c.before.before.before).args.p c.loop-head.head
 next c =

@@ -10,7 +10,7 @@ use Rattle.reduction_rows.specs.MetLaws.{members_start, members_next}
 use Rattle.reduction_rows.proofs.meet_members.Given as goal
 
 abbrev pub invariant-loop-v : goal.invariant-loop-v
-invariant-loop-v l = (l.v ≤ l.words) × (length l.initial.v ≡ length l.initial.words) × MembersMet (game_of l.game) l.width l.v l.initial.words l.initial.v
+invariant-loop-v l = (l.v ≤ l.n) × (length l.words ≡ length l.initial.words) × MembersMet (game_of l.game) l.width l.v l.initial.words l.words
 
 abbrev pub decreases-loop-v : goal.decreases-loop-v
-decreases-loop-v l = l.words - l.v
+decreases-loop-v l = l.n - l.v

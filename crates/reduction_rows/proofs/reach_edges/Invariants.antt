@@ -7,7 +7,7 @@ use Rattle.reduction_rows.specs.ReachedLaws.{Placed, placed_none, placed_more, p
 use Rattle.reduction_rows.proofs.reach_edges.Given as goal
 
 abbrev pub invariant-loop-j : goal.invariant-loop-j
-invariant-loop-j l = (l.j ≤ l.words) × (length l.initial.j ≡ length l.initial.words) × Placed l.game l.width l.j l.initial.j
+invariant-loop-j l = (l.j ≤ l.m) × (length l.words ≡ length l.initial.words) × Placed l.game l.width l.j l.words
 
 abbrev pub decreases-loop-j : goal.decreases-loop-j
-decreases-loop-j l = l.words - l.j
+decreases-loop-j l = l.m - l.j

@@ -4,28 +4,23 @@ use mathlib.Core.List.{List}
 use Prim.Native.Nat.{ℕ, ◌+◌, ◌-◌, ◌≤◌, ◌<◌}
 use native.Mathlib.Omega.{arith}
 use lib.ListN.{length, get_or, set, length-set}
-use Rattle.theory.specs.Order.Order.{order}
-use Rattle.theory.specs.Classes.Reduction.{class_number}
+use Rattle.theory.proofs.Order.Order.{order}
+use Rattle.theory.proofs.Classes.Reduction.{class_number}
 use Rattle.theory.proofs.Classes.QuotientLaws.{order_preorder}
 use Rattle.theory.proofs.Classes.ClassLaws.{class_number_lt, class_count_le}
 use Rattle.table.specs.Table.{vertex_count, game_of}
 use Rattle.carry_output.specs.CarryParts.{LowestFrom}
 use Rattle.carry_output.specs.LowestLaws.{lowest_none, lowest_more, lowest_all}
+use Rattle.carry_output.proofs.seats.fill_lowest.Invariants.{Inv}
 use Rattle.carry_output.proofs.seats.fill_lowest.Goals as goal
 use Rattle.carry_output.proofs.seats.fill_lowest.Lts as lts
 use Rattle.carry_output.proofs.seats.fill_lowest.Reads as reads
-use Rattle.carry_output.proofs.seats.fill_lowest.Tie as tie
 
-record Inv (game reps₀ reps : List ℕ) (v : ℕ) : Type 0 where
-  to : v ≤ vertex_count game
-  same : length reps ≡ length reps₀
-  lowest : LowestFrom (vertex_count game) (order (game_of game)) v reps
-
-abbrev start : lts.At-loop tie.the-claims reads.Pre reads.Post goal.the-invariant-loop-v goal.the-decreases-loop-v → lts.Start tie.the-claims reads.Pre reads.Post goal.the-invariant-loop-v goal.the-decreases-loop-v
+abbrev start : lts.At-loop reads.Pre reads.Post goal.the-invariant-loop-v goal.the-decreases-loop-v → lts.Start reads.Pre reads.Post goal.the-invariant-loop-v goal.the-decreases-loop-v
 start c = search
 
 -- the vertex before v has its class number
-word : (c : lts.In-loop tie.the-claims reads.Pre reads.Post goal.the-invariant-loop-v goal.the-decreases-loop-v)
+word : (c : lts.In-loop reads.Pre reads.Post goal.the-invariant-loop-v goal.the-decreases-loop-v)
     → let a = (start c.before).args in
     let v = c.loop-v.v - 1 in
     get_or a.classes.now v 0 ≡ class_number (vertex_count a.game.now) (order (game_of a.game.now)) v
@@ -34,7 +29,7 @@ word c =
     (start c.before).pre.0.1.numbers (c.loop-v.v - 1) (omega (arith, c.loop-v.invariant.to, c.loop-v-test.true))
 
 -- and that is below n
-word_lt : (c : lts.In-loop tie.the-claims reads.Pre reads.Post goal.the-invariant-loop-v goal.the-decreases-loop-v)
+word_lt : (c : lts.In-loop reads.Pre reads.Post goal.the-invariant-loop-v goal.the-decreases-loop-v)
     → let a = (start c.before).args in get_or a.classes.now (c.loop-v.v - 1) 0 < vertex_count a.game.now
 unfolding game_of
 word_lt c =
@@ -47,7 +42,7 @@ word_lt c =
       class_count_le G.n (order G) (order_preorder G),
     )
 
-room : (c : lts.At-loop tie.the-claims reads.Pre reads.Post goal.the-invariant-loop-v goal.the-decreases-loop-v) → vertex_count (start c).args.game.now ≤ length c.loop-v.reps
+room : (c : lts.At-loop reads.Pre reads.Post goal.the-invariant-loop-v goal.the-decreases-loop-v) → vertex_count (start c).args.game.now ≤ length c.loop-v.reps
 room c = omega (arith, (start c).requires.1, c.loop-v.invariant.same)
 
 pub loop-v-init : goal.loop-v-init

@@ -3,8 +3,8 @@ use mathlib.Core.List.{List}
 use Prim.Native.Nat.{ℕ, ◌+◌, ◌-◌, ◌≤◌, ◌<◌}
 use native.Mathlib.Omega.{arith}
 use lib.ListN.{length, get_or, set, length-set}
-use Rattle.theory.specs.Order.Order.{order}
-use Rattle.theory.specs.Classes.Reduction.{class_number}
+use Rattle.theory.proofs.Order.Order.{order}
+use Rattle.theory.proofs.Classes.Reduction.{class_number}
 use Rattle.theory.proofs.Classes.QuotientLaws.{order_preorder}
 use Rattle.theory.proofs.Classes.ClassLaws.{class_number_lt, class_count_le}
 use Rattle.table.specs.Table.{vertex_count, game_of}
@@ -12,8 +12,13 @@ use Rattle.carry_output.specs.CarryParts.{LowestFrom}
 use Rattle.carry_output.specs.LowestLaws.{lowest_none, lowest_more, lowest_all}
 use Rattle.carry_output.proofs.seats.fill_lowest.Given as goal
 
+pub record Inv (game reps₀ reps : List ℕ) (v : ℕ) : Type 0 where
+  pub to : v ≤ vertex_count game
+  pub same : length reps ≡ length reps₀
+  pub lowest : LowestFrom (vertex_count game) (order (game_of game)) v reps
+
 abbrev pub invariant-loop-v : goal.invariant-loop-v
-invariant-loop-v l = Inv l.game l.initial.reps l.initial.v l.v
+invariant-loop-v l = Inv l.game l.initial.reps l.reps l.v
 
 abbrev pub decreases-loop-v : goal.decreases-loop-v
 decreases-loop-v l = l.v

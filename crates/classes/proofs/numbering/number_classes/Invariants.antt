@@ -2,8 +2,8 @@ use mathlib.Core.Path.{◌≡◌, ap, ◌∙◌}
 use Prim.Native.Nat.{◌-◌, ◌≤◌}
 use native.Mathlib.Omega.{arith}
 use lib.ListN.{length, length-set}
-use Rattle.theory.specs.Logic.Range.{tabulate}
-use Rattle.theory.specs.Classes.Reduction.{class_number}
+use Rattle.theory.proofs.Logic.Range.{tabulate}
+use Rattle.theory.proofs.Classes.Reduction.{class_number}
 use Rattle.table.specs.Answers.{written}
 use Rattle.table.specs.AnswersLaws.{written_start, written_more}
 use Rattle.marks.specs.Marks.{relation}
@@ -12,7 +12,7 @@ use Rattle.classes.specs.NumberingLaws.{numbered_start}
 use Rattle.classes.proofs.numbering.number_classes.Given as goal
 
 abbrev pub invariant-loop-v : goal.invariant-loop-v
-invariant-loop-v l = (l.v ≤ l.n) × (length l.initial.k ≡ length l.initial.classes) × (length l.k ≡ length l.classes) × (l.initial.k ≡ written (tabulate l.v (class_number l.n (relation l.n l.marks))) l.initial.classes) × Numbered l.n (relation l.n l.marks) l.v l.initial.v l.initial.k l.k
+invariant-loop-v l = (l.v ≤ l.n) × (length l.classes ≡ length l.initial.classes) × (length l.reps ≡ length l.initial.reps) × (l.classes ≡ written (tabulate l.v (class_number l.n (relation l.n l.marks))) l.initial.classes) × Numbered l.n (relation l.n l.marks) l.v l.k l.classes l.reps
 
 abbrev pub decreases-loop-v : goal.decreases-loop-v
 decreases-loop-v l = l.n - l.v

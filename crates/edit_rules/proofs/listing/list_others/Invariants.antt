@@ -13,10 +13,10 @@ use Rattle.edit_rules.proofs.listing.list_others.Given as goal
 
 abbrev pub invariant-loop-j : goal.invariant-loop-j
 invariant-loop-j l = (l.j ≤ l.m + 1)
-    × (length l.initial.e ≡ length l.initial.sources)
-    × (length l.e ≡ length l.sources)
-    × ((S E : List ℕ) → l.m ≤ length S → l.m ≤ length E → Appended (edges_part l.table 0 l.copy) 0 S l.initial.sources E l.sources l.initial.ends
-    → Appended (others l.s l.t (edges_below l.table (min l.j l.m))) 0 S l.initial.e E l.e l.initial.j)
+    × (length l.sources ≡ length l.initial.sources)
+    × (length l.ends ≡ length l.initial.ends)
+    × ((S E : List ℕ) → l.m ≤ length S → l.m ≤ length E → Appended (edges_part l.table 0 l.copy) 0 S l.initial.sources E l.initial.ends l.initial.e
+    → Appended (others l.s l.t (edges_below l.table (min l.j l.m))) 0 S l.sources E l.ends l.e)
 
 abbrev pub decreases-loop-j : goal.decreases-loop-j
 decreases-loop-j l = l.m + 1 - l.j

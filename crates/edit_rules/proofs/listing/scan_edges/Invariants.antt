@@ -6,7 +6,7 @@ use Rattle.edit_rules.proofs.ScanLaws.{scan_start, scan_both, scan_end}
 use Rattle.edit_rules.proofs.listing.scan_edges.Given as goal
 
 abbrev pub invariant-loop-j : goal.invariant-loop-j
-invariant-loop-j l = (l.j ≤ l.m) × Scanning l.table l.m l.s l.t l.j l.initial.j
+invariant-loop-j l = (l.j ≤ l.m) × Scanning l.table l.m l.s l.t l.j l.scan
 
 abbrev pub decreases-loop-j : goal.decreases-loop-j
 decreases-loop-j l = l.m - l.j

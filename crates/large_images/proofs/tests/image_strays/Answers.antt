@@ -2,15 +2,14 @@
 use Prim.Native.Nat.{◌+◌, ◌<◌}
 use native.Mathlib.Omega.{arith}
 use borrow.Author.Tests.{le-leb, lt-leb, eq-eqb, ne_eqb}
-use Rattle.theory.specs.Logic.Bools.{◌or◌}
+use Rattle.theory.proofs.Logic.Bools.{◌or◌}
 use Rattle.large_table.specs.Words.{source_of, target_of}
 use Rattle.large_images.specs.Images.{image_strays}
 use Rattle.large_images.proofs.tests.image_strays.Goals as goal
 use Rattle.large_images.proofs.tests.image_strays.Lts as lts
 use Rattle.large_images.proofs.tests.image_strays.Reads as reads
-use Rattle.large_images.proofs.tests.image_strays.Tie as tie
 
-ends : (s : lts.Start tie.the-claims reads.Pre reads.Post) → let a = s.args in
+ends : (s : lts.Start reads.Pre reads.Post) → let a = s.args in
     (source_of a.game.now a.n a.j < a.n) × (target_of a.game.now a.n a.m a.j < a.n)
 ends s = (s.requires.0.sources s.args.j s.requires.4, s.requires.0.targets s.args.j s.requires.4)
 

@@ -7,9 +7,8 @@ use Rattle.large_reduction.specs.ReductionCall.{priority_differs}
 use Rattle.large_reduction.proofs.tests.priority_differs.Goals as goal
 use Rattle.large_reduction.proofs.tests.priority_differs.Lts as lts
 use Rattle.large_reduction.proofs.tests.priority_differs.Reads as reads
-use Rattle.large_reduction.proofs.tests.priority_differs.Tie as tie
 
-class_lt : (s : lts.Start tie.the-claims reads.Pre reads.Post) → class_at s.args.classes.now s.args.v < s.args.k
+class_lt : (s : lts.Start reads.Pre reads.Post) → class_at s.args.classes.now s.args.v < s.args.k
 class_lt s = s.requires.2.inside s.args.v s.requires.3
 
 pub overflow_cast-d : goal.overflow_cast-d

@@ -5,7 +5,7 @@ use native.Mathlib.Omega.{arith}
 use lib.Dec.{ltb}
 use lib.ListN.{length}
 use borrow.Author.Tests.{ltb-true}
-use Rattle.theory.specs.Logic.Bools.{◌&◌}
+use Rattle.theory.proofs.Logic.Bools.{◌&◌}
 use Rattle.theory.proofs.Logic.BoolsLaws.{and_out}
 use Rattle.large_solution.specs.Places.{end_at, place_over, from_last}
 use Rattle.large_solution.specs.Runs.{Runs, steps_left}
@@ -16,7 +16,7 @@ use Rattle.large_solution.proofs.tests.is_in_run.Reads as is-in-run-reads
 use Rattle.large_solution.proofs.searches.first_bad_run.Given as goal
 
 abbrev pub invariant-loop-k : goal.invariant-loop-k
-invariant-loop-k l = Runs l.game l.solution l.certificate l.n l.initial.j l.j
+invariant-loop-k l = Runs l.game l.solution l.certificate l.n l.k l.j
 
 abbrev pub decreases-loop-k : goal.decreases-loop-k
-decreases-loop-k l = steps_left l.game l.solution l.certificate l.n l.initial.j l.j
+decreases-loop-k l = steps_left l.game l.solution l.certificate l.n l.k l.j

@@ -8,9 +8,8 @@ use Rattle.large_solution.proofs.tests.is_misplaced.Lts as lts
 use Rattle.large_solution.proofs.tests.is_misplaced.Goals as goal
 use Rattle.large_solution.proofs.tests.is_misplaced.Lts as lts
 use Rattle.large_solution.proofs.tests.is_misplaced.Reads as reads
-use Rattle.large_solution.proofs.tests.is_misplaced.Tie as tie
 
-place : (s : lts.Start tie.the-claims reads.Pre reads.Post) → place_at s.args.certificate.now s.args.v < s.args.n
+place : (s : lts.Start reads.Pre reads.Post) → place_at s.args.certificate.now s.args.v < s.args.n
 place s = s.requires.0.words s.args.v (omega arith)
 
 pub overflow_cast-i : goal.overflow_cast-i

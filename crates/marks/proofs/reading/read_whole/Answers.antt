@@ -9,10 +9,9 @@ use Rattle.std.proofs.Common.{rules}
 use Rattle.marks.proofs.reading.read_whole.Goals as goal
 use Rattle.marks.proofs.reading.read_whole.Lts as lts
 use Rattle.marks.proofs.reading.read_whole.Reads as reads
-use Rattle.marks.proofs.reading.read_whole.Tie as tie
 
 -- a byte is below 2^8
-byte_lt : (c : lts.After-shared_slice_known tie.the-claims reads.Pre reads.Post goal.the-invariant-loop-k goal.the-decreases-loop-k)
+byte_lt : (c : lts.After-shared_slice_known reads.Pre reads.Post goal.the-invariant-loop-k goal.the-decreases-loop-k)
     → let a = c.args in get_or a.marks.now (a.first + c.loop-k.k) 0 < 2 ^ 8
 byte_lt c = omega (arith, c.shared_slice_known-1.given (c.args.first + c.loop-k.k))
 

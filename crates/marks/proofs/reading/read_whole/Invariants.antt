@@ -7,7 +7,7 @@ use Rattle.marks.specs.MarkReadingLaws.{read_none, read_byte}
 use Rattle.marks.proofs.reading.read_whole.Given as goal
 
 abbrev pub invariant-loop-k : goal.invariant-loop-k
-invariant-loop-k l = (l.k ≤ l.count) × BitsRead l.marks (l.first * 8) (8 * l.k) l.initial.k
+invariant-loop-k l = (l.k ≤ l.count) × BitsRead l.marks (l.first * 8) (8 * l.k) l.word
 
 abbrev pub decreases-loop-k : goal.decreases-loop-k
 decreases-loop-k l = l.count - l.k

@@ -2,15 +2,15 @@ use mathlib.Core.Path.{◌≡◌, refl}
 use Prim.Native.Nat.{◌-◌, ◌≤◌}
 use native.Mathlib.Omega.{arith}
 use lib.ListN.{length, length-set, get_or}
-use Rattle.theory.specs.Logic.Range.{tabulate}
+use Rattle.theory.proofs.Logic.Range.{tabulate}
 use Rattle.table.specs.Answers.{written}
 use Rattle.table.specs.AnswersLaws.{written_start, written_more}
 use Rattle.marks.proofs.writing.copy_marks.Given as goal
 
 abbrev pub invariant-loop-i : goal.invariant-loop-i
-invariant-loop-i l = (l.i ≤ l.to)
-    × (length l.initial.i ≡ length l.initial.to)
-    × (l.initial.i ≡ written (tabulate l.i (λ j. get_or l.from j 0)) l.initial.to)
+invariant-loop-i l = (l.i ≤ l.count)
+    × (length l.to ≡ length l.initial.to)
+    × (l.to ≡ written (tabulate l.i (λ j. get_or l.from j 0)) l.initial.to)
 
 abbrev pub decreases-loop-i : goal.decreases-loop-i
-decreases-loop-i l = l.to - l.i
+decreases-loop-i l = l.count - l.i

@@ -3,7 +3,7 @@ use Prim.Native.Nat.{◌-◌, ◌*◌, ◌≤◌}
 use native.Mathlib.Nat.{zero-mul}
 use native.Mathlib.Omega.{arith}
 use lib.ListN.{length}
-use Rattle.theory.specs.Logic.Range.{tabulate}
+use Rattle.theory.proofs.Logic.Range.{tabulate}
 use Rattle.table.specs.Answers.{written}
 use Rattle.order_rows.specs.Bits.{cell}
 use Rattle.marks.specs.Marks.{bytes}
@@ -13,8 +13,8 @@ use Rattle.marks.proofs.writing.write_marks.Given as goal
 
 abbrev pub invariant-loop-v : goal.invariant-loop-v
 invariant-loop-v l = (l.v ≤ l.n)
-    × (length l.initial.v ≡ length l.initial.marks)
-    × (l.initial.v ≡ written (bytes (tabulate (l.v * l.n) (row_mark l.n (cell l.rows)))) l.initial.marks)
+    × (length l.marks ≡ length l.initial.marks)
+    × (l.marks ≡ written (bytes (tabulate (l.v * l.n) (row_mark l.n (cell l.rows)))) l.initial.marks)
 
 abbrev pub decreases-loop-v : goal.decreases-loop-v
 decreases-loop-v l = l.n - l.v

@@ -9,10 +9,10 @@ use Rattle.marks.specs.MarkWritingLaws.{bits_start, bits_byte, left_byte}
 use Rattle.marks.proofs.writing.write_whole.Given as goal
 
 abbrev pub invariant-loop-k : goal.invariant-loop-k
-invariant-loop-k l = (l.k ≤ l.word)
-    × (l.initial.k ≡ l.at / 2 ^ (8 * l.k))
-    × (length l.rest ≡ length l.initial.marks)
-    × BitsWritten l.at l.marks (8 * l.k) l.initial.marks l.rest
+invariant-loop-k l = (l.k ≤ l.count)
+    × (l.rest ≡ l.word / 2 ^ (8 * l.k))
+    × (length l.marks ≡ length l.initial.marks)
+    × BitsWritten l.word l.at (8 * l.k) l.initial.marks l.marks
 
 abbrev pub decreases-loop-k : goal.decreases-loop-k
-decreases-loop-k l = l.word - l.k
+decreases-loop-k l = l.count - l.k

@@ -9,9 +9,9 @@ use Rattle.order_sets.specs.EdgesLaws.{edges_start, edges_next}
 use Rattle.order_losses.proofs.edges.add_edges.Given as goal
 
 abbrev pub invariant-loop-j : goal.invariant-loop-j
-invariant-loop-j l = (l.j ≤ l.n)
-    × (length l.initial.j ≡ length l.initial.edges)
-    × EdgesTo l.game l.j l.initial.j
+invariant-loop-j l = (l.j ≤ l.m)
+    × (length l.edges ≡ length l.initial.edges)
+    × EdgesTo l.game l.j l.edges
 
 abbrev pub decreases-loop-j : goal.decreases-loop-j
-decreases-loop-j l = l.n - l.j
+decreases-loop-j l = l.m - l.j

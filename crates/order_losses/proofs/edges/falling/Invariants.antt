@@ -1,7 +1,7 @@
 use mathlib.Core.Path.{refl, sym, ap, ap₂, ◌∙◌}
 use mathlib.Core.Bool.{not}
 use Prim.Native.Nat.{◌+◌, ◌-◌, ◌*◌, ◌≤◌}
-use Rattle.theory.specs.Logic.Bools.{◌&◌, ◌or◌}
+use Rattle.theory.proofs.Logic.Bools.{◌&◌, ◌or◌}
 use Rattle.words.specs.WordLaws.{digit_or, digit_and, digit_less}
 use Rattle.words.specs.WordsLaws.{has_at}
 use Rattle.order_rows.specs.Bits.{row_words, apart}
@@ -10,7 +10,7 @@ use Rattle.order_losses.specs.Losses.{falling_rows}
 use Rattle.order_losses.proofs.edges.falling.Given as goal
 
 abbrev pub invariant-loop-j : goal.invariant-loop-j
-invariant-loop-j l = (l.j ≤ row_words) × Filled l.j l.initial.j (falling_rows l.edges l.near l.player l.x)
+invariant-loop-j l = (l.j ≤ row_words) × Filled l.j l.out (falling_rows l.edges l.near l.player l.x)
 
 abbrev pub decreases-loop-j : goal.decreases-loop-j
 decreases-loop-j l = row_words - l.j

@@ -11,9 +11,9 @@ use Rattle.order_losses.proofs.losses.lose_all.Given as goal
 
 abbrev pub invariant-loop-j : goal.invariant-loop-j
 invariant-loop-j l = (l.j ≤ row_words)
-    × (length l.losing ≡ length l.initial.next)
-    × (length l.initial.j ≡ length l.next)
-    × LossesTo l.edges l.related l.lost l.falls l.changed l.near (l.j * 64) l.losing l.initial.j
+    × (length l.next ≡ length l.initial.next)
+    × (length l.losing ≡ length l.initial.losing)
+    × LossesTo l.edges l.related l.lost l.falls l.changed l.near (l.j * 64) l.next l.losing
 
 abbrev pub decreases-loop-j : goal.decreases-loop-j
 decreases-loop-j l = row_words - l.j

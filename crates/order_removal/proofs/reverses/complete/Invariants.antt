@@ -11,10 +11,10 @@ use Rattle.order_sets.specs.ReversesLaws.{MirrorTo, mirror_start, mirror_next, m
 use Rattle.order_removal.proofs.reverses.complete.Given as goal
 
 abbrev pub invariant-loop-v : goal.invariant-loop-v
-invariant-loop-v l = Reached (has l.losing) row_bits l.v
-    × (length l.which ≡ length l.initial.next)
-    × (length l.initial.v ≡ length l.next)
-    × MirrorTo row_bits (has l.losing) (cell l.initial.next) (has l.next) l.v (cell l.which) (has l.initial.v)
+invariant-loop-v l = Reached (has l.which) row_bits l.v
+    × (length l.next ≡ length l.initial.next)
+    × (length l.losing ≡ length l.initial.losing)
+    × MirrorTo row_bits (has l.which) (cell l.initial.next) (has l.initial.losing) l.v (cell l.next) (has l.losing)
 
 abbrev pub decreases-loop-v : goal.decreases-loop-v
 decreases-loop-v l = row_bits - l.v

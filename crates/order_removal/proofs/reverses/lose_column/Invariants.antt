@@ -10,9 +10,9 @@ use Rattle.order_removal.proofs.reverses.lose_column.Given as goal
 
 abbrev pub invariant-loop-j : goal.invariant-loop-j
 invariant-loop-j l = (l.j ≤ row_words)
-    × (length l.which ≡ length l.initial.next)
-    × (length l.initial.j ≡ length l.next)
-    × ColumnTo row_bits (has l.losing) l.initial.losing (cell l.initial.next) (has l.next) l.j (cell l.which) (has l.initial.j)
+    × (length l.next ≡ length l.initial.next)
+    × (length l.losing ≡ length l.initial.losing)
+    × ColumnTo row_bits (has l.which) l.v (cell l.initial.next) (has l.initial.losing) l.j (cell l.next) (has l.losing)
 
 abbrev pub decreases-loop-j : goal.decreases-loop-j
 decreases-loop-j l = row_words - l.j

@@ -8,10 +8,10 @@ use Rattle.order_rows.specs.Bits.{row_bits, cell}
 use Rattle.order_removal.proofs.reverses.lose_word.Given as goal
 
 abbrev pub invariant-loop-left : goal.invariant-loop-left
-invariant-loop-left l = (length l.v ≡ length l.initial.next)
-    × (length l.initial.left ≡ length l.next)
-    × Left l.losing l.left
-    × WordTo row_bits l.initial.losing l.losing l.base (cell l.initial.next) (has l.next) l.left (cell l.v) (has l.initial.left)
+invariant-loop-left l = (length l.next ≡ length l.initial.next)
+    × (length l.losing ≡ length l.initial.losing)
+    × Left l.which l.left
+    × WordTo row_bits l.base l.which l.v (cell l.initial.next) (has l.initial.losing) l.left (cell l.next) (has l.losing)
 
 abbrev pub decreases-loop-left : goal.decreases-loop-left
 decreases-loop-left l = l.left

@@ -2,7 +2,7 @@ use mathlib.Core.Path.{◌≡◌, refl, ◌∙◌}
 use Prim.Native.Nat.{◌+◌, ◌-◌}
 use native.Mathlib.Omega.{arith}
 use lib.ListN.{length}
-use Rattle.theory.specs.Logic.Range.{count}
+use Rattle.theory.proofs.Logic.Range.{count}
 use Rattle.theory.proofs.Logic.RangeLaws.{first_ge}
 use Rattle.theory.proofs.Logic.CountLaws.{count_le}
 use Rattle.theory.proofs.Logic.SumLaws.{sum_le}
@@ -16,10 +16,10 @@ use Rattle.order_removal.proofs.rows.take_all.Given as goal
 
 abbrev pub invariant-loop-a : goal.invariant-loop-a
 invariant-loop-a l = Reached (has l.losing) row_bits l.a
-    × (length l.falls ≡ length l.initial.related)
-    × (length l.initial.cleared ≡ length l.related)
-    × (length l.cleared ≡ length l.initial.lost)
-    × TakenTo l.edges l.next l.losing l.a l.initial.related l.initial.a l.falls l.initial.cleared l.cleared
+    × (length l.related ≡ length l.initial.related)
+    × (length l.lost ≡ length l.initial.lost)
+    × (length l.falls ≡ length l.initial.falls)
+    × TakenTo l.edges l.next l.losing l.a l.initial.related l.cleared l.related l.lost l.falls
 
 abbrev pub decreases-loop-a : goal.decreases-loop-a
 decreases-loop-a l = row_bits - l.a

@@ -12,13 +12,13 @@ use Rattle.order_sets.specs.RoundsLaws.{all_row, parted_none, started_none, star
 use Rattle.order_rounds.proofs.start.begin.Given as goal
 
 abbrev pub invariant-loop-v : goal.invariant-loop-v
-invariant-loop-v l = (l.v ≤ l.initial.falls)
-    × (length l.changed ≡ length l.initial.related)
-    × (length l.n ≡ length l.related)
-    × (length l.all ≡ length l.initial.lost)
-    × (length l.initial.v ≡ length l.lost)
-    × Parted (game_of l.game) l.v l.changed l.n l.all
-    × Started (game_of l.game) l.v l.initial.v
+invariant-loop-v l = (l.v ≤ l.n)
+    × (length l.related ≡ length l.initial.related)
+    × (length l.lost ≡ length l.initial.lost)
+    × (length l.falls ≡ length l.initial.falls)
+    × (length l.changed ≡ length l.initial.changed)
+    × Parted (game_of l.game) l.v l.related l.lost l.falls
+    × Started (game_of l.game) l.v l.changed
 
 abbrev pub decreases-loop-v : goal.decreases-loop-v
-decreases-loop-v l = l.initial.falls - l.v
+decreases-loop-v l = l.n - l.v

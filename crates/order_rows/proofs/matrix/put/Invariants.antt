@@ -7,7 +7,7 @@ use Rattle.order_rows.specs.MatrixLaws.{PutTo, put_start, put_next, put_end}
 use Rattle.order_rows.proofs.matrix.put.Given as goal
 
 abbrev pub invariant-loop-k : goal.invariant-loop-k
-invariant-loop-k l = (l.k ≤ row_words) × (length l.initial.k ≡ length l.initial.words) × PutTo l.k l.initial.words l.initial.k l.words l.v
+invariant-loop-k l = (l.k ≤ row_words) × (length l.words ≡ length l.initial.words) × PutTo l.k l.initial.words l.words l.v l.r
 
 abbrev pub decreases-loop-k : goal.decreases-loop-k
 decreases-loop-k l = row_words - l.k

@@ -6,7 +6,7 @@ use Rattle.order_rows.specs.MatrixLaws.{cell_at}
 use Rattle.order_rows.proofs.matrix.row.Given as goal
 
 abbrev pub invariant-loop-k : goal.invariant-loop-k
-invariant-loop-k l = (l.k ≤ row_words) × Filled l.k l.initial.k (cell l.words l.v)
+invariant-loop-k l = (l.k ≤ row_words) × Filled l.k l.out (cell l.words l.v)
 
 abbrev pub decreases-loop-k : goal.decreases-loop-k
 decreases-loop-k l = row_words - l.k

@@ -1,7 +1,7 @@
 use mathlib.Core.Path.{◌≡◌, sym, ap₂, ◌∙◌}
 use mathlib.Core.Bool.{not, false}
 use Prim.Native.Nat.{◌+◌, ◌-◌}
-use Rattle.theory.specs.Logic.Bools.{◌&◌}
+use Rattle.theory.proofs.Logic.Bools.{◌&◌}
 use Rattle.theory.proofs.Logic.BoolsLaws.{not_out}
 use Rattle.theory.proofs.Logic.RangeLaws.{any_fails}
 use Rattle.words.specs.Words.{has}
@@ -11,7 +11,7 @@ use Rattle.order_rows.proofs.matrix.strip_word.Given as goal
 
 abbrev pub invariant-loop-left : goal.invariant-loop-left
 invariant-loop-left l = Left l.which l.left
-    × RowIs l.initial.left (λ x. has l.initial.out x & not (done l.which (λ k. cell l.words (l.base + k) x) l.left))
+    × RowIs l.out (λ x. has l.initial.out x & not (done l.which (λ k. cell l.words (l.base + k) x) l.left))
 
 abbrev pub decreases-loop-left : goal.decreases-loop-left
 decreases-loop-left l = l.left

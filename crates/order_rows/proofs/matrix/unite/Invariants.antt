@@ -1,14 +1,14 @@
 use mathlib.Core.Path.{◌≡◌, ap, ◌∙◌}
 use Prim.Native.Nat.{◌-◌, ◌≤◌}
 use native.Mathlib.Omega.{arith}
-use Rattle.theory.specs.Logic.Range.{any_below}
+use Rattle.theory.proofs.Logic.Range.{any_below}
 use Rattle.order_rows.specs.Bits.{row_words, RowIs}
 use Rattle.words.specs.WordsLaws.{has_zero}
 use Rattle.order_rows.specs.MatrixLaws.{united_to, united_next, united_end}
 use Rattle.order_rows.proofs.matrix.unite.Given as goal
 
 abbrev pub invariant-loop-j : goal.invariant-loop-j
-invariant-loop-j l = (l.j ≤ row_words) × RowIs l.initial.j (λ x. united_to l.words l.base l.which x l.j)
+invariant-loop-j l = (l.j ≤ row_words) × RowIs l.out (λ x. united_to l.words l.base l.which x l.j)
 
 abbrev pub decreases-loop-j : goal.decreases-loop-j
 decreases-loop-j l = row_words - l.j

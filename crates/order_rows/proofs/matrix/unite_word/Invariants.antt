@@ -1,6 +1,6 @@
 use mathlib.Core.Path.{ap₂, ◌∙◌}
 use Prim.Native.Nat.{◌+◌, ◌-◌}
-use Rattle.theory.specs.Logic.Bools.{◌or◌}
+use Rattle.theory.proofs.Logic.Bools.{◌or◌}
 use Rattle.words.specs.Words.{has}
 use Rattle.order_rows.specs.Bits.{RowIs, cell}
 use Rattle.words.specs.LeftLaws.{Left, left_start, left_next, done, or_start, or_next, or_end}
@@ -8,7 +8,7 @@ use Rattle.order_rows.proofs.matrix.unite_word.Given as goal
 
 abbrev pub invariant-loop-left : goal.invariant-loop-left
 invariant-loop-left l = Left l.which l.left
-    × RowIs l.initial.left (λ x. has l.initial.out x or done l.which (λ k. cell l.words (l.base + k) x) l.left)
+    × RowIs l.out (λ x. has l.initial.out x or done l.which (λ k. cell l.words (l.base + k) x) l.left)
 
 abbrev pub decreases-loop-left : goal.decreases-loop-left
 decreases-loop-left l = l.left

@@ -1,6 +1,6 @@
 use mathlib.Core.Path.{refl, sym, ap₂, ◌∙◌}
 use Prim.Native.Nat.{◌-◌, ◌≤◌}
-use Rattle.theory.specs.Logic.Bools.{◌&◌}
+use Rattle.theory.proofs.Logic.Bools.{◌&◌}
 use Rattle.words.specs.Words.{has}
 use Rattle.order_rows.specs.Bits.{row_words}
 use Rattle.words.specs.WordLaws.{digit_and}
@@ -9,7 +9,7 @@ use Rattle.order_rows.specs.RowLaws.{Filled, filled_start, filled_next, filled_e
 use Rattle.order_rows.proofs.row.common.Given as goal
 
 abbrev pub invariant-loop-k : goal.invariant-loop-k
-invariant-loop-k l = (l.k ≤ row_words) × Filled l.k l.initial.k (λ x. has l.a x & has l.b x)
+invariant-loop-k l = (l.k ≤ row_words) × Filled l.k l.out (λ x. has l.a x & has l.b x)
 
 abbrev pub decreases-loop-k : goal.decreases-loop-k
 decreases-loop-k l = row_words - l.k

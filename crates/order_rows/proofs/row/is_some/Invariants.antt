@@ -1,9 +1,9 @@
 use mathlib.Core.Path.{◌≡◌, sym, ap, ◌∙◌}
 use Prim.Native.Nat.{ℕ, ◌-◌, ◌*◌, ◌≤◌}
 use native.Mathlib.Omega.{arith}
-use Rattle.theory.specs.Logic.Bools.{◌or◌}
+use Rattle.theory.proofs.Logic.Bools.{◌or◌}
 use lib.ListN.{get_or}
-use Rattle.theory.specs.Logic.Range.{any_below}
+use Rattle.theory.proofs.Logic.Range.{any_below}
 use Rattle.theory.proofs.Logic.RangeLaws.{any_ext}
 use Rattle.words.specs.Word.{word_bits, digit}
 use Rattle.words.specs.Words.{has}
@@ -13,7 +13,7 @@ use Rattle.order_rows.specs.RowLaws.{any_words, any_or}
 use Rattle.order_rows.proofs.row.is_some.Given as goal
 
 abbrev pub invariant-loop-k : goal.invariant-loop-k
-invariant-loop-k l = (l.k ≤ row_words) × (any_below word_bits (digit l.initial.k) ≡ any_below (l.k * 64) (has l.a))
+invariant-loop-k l = (l.k ≤ row_words) × (any_below word_bits (digit l.all) ≡ any_below (l.k * 64) (has l.a))
 
 abbrev pub decreases-loop-k : goal.decreases-loop-k
 decreases-loop-k l = row_words - l.k

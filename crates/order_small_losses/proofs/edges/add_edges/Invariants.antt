@@ -11,7 +11,7 @@ use Rattle.order_small_losses.specs.EdgeWordsLaws.{word_added}
 use Rattle.order_small_losses.proofs.edges.add_edges.Given as goal
 
 abbrev pub invariant-loop-j : goal.invariant-loop-j
-invariant-loop-j l = (l.j ≤ l.n) × (length l.initial.j ≡ length l.initial.edges) × EdgesIn word_bits l.game l.j (bit l.initial.j)
+invariant-loop-j l = (l.j ≤ l.m) × (length l.edges ≡ length l.initial.edges) × EdgesIn word_bits l.game l.j (bit l.edges)
 
 abbrev pub decreases-loop-j : goal.decreases-loop-j
-decreases-loop-j l = l.n - l.j
+decreases-loop-j l = l.m - l.j

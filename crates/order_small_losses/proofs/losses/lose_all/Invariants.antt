@@ -14,8 +14,8 @@ use Rattle.order_small_losses.proofs.losses.lose_all.Given as goal
 
 abbrev pub invariant-loop-left : goal.invariant-loop-left
 invariant-loop-left l = Onward l.near l.left
-    × (length l.losing ≡ length l.initial.next)
-    × GameLosses word_bits (bit l.edges) (bit l.related) (bit l.lost) (bit l.falls) (digit l.changed) (digit l.near) (0 + lowest_bit l.left) (bit l.losing) (digit l.initial.left)
+    × (length l.next ≡ length l.initial.next)
+    × GameLosses word_bits (bit l.edges) (bit l.related) (bit l.lost) (bit l.falls) (digit l.changed) (digit l.near) (0 + lowest_bit l.left) (bit l.next) (digit l.losing)
 
 abbrev pub decreases-loop-left : goal.decreases-loop-left
 decreases-loop-left l = l.left

@@ -1,6 +1,6 @@
 use mathlib.Core.Path.{ap, ◌∙◌}
 use Prim.Native.Nat.{◌+◌}
-use Rattle.theory.specs.Logic.Bools.{◌or◌}
+use Rattle.theory.proofs.Logic.Bools.{◌or◌}
 use Rattle.theory.proofs.Logic.BoolsLaws.{or_first}
 use Rattle.words.specs.Word.{word_bits, digit}
 use Rattle.words.specs.WordLaws.{digit_zero, digit_or}
@@ -11,7 +11,7 @@ use Rattle.order_small_losses.proofs.sets.unite.Given as goal
 
 abbrev pub invariant-loop-left : goal.invariant-loop-left
 invariant-loop-left l = Left l.which l.left
-    × Is word_bits (digit l.initial.left) (λ x. digit l.initial.out x or done l.which (λ k. bit l.words (l.base + k) x) l.left)
+    × Is word_bits (digit l.out) (λ x. digit l.initial.out x or done l.which (λ k. bit l.words (l.base + k) x) l.left)
 
 abbrev pub decreases-loop-left : goal.decreases-loop-left
 decreases-loop-left l = l.left

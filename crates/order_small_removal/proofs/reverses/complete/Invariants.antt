@@ -10,9 +10,9 @@ use Rattle.order_small_losses.specs.Words.{bit}
 use Rattle.order_small_removal.proofs.reverses.complete.Given as goal
 
 abbrev pub invariant-loop-v : goal.invariant-loop-v
-invariant-loop-v l = Reached (digit l.next) word_bits l.v
-    × (length l.more ≡ length l.initial.next)
-    × MirrorTo word_bits (digit l.next) (bit l.initial.next) (digit l.next) l.v (bit l.more) (digit l.initial.v)
+invariant-loop-v l = Reached (digit l.losing) word_bits l.v
+    × (length l.next ≡ length l.initial.next)
+    × MirrorTo word_bits (digit l.losing) (bit l.initial.next) (digit l.losing) l.v (bit l.next) (digit l.more)
 
 abbrev pub decreases-loop-v : goal.decreases-loop-v
 decreases-loop-v l = word_bits - l.v

@@ -9,9 +9,9 @@ use Rattle.order_small_removal.specs.ColumnWordLaws.{pair_base, column_word}
 use Rattle.order_small_removal.proofs.reverses.lose_column.Given as goal
 
 abbrev pub invariant-loop-left : goal.invariant-loop-left
-invariant-loop-left l = (length l.more ≡ length l.initial.next)
-    × Left l.losing l.left
-    × WordTo word_bits 0 l.losing l.which (bit l.initial.next) (digit l.next) l.left (bit l.more) (digit l.initial.left)
+invariant-loop-left l = (length l.next ≡ length l.initial.next)
+    × Left l.which l.left
+    × WordTo word_bits 0 l.which l.v (bit l.initial.next) (digit l.losing) l.left (bit l.next) (digit l.more)
 
 abbrev pub decreases-loop-left : goal.decreases-loop-left
 decreases-loop-left l = l.left

@@ -2,7 +2,7 @@ use mathlib.Core.Path.{◌≡◌, refl, ◌∙◌}
 use Prim.Native.Nat.{◌+◌, ◌-◌}
 use native.Mathlib.Omega.{arith}
 use lib.ListN.{length}
-use Rattle.theory.specs.Logic.Range.{count}
+use Rattle.theory.proofs.Logic.Range.{count}
 use Rattle.theory.proofs.Logic.RangeLaws.{first_ge}
 use Rattle.theory.proofs.Logic.CountLaws.{count_le}
 use Rattle.theory.proofs.Logic.SumLaws.{sum_le}
@@ -16,10 +16,10 @@ use Rattle.order_small_removal.proofs.rows.take_all.Given as goal
 
 abbrev pub invariant-loop-a : goal.invariant-loop-a
 invariant-loop-a l = Reached (digit l.losing) word_bits l.a
-    × (length l.falls ≡ length l.initial.related)
-    × (length l.initial.cleared ≡ length l.related)
-    × (length l.cleared ≡ length l.initial.lost)
-    × TakenIn word_bits (bit l.edges) (bit l.next) (digit l.losing) l.a (bit l.initial.related) l.initial.a (bit l.falls) (bit l.initial.cleared) (bit l.cleared)
+    × (length l.related ≡ length l.initial.related)
+    × (length l.lost ≡ length l.initial.lost)
+    × (length l.falls ≡ length l.initial.falls)
+    × TakenIn word_bits (bit l.edges) (bit l.next) (digit l.losing) l.a (bit l.initial.related) l.cleared (bit l.related) (bit l.lost) (bit l.falls)
 
 abbrev pub decreases-loop-a : goal.decreases-loop-a
 decreases-loop-a l = word_bits - l.a

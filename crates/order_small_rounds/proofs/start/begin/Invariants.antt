@@ -13,12 +13,12 @@ use Rattle.order_small_losses.specs.EdgeWordsLaws.{word_differs}
 use Rattle.order_small_rounds.proofs.start.begin.Given as goal
 
 abbrev pub invariant-loop-v : goal.invariant-loop-v
-invariant-loop-v l = (l.v ≤ l.lost)
-    × (length l.all ≡ length l.initial.related)
-    × (length l.initial.changed ≡ length l.related)
-    × (length l.changed ≡ length l.initial.lost)
-    × PartedIn word_bits (game_of l.game) l.v (bit l.all) (bit l.initial.changed) (bit l.changed)
-    × StartedIn word_bits (game_of l.game) l.v (digit l.initial.v)
+invariant-loop-v l = (l.v ≤ l.n)
+    × (length l.related ≡ length l.initial.related)
+    × (length l.lost ≡ length l.initial.lost)
+    × (length l.falls ≡ length l.initial.falls)
+    × PartedIn word_bits (game_of l.game) l.v (bit l.related) (bit l.lost) (bit l.falls)
+    × StartedIn word_bits (game_of l.game) l.v (digit l.changed)
 
 abbrev pub decreases-loop-v : goal.decreases-loop-v
-decreases-loop-v l = l.lost - l.v
+decreases-loop-v l = l.n - l.v

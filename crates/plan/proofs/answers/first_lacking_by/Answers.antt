@@ -4,21 +4,16 @@ use Prim.Native.Nat.{ℕ, ◌≤◌, ◌-◌}
 use mathlib.Core.Path.{◌≡◌, refl, sym, ◌∙◌}
 use mathlib.Core.List.{List}
 use lib.ListN.{length}
-use Rattle.theory.specs.Logic.Range.{first}
+use Rattle.theory.proofs.Logic.Range.{first}
 use Rattle.theory.proofs.Logic.RangeLaws.{first_step, first_hit, first_end_lem}
 use Rattle.plan_returns.specs.Search.{NoLater}
 use Rattle.plan.specs.Acceptance.{lacks_link, first_lacking_link}
 use Rattle.plan.specs.AnswerLaws.{space_kept}
+use Rattle.plan.proofs.answers.first_lacking_by.Invariants.{Inv}
 use Rattle.plan.proofs.answers.first_lacking_by.Goals as goal
 use Rattle.plan.proofs.answers.first_lacking_by.Lts as lts
 use Rattle.plan.proofs.answers.first_lacking_by.Reads as reads
 use Rattle.plan.proofs.answers.first_lacking_by.Tie as tie
-
-record Inv (game : List ℕ) (player : ℕ) (plan stamps₀ : List ℕ) (p : ℕ) (stamps : List ℕ) (i : ℕ) : Type 0 where
-  inside : i ≤ p
-  room : length stamps ≡ length stamps₀
-  latest : NoLater i stamps
-  rest : first (lacks_link game player plan) 0 p ≡ first (lacks_link game player plan) i p
 
 abbrev start : lts.After-shared_slice_known7 tie.the-claims reads.Pre reads.Post goal.the-invariant-loop-i goal.the-decreases-loop-i → lts.Start tie.the-claims reads.Pre reads.Post goal.the-invariant-loop-i goal.the-decreases-loop-i
 start c = search

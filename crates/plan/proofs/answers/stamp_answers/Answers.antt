@@ -8,16 +8,11 @@ use Rattle.index.specs.IndexLaws.{indexed_size, indexed_order}
 use Rattle.plan_links.specs.LinkIndexLaws.{Target, indexed_target}
 use Rattle.plan.specs.Stamps.{StampedTo}
 use Rattle.plan.specs.StampsLaws.{stamped_none, stamped_more, stamped_all}
+use Rattle.plan.proofs.answers.stamp_answers.Invariants.{Inv}
 use Rattle.plan.proofs.answers.stamp_answers.Goals as goal
 use Rattle.plan.proofs.answers.stamp_answers.Lts as lts
 use Rattle.plan.proofs.answers.stamp_answers.Reads as reads
 use Rattle.plan.proofs.answers.stamp_answers.Tie as tie
-
-record Inv (plan starts targets stamps₀ : List ℕ) (i stamp : ℕ) (stamps : List ℕ) (t : ℕ) : Type 0 where
-  from : get_or starts i 0 ≤ t
-  to : t ≤ get_or starts (i + 1) 0
-  room : length stamps ≡ length stamps₀
-  stamped : StampedTo plan targets (get_or starts i 0) t stamp stamps₀ stamps
 
 within : (c : lts.Then1 tie.the-claims reads.Pre reads.Post goal.the-invariant-loop-t goal.the-decreases-loop-t) → c.loop-t.t < get_or c.args.starts.now (c.args.i + 1) 0
 within c = rw c.run_of-run.ensures at c.loop-t-test.true

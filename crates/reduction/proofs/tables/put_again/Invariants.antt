@@ -2,14 +2,14 @@ use mathlib.Core.Path.{◌≡◌}
 use Prim.Native.Nat.{◌+◌, ◌-◌, ◌≤◌}
 use native.Mathlib.Omega.{arith}
 use lib.ListN.{length, get_or, length-set}
-use Rattle.theory.specs.Logic.Range.{tabulate}
+use Rattle.theory.proofs.Logic.Range.{tabulate}
 use Rattle.table.specs.Placing.{placed}
 use Rattle.table.specs.PlacingLaws.{placed_start}
 use Rattle.reduction.proofs.SourcesLaws.{again_more}
 use Rattle.reduction.proofs.tables.put_again.Given as goal
 
 abbrev pub invariant-loop-i : goal.invariant-loop-i
-invariant-loop-i l = (l.i ≤ l.at) × (length l.initial.i ≡ length l.initial.words) × (l.initial.i ≡ placed (l.words + l.at) (tabulate l.i (λ j. get_or l.initial.words (l.words + j) 0)) l.initial.words)
+invariant-loop-i l = (l.i ≤ l.count) × (length l.words ≡ length l.initial.words) × (l.words ≡ placed (l.at + l.count) (tabulate l.i (λ j. get_or l.initial.words (l.at + j) 0)) l.initial.words)
 
 abbrev pub decreases-loop-i : goal.decreases-loop-i
-decreases-loop-i l = l.at - l.i
+decreases-loop-i l = l.count - l.i

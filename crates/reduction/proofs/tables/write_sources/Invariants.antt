@@ -12,8 +12,8 @@ abbrev pub start : tie.In-loop invariant-loop decreases-loop → tie.Start invar
 start c = search
 
 abbrev pub invariant-loop-c : goal.invariant-loop-c
-invariant-loop-c l = (l.c ≤ l.k) × (length l.start ≡ length l.initial.output) × (l.initial.c ≡ start_of l.output l.stops l.c) × (l.initial.c ≡ l.output + length (spread l.output l.stops l.c)) × (l.initial.c ≤ length l.initial.output)
-    × (l.start ≡ placed l.output (spread l.output l.stops l.c) l.initial.output)
+invariant-loop-c l = (l.c ≤ l.k) × (length l.output ≡ length l.initial.output) × (l.start ≡ start_of l.at l.stops l.c) × (l.start ≡ l.at + length (spread l.at l.stops l.c)) × (l.start ≤ length l.initial.output)
+    × (l.output ≡ placed l.at (spread l.at l.stops l.c) l.initial.output)
 
 abbrev pub decreases-loop-c : goal.decreases-loop-c
 decreases-loop-c l = l.k - l.c

@@ -14,7 +14,7 @@ use Rattle.reduction_edges.proofs.ListingLaws.{put_none, put_join, row_start_lem
 use Rattle.reduction_edges.proofs.listing.append_row.Given as goal
 
 abbrev pub invariant-loop-d : goal.invariant-loop-d
-invariant-loop-d l = Reached (has l.row) l.n l.d × (length l.r ≡ length l.initial.ends) × Put (map (number_of l.classes) (picked l.d (keeps l.row l.dropped))) l.ends l.initial.ends l.r l.initial.d
+invariant-loop-d l = Reached (has l.row) l.n l.d × (length l.ends ≡ length l.initial.ends) × Put (map (number_of l.classes) (picked l.d (keeps l.row l.dropped))) l.e l.initial.ends l.ends l.r
 
 abbrev pub decreases-loop-d : goal.decreases-loop-d
 decreases-loop-d l = l.n - l.d

@@ -3,13 +3,13 @@ use mathlib.Core.Path.{◌≡◌}
 use Prim.Native.Nat.{ℕ, ◌+◌, ◌-◌, ◌*◌, ◌≤◌}
 use native.Mathlib.Omega.{arith}
 use lib.ListN.{length, length-map, length-set}
-use Rattle.theory.specs.Logic.Range.{pairs_below}
+use Rattle.theory.proofs.Logic.Range.{pairs_below}
 use Rattle.table.specs.Table.{game_of, table_edges}
 use Rattle.reduction_edges.proofs.ListingLaws.{rows_none, rows_more, rows_few}
 use Rattle.reduction_edges.proofs.listing.list_classes.Given as goal
 
 abbrev pub invariant-loop-c : goal.invariant-loop-c
-invariant-loop-c l = (l.c ≤ l.k) × (length l.initial.e ≡ length l.initial.stops) × (length l.e ≡ length l.stops) × Listed l.k (game_by l.drop (game_of l.game)).edge l.initial.ends l.c l.stops l.e l.initial.e l.initial.c
+invariant-loop-c l = (l.c ≤ l.k) × (length l.stops ≡ length l.initial.stops) × (length l.ends ≡ length l.initial.ends) × Listed l.k (game_by l.drop (game_of l.game)).edge l.at l.c l.initial.ends l.ends l.stops l.e
 
 abbrev pub decreases-loop-c : goal.decreases-loop-c
 decreases-loop-c l = l.k - l.c

@@ -9,7 +9,7 @@ use Rattle.reduction_edges.proofs.LittleBrothersLaws.{nothing, DroppedTo, droppe
 use Rattle.reduction_edges.proofs.little_brothers.drop_all.Given as goal
 
 abbrev pub invariant-loop-d : goal.invariant-loop-d
-invariant-loop-d l = Reached (has l.row) l.n l.d × (length l.initial.d ≡ length l.initial.dropped) × DroppedTo l.even l.n l.marks l.row l.d l.initial.d
+invariant-loop-d l = Reached (has l.row) l.n l.d × (length l.dropped ≡ length l.initial.dropped) × DroppedTo l.even l.n l.marks l.row l.d l.dropped
 
 abbrev pub decreases-loop-d : goal.decreases-loop-d
 decreases-loop-d l = l.n - l.d

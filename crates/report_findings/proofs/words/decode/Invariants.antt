@@ -2,7 +2,7 @@ use mathlib.Core.Path.{◌≡◌}
 use Prim.Native.Nat.{◌+◌, ◌*◌, ◌-◌, ◌≤◌}
 use native.Mathlib.Omega.{arith}
 use lib.ListN.{length, length-set}
-use Rattle.theory.specs.Logic.Range.{tabulate}
+use Rattle.theory.proofs.Logic.Range.{tabulate}
 use Rattle.table.specs.Answers.{written}
 use Rattle.table.specs.AnswersLaws.{written_start, written_more}
 use Rattle.theory.proofs.Logic.ListLaws.{length_tabulate}
@@ -11,7 +11,7 @@ use Rattle.report_findings.specs.WordsLaws.{words_end}
 use Rattle.report_findings.proofs.words.decode.Given as goal
 
 abbrev pub invariant-loop-i : goal.invariant-loop-i
-invariant-loop-i l = (2 * l.i ≤ length l.bytes + 1) × (length l.initial.i ≡ length l.initial.words) × (l.initial.i ≡ written (tabulate l.i (word_at l.bytes)) l.initial.words)
+invariant-loop-i l = (2 * l.i ≤ length l.bytes + 1) × (length l.words ≡ length l.initial.words) × (l.words ≡ written (tabulate l.i (word_at l.bytes)) l.initial.words)
 
 abbrev pub decreases-loop-i : goal.decreases-loop-i
 decreases-loop-i l = length l.bytes - l.i

@@ -8,7 +8,7 @@ use Rattle.table.specs.FlagsLaws.{cleared_none, cleared_more, source_word, sourc
 use Rattle.table.proofs.searches.clear_sources.Given as goal
 
 abbrev pub invariant-loop-j : goal.invariant-loop-j
-invariant-loop-j l = (l.j ≤ l.m) × (length l.initial.j ≡ length l.initial.lacking) × Cleared l.game l.j l.initial.j
+invariant-loop-j l = (l.j ≤ l.m) × (length l.lacking ≡ length l.initial.lacking) × Cleared l.game l.j l.lacking
 
 abbrev pub decreases-loop-j : goal.decreases-loop-j
 decreases-loop-j l = l.m - l.j

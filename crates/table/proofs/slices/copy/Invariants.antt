@@ -3,12 +3,12 @@ use Rattle.table.specs.PlacingLaws.{placed_start, placed_more}
 use Prim.Native.Nat.{◌-◌, ◌≤◌}
 use native.Mathlib.Omega.{arith}
 use lib.ListN.{length, get_or, length-set}
-use Rattle.theory.specs.Logic.Range.{tabulate}
+use Rattle.theory.proofs.Logic.Range.{tabulate}
 use Rattle.table.specs.Placing.{placed}
 use Rattle.table.proofs.slices.copy.Given as goal
 
 abbrev pub invariant-loop-j : goal.invariant-loop-j
-invariant-loop-j l = (l.j ≤ l.from) × (length l.initial.j ≡ length l.initial.words) × (l.initial.j ≡ placed l.words (tabulate l.j (λ i. get_or l.at i 0)) l.initial.words)
+invariant-loop-j l = (l.j ≤ l.count) × (length l.words ≡ length l.initial.words) × (l.words ≡ placed l.at (tabulate l.j (λ i. get_or l.from i 0)) l.initial.words)
 
 abbrev pub decreases-loop-j : goal.decreases-loop-j
-decreases-loop-j l = l.from - l.j
+decreases-loop-j l = l.count - l.j

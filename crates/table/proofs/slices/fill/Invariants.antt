@@ -3,12 +3,12 @@ use Rattle.table.specs.PlacingLaws.{placed_start, placed_more}
 use Prim.Native.Nat.{◌-◌, ◌≤◌}
 use native.Mathlib.Omega.{arith}
 use lib.ListN.{length, length-set}
-use Rattle.theory.specs.Logic.Range.{tabulate}
+use Rattle.theory.proofs.Logic.Range.{tabulate}
 use Rattle.table.specs.Placing.{placed}
 use Rattle.table.proofs.slices.fill.Given as goal
 
 abbrev pub invariant-loop-i : goal.invariant-loop-i
-invariant-loop-i l = (l.i ≤ l.at) × (length l.initial.i ≡ length l.initial.words) × (l.initial.i ≡ placed l.words (tabulate l.i (λ j. l.count)) l.initial.words)
+invariant-loop-i l = (l.i ≤ l.count) × (length l.words ≡ length l.initial.words) × (l.words ≡ placed l.at (tabulate l.i (λ j. l.value)) l.initial.words)
 
 abbrev pub decreases-loop-i : goal.decreases-loop-i
-decreases-loop-i l = l.at - l.i
+decreases-loop-i l = l.count - l.i

@@ -8,7 +8,7 @@ use Rattle.table.specs.HighestLaws.{highest_of_more}
 use Rattle.table.proofs.slices.highest.Given as goal
 
 abbrev pub invariant-loop-i : goal.invariant-loop-i
-invariant-loop-i l = (l.i ≤ l.count) × (l.initial.i ≡ highest_of l.i (λ j. get_or l.words (l.at + j) 0))
+invariant-loop-i l = (l.i ≤ l.count) × (l.most ≡ highest_of l.i (λ j. get_or l.words (l.at + j) 0))
 
 abbrev pub decreases-loop-i : goal.decreases-loop-i
 decreases-loop-i l = l.count - l.i

@@ -5,7 +5,7 @@ use mathlib.Core.Bool.{So}
 use Prim.Native.Nat.{◌+◌, ◌-◌, ◌≤◌}
 use borrow.Author.Tests.{eqb-true, eqb-false}
 use Rattle.theory.proofs.Logic.BoolsLaws.{So_not}
-use Rattle.theory.specs.Logic.Range.{first}
+use Rattle.theory.proofs.Logic.Range.{first}
 use Rattle.theory.proofs.Logic.RangeLaws.{first_step, first_hit, first_end_lem}
 use Rattle.table_convert.specs.ConvertCall.{oversize, first_oversize}
 use Rattle.table_convert.specs.ConvertCallLaws.{oversize_in, oversize_out}
@@ -13,10 +13,9 @@ use Rattle.std.proofs.Common.{rules}
 use Rattle.table_convert.proofs.writing.first_oversize.Goals as goal
 use Rattle.table_convert.proofs.writing.first_oversize.Lts as lts
 use Rattle.table_convert.proofs.writing.first_oversize.Reads as reads
-use Rattle.table_convert.proofs.writing.first_oversize.Tie as tie
 
 -- word k isn't one: one of the tests failed
-miss : (c : lts.Joined1 tie.the-claims reads.Pre reads.Post goal.the-invariant-loop-k goal.the-decreases-loop-k) → So (oversize c.args.game.now c.loop-k.k) → ⊥
+miss : (c : lts.Joined1 reads.Pre reads.Post goal.the-invariant-loop-k goal.the-decreases-loop-k) → So (oversize c.args.game.now c.loop-k.k) → ⊥
 miss c h =
     let p = c.requires in
     let t = oversize_out _ _ h in

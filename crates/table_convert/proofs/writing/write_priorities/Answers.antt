@@ -3,7 +3,7 @@ use mathlib.Core.Path.{◌≡◌}
 use Prim.Native.Nat.{◌+◌, ◌-◌, ◌≤◌}
 use native.Mathlib.Omega.{arith}
 use lib.ListN.{length, length-set}
-use Rattle.theory.specs.Logic.Range.{tabulate}
+use Rattle.theory.proofs.Logic.Range.{tabulate}
 use Rattle.table.specs.Table.{priority_at}
 use Rattle.table.specs.Placing.{placed}
 use Rattle.table.specs.PlacingLaws.{placed_start, placed_more}
@@ -11,10 +11,9 @@ use Rattle.std.proofs.Common.{rules}
 use Rattle.table_convert.proofs.writing.write_priorities.Goals as goal
 use Rattle.table_convert.proofs.writing.write_priorities.Lts as lts
 use Rattle.table_convert.proofs.writing.write_priorities.Reads as reads
-use Rattle.table_convert.proofs.writing.write_priorities.Tie as tie
 
 -- the new priority of vertex v is a word
-room : (c : lts.After-shared_slice_known tie.the-claims reads.Pre reads.Post goal.the-invariant-loop-v goal.the-decreases-loop-v) → let a = c.args in
+room : (c : lts.After-shared_slice_known reads.Pre reads.Post goal.the-invariant-loop-v goal.the-decreases-loop-v) → let a = c.args in
     (priority_at a.game.now c.loop-v.v ≤ a.even) × (a.even - priority_at a.game.now c.loop-v.v ≤ 65535)
 room c = c.requires.2 c.loop-v.v c.loop-v-test.true
 

@@ -2,14 +2,14 @@ use mathlib.Core.Path.{◌≡◌}
 use Prim.Native.Nat.{◌+◌, ◌-◌, ◌≤◌}
 use native.Mathlib.Omega.{arith}
 use lib.ListN.{length, length-set}
-use Rattle.theory.specs.Logic.Range.{tabulate}
+use Rattle.theory.proofs.Logic.Range.{tabulate}
 use Rattle.table.specs.Table.{priority_at}
 use Rattle.table.specs.Placing.{placed}
 use Rattle.table.specs.PlacingLaws.{placed_start, placed_more}
 use Rattle.table_convert.proofs.writing.write_priorities.Given as goal
 
 abbrev pub invariant-loop-v : goal.invariant-loop-v
-invariant-loop-v l = (l.v ≤ l.n) × (length l.initial.v ≡ length l.initial.output) × (l.initial.v ≡ placed 2 (tabulate l.v (λ i. l.even - priority_at l.game i)) l.initial.output)
+invariant-loop-v l = (l.v ≤ l.n) × (length l.output ≡ length l.initial.output) × (l.output ≡ placed 2 (tabulate l.v (λ i. l.even - priority_at l.game i)) l.initial.output)
 
 abbrev pub decreases-loop-v : goal.decreases-loop-v
 decreases-loop-v l = l.n - l.v
