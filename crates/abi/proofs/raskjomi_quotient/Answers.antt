@@ -1,5 +1,5 @@
 -- The quotient has no more vertices and edges than the game, so the counts fit their fields.
-use Rattle.theory.proofs.Classes.Reduction.{quotient}
+use Rattle.theory.specs.Classes.Reduction.{quotient}
 use Rattle.theory.proofs.Classes.SizeLaws.{quotient_size, quotient_edges}
 use Rattle.abi_answer.specs.FieldsLaws.{tabulation_small}
 use Rattle.abi.proofs.raskjomi_quotient.Goals as goal

@@ -1,5 +1,5 @@
 -- The reduced game has no more vertices and edges than the game, so the counts fit their fields.
-use Rattle.theory.proofs.Classes.Reduction.{reduced}
+use Rattle.theory.specs.Classes.Reduction.{reduced}
 use Rattle.theory.proofs.Classes.SizeLaws.{reduced_size, reduced_edges}
 use Rattle.abi_answer.specs.FieldsLaws.{tabulation_small}
 use Rattle.abi.proofs.raskjomi_reduce.Goals as goal

@@ -1,6 +1,6 @@
 -- A refusal of the reader or of the memory stands; otherwise what the reduced-game call leaves, and what `carry_reduced` answers and writes.
 use mathlib.Core.Path.{ap, refl}
-use Rattle.theory.proofs.Classes.Reduction.{reduced}
+use Rattle.theory.specs.Classes.Reduction.{reduced}
 use Rattle.reduction_edges.specs.Rows.{game_by}
 use Rattle.reduction.specs.TableCall.{tabulation_answer, TableCall}
 use Rattle.reduction.proofs.TableCallLaws.{sized, table_handed}

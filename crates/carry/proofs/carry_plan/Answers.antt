@@ -2,7 +2,7 @@
 use mathlib.Core.Path.{◌≡◌, sym, ap, ◌∙◌}
 use mathlib.Core.List.{[]}
 use native.Mathlib.Omega.{arith}
-use Rattle.theory.proofs.Order.Order.{order_marks, order_passes}
+use Rattle.theory.specs.Order.Order.{order_marks, order_passes}
 use Rattle.table.specs.Table.{vertex_count}
 use Rattle.table.specs.Answers.{accepted, judge}
 use Rattle.table.specs.WellFormed.{WellSized}

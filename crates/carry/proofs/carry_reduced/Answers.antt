@@ -2,7 +2,7 @@
 use mathlib.Core.Path.{◌≡◌, sym, ap, ◌∙◌, subst}
 use mathlib.Core.List.{[]}
 use lib.Seq.{length-take-le}
-use Rattle.theory.proofs.Classes.Reduction.{reduced}
+use Rattle.theory.specs.Classes.Reduction.{reduced}
 use Rattle.table.specs.Answers.{accepted, judge}
 use Rattle.table.specs.WellFormed.{WellFormed}
 use Rattle.table.specs.Acceptance.{acceptance_answer}

@@ -3,7 +3,7 @@ use native.Mathlib.Omega.{arith}
 use mathlib.Core.Path.{◌≡◌, sym, ◌∙◌}
 use Prim.Native.Nat.{◌-◌, ◌<◌}
 use lib.ListN.{get_or}
-use Rattle.theory.proofs.Logic.Range.{first}
+use Rattle.theory.specs.Logic.Range.{first}
 use Rattle.table.specs.Table.{vertex_count}
 use Rattle.plan_links.specs.PlanTable.{link_count, link_source}
 use Rattle.carry_replies.specs.Replies.{link_to}

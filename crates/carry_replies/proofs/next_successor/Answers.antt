@@ -2,7 +2,7 @@
 use native.Mathlib.Omega.{arith}
 use mathlib.Core.Path.{◌≡◌, ◌∙◌}
 use Prim.Native.Nat.{◌+◌, ◌*◌, ◌≤◌}
-use Rattle.theory.proofs.Logic.Range.{first}
+use Rattle.theory.specs.Logic.Range.{first}
 use Rattle.table.specs.Limits.{pair_limit}
 use Rattle.table.specs.Flags.{flagged}
 use Rattle.carry_replies.specs.SuccessorLaws.{first_shift, row_end}

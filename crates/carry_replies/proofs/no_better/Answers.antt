@@ -1,6 +1,6 @@
 -- By the player's number.
 use borrow.Author.Tests.{ne_eqb}
-use Rattle.theory.proofs.Classes.Reduction.{no_better}
+use Rattle.theory.specs.Classes.Reduction.{no_better}
 use Rattle.table.specs.Table.{player_of}
 use Rattle.carry_replies.proofs.no_better.Goals as goal
 

@@ -4,7 +4,7 @@ use mathlib.Core.Path.{◌≡◌, refl, ◌∙◌}
 use Prim.Native.Nat.{◌+◌, ◌-◌, ◌≤◌}
 use native.Mathlib.Omega.{arith}
 use lib.ListN.{length}
-use Rattle.theory.proofs.Carry.Carry.{moves_below}
+use Rattle.theory.specs.Carry.Carry.{moves_below}
 use Rattle.table.specs.Table.{vertex_count}
 use Rattle.plan_links.specs.PlanTable.{position_count}
 use Rattle.carry_replies.specs.SuccessorLaws.{successor_le, successor_ge}

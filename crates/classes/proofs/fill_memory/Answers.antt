@@ -1,6 +1,6 @@
 -- Without `mirror`, the marks, the number of classes and the class words are by definition those of the order.
-use Rattle.theory.proofs.Order.Governed.{marks_by, relation_by}
-use Rattle.theory.proofs.Classes.Reduction.{class_of}
+use Rattle.theory.specs.Order.Governed.{marks_by, relation_by}
+use Rattle.theory.specs.Classes.Reduction.{class_of}
 use Rattle.table.specs.Table.{game_of}
 use Rattle.classes.specs.ClassesCall.{class_total, class_words, total_of, words_of}
 use Rattle.classes.proofs.fill_memory.Goals as goal

@@ -1,6 +1,6 @@
 -- The reader's refusal is handed on; the rest is the part that both relations share.
-use Rattle.theory.proofs.Order.Governed.{marks_by, relation_by}
-use Rattle.theory.proofs.Classes.Reduction.{class_of}
+use Rattle.theory.specs.Order.Governed.{marks_by, relation_by}
+use Rattle.theory.specs.Classes.Reduction.{class_of}
 use Rattle.table.specs.Table.{game_of}
 use Rattle.classes.specs.ClassesCall.{class_total, class_words, total_of, words_of, total_answer}
 use Rattle.table.specs.WellFormed.{WellSized}

@@ -6,7 +6,7 @@ use Prim.Native.Nat.{ℕ, ◌≤◌}
 use native.Mathlib.Omega.{arith}
 use lib.ListN.{length, take, length-set}
 use lib.Seq.{length-take-le}
-use Rattle.theory.proofs.Logic.Range.{first}
+use Rattle.theory.specs.Logic.Range.{first}
 use Rattle.table.specs.Limits.{edge_limit}
 use Rattle.table.specs.Table.{table_length, table_in}
 use Rattle.edit_rules.specs.EditParts.{Formed, leads}

@@ -1,6 +1,6 @@
 -- A case for each way out.
 use borrow.Author.Tests.{eq-eqb, ne_eqb}
-use Rattle.theory.proofs.Logic.Bools.{◌&◌}
+use Rattle.theory.specs.Logic.Bools.{◌&◌}
 use Rattle.edit_run.proofs.is_kept.Goals as goal
 
 pub returns-then-copies-ne0 : goal.returns-then-copies-ne0

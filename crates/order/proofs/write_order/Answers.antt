@@ -1,5 +1,5 @@
 -- The reader's refusal is handed on; the rest is the part that both relations share.
-use Rattle.theory.proofs.Order.Governed.{marks_by, passes_by}
+use Rattle.theory.specs.Order.Governed.{marks_by, passes_by}
 use Rattle.table.specs.WellFormed.{WellSized}
 use Rattle.table.specs.ReadingLaws.{reading_accepted}
 use Rattle.order.specs.OrderCallLaws.{order_handed}

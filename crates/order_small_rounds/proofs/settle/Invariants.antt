@@ -3,7 +3,7 @@ use Prim.Native.Nat.{◌+◌, ◌-◌, ◌≤◌}
 use native.Mathlib.Nat.{mul-le-mul}
 use native.Mathlib.Omega.{arith}
 use lib.ListN.{length}
-use Rattle.theory.proofs.Order.Rows.{AfterRound}
+use Rattle.theory.specs.Order.Rows.{AfterRound}
 use Rattle.table.specs.Limits.{pair_limit}
 use Rattle.table.specs.Table.{pair_count, game_of}
 use Rattle.words.specs.Word.{word_bits, digit}

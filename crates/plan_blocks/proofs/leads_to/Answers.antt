@@ -3,7 +3,7 @@ use native.Mathlib.Nat.{le_refl}
 use Prim.Native.Nat.{◌-◌}
 use mathlib.Core.Path.{◌≡◌, refl, sym, ◌∙◌}
 use lib.ListN.{get_or}
-use Rattle.theory.proofs.Logic.Range.{any_from}
+use Rattle.theory.specs.Logic.Range.{any_from}
 use Rattle.theory.proofs.Logic.RangeLaws.{from_in, from_step, from_end}
 use Rattle.index.specs.Index.{among}
 use Rattle.plan_blocks.specs.Refining.{numbered, leads_to}

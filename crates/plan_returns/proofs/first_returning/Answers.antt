@@ -4,7 +4,7 @@ use Prim.Native.Nat.{ℕ, ◌≤◌, ◌-◌}
 use mathlib.Core.Path.{◌≡◌, refl, sym, ◌∙◌}
 use mathlib.Core.List.{List}
 use lib.ListN.{length}
-use Rattle.theory.proofs.Logic.Range.{first}
+use Rattle.theory.specs.Logic.Range.{first}
 use Rattle.theory.proofs.Logic.RangeLaws.{first_step, first_hit, first_end_lem}
 use Rattle.plan_blocks.specs.Blocks.{link_by, Confined}
 use Rattle.plan_blocks.specs.BlocksLaws.{confined_one}

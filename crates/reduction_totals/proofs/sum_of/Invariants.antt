@@ -2,7 +2,7 @@ use mathlib.Core.Path.{◌≡◌}
 use Prim.Native.Nat.{◌*◌, ◌-◌, ◌≤◌}
 use native.Mathlib.Omega.{arith}
 use lib.ListN.{get_or}
-use Rattle.theory.proofs.Logic.Range.{sum}
+use Rattle.theory.specs.Logic.Range.{sum}
 use Rattle.theory.proofs.Logic.SumLaws.{sum_none, sum_next}
 use Rattle.reduction_totals.proofs.sum_of.Given as goal
 

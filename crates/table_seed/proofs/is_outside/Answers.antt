@@ -1,6 +1,6 @@
 -- Each side of the `or` is one of the code's tests.
 use Rattle.std.proofs.Common.{eq-eqb, ne_eqb}
-use Rattle.theory.proofs.Logic.Bools.{◌or◌}
+use Rattle.theory.specs.Logic.Bools.{◌or◌}
 use Rattle.table_seed.specs.SeedCall.{outside}
 use Rattle.table_seed.proofs.is_outside.Goals as goal
 

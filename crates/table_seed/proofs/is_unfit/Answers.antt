@@ -1,6 +1,6 @@
 -- Each side of the `or` is one of the code's tests.
 use Rattle.std.proofs.Common.{◌≡◌, false, sym, ◌∙◌, arith, rules}
-use Rattle.theory.proofs.Logic.Bools.{◌or◌}
+use Rattle.theory.specs.Logic.Bools.{◌or◌}
 use Rattle.table.specs.Limits.{vertex_limit}
 use Rattle.table_seed.specs.GeneratorLaws.{product_lt}
 use Rattle.table_seed.specs.SeedCall.{degree_limit, priority_limit, outside, unfit}

@@ -3,7 +3,7 @@ use mathlib.Core.Path.{sym, ap}
 use Prim.Native.Nat.{◌≤◌, ◌<◌}
 use native.Mathlib.Omega.{arith}
 use lib.Seq.{length-take-le}
-use Rattle.theory.proofs.Classes.Reduction.{reduced}
+use Rattle.theory.specs.Classes.Reduction.{reduced}
 use Rattle.table.specs.Limits.{vertex_limit, edge_limit}
 use Rattle.table.specs.Table.{vertex_count}
 use Rattle.table.specs.ReadingLaws.{well_clean}

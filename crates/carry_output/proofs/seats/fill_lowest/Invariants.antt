@@ -3,8 +3,8 @@ use mathlib.Core.List.{List}
 use Prim.Native.Nat.{ℕ, ◌+◌, ◌-◌, ◌≤◌, ◌<◌}
 use native.Mathlib.Omega.{arith}
 use lib.ListN.{length, get_or, set, length-set}
-use Rattle.theory.proofs.Order.Order.{order}
-use Rattle.theory.proofs.Classes.Reduction.{class_number}
+use Rattle.theory.specs.Order.Order.{order}
+use Rattle.theory.specs.Classes.Reduction.{class_number}
 use Rattle.theory.proofs.Classes.QuotientLaws.{order_preorder}
 use Rattle.theory.proofs.Classes.ClassLaws.{class_number_lt, class_count_le}
 use Rattle.table.specs.Table.{vertex_count, game_of}

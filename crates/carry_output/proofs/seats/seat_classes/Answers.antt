@@ -4,7 +4,7 @@ use mathlib.Core.Bool.{true}
 use Prim.Native.Nat.{ℕ, ◌<◌}
 use native.Mathlib.Omega.{arith}
 use lib.ListN.{length, get_or, length-replicate}
-use Rattle.theory.proofs.Order.Order.{order}
+use Rattle.theory.specs.Order.Order.{order}
 use Rattle.table.specs.Limits.{vertex_limit}
 use Rattle.table.specs.Table.{game_of}
 use Rattle.classes.specs.Numbering.{Represented}

@@ -3,8 +3,8 @@ use mathlib.Core.Path.{◌≡◌, refl, sym, ◌∙◌}
 use Prim.Native.Nat.{◌-◌, ◌<◌, ◌≤◌}
 use native.Mathlib.Omega.{arith}
 use Rattle.theory.proofs.Logic.RangeLaws.{first_end_lem}
-use Rattle.theory.proofs.Logic.Range.{first}
-use Rattle.theory.proofs.Classes.Reduction.{same_class, lowest}
+use Rattle.theory.specs.Logic.Range.{first}
+use Rattle.theory.specs.Classes.Reduction.{same_class, lowest}
 use Rattle.marks.specs.Marks.{relation}
 use Rattle.classes.specs.MemberSearchLaws.{first_part, first_rest}
 use Rattle.std.proofs.Common.{rules}

@@ -3,8 +3,8 @@ use mathlib.Core.Path.{◌≡◌, ap, ◌∙◌}
 use Prim.Native.Nat.{◌-◌, ◌≤◌}
 use native.Mathlib.Omega.{arith}
 use lib.ListN.{length, length-set}
-use Rattle.theory.proofs.Logic.Range.{tabulate}
-use Rattle.theory.proofs.Classes.Reduction.{class_number}
+use Rattle.theory.specs.Logic.Range.{tabulate}
+use Rattle.theory.specs.Classes.Reduction.{class_number}
 use Rattle.table.specs.Answers.{written}
 use Rattle.table.specs.AnswersLaws.{written_start, written_more}
 use Rattle.marks.specs.Marks.{relation}

@@ -3,8 +3,8 @@ use mathlib.Core.Path.{◌≡◌, sym, ap, ◌∙◌}
 use Prim.Native.Nat.{ℕ, ◌≤◌, ◌<◌}
 use native.Mathlib.Omega.{arith}
 use lib.ListN.{get_or, set}
-use Rattle.theory.proofs.Order.Order.{Preorder}
-use Rattle.theory.proofs.Classes.Reduction.{class_number}
+use Rattle.theory.specs.Order.Order.{Preorder}
+use Rattle.theory.specs.Classes.Reduction.{class_number}
 use Rattle.marks.specs.Marks.{relation}
 use Rattle.classes.specs.Numbering.{Numbered}
 use Rattle.classes.specs.NumberingLaws.{numbered_le, class_new, numbered_new, lowest_before, class_old, numbered_old}

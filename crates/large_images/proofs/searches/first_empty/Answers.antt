@@ -1,7 +1,7 @@
 -- The rest of the search finds what the whole does.
 use mathlib.Core.Path.{◌≡◌, sym, ◌∙◌}
 use Prim.Native.Nat.{◌≤◌, ◌-◌}
-use Rattle.theory.proofs.Logic.Range.{first}
+use Rattle.theory.specs.Logic.Range.{first}
 use Rattle.theory.proofs.Logic.RangeLaws.{first_step, first_hit, first_end_lem}
 use Rattle.large_images.specs.Images.{member_strays}
 use Rattle.std.proofs.Common.{rules}

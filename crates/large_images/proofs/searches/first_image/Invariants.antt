@@ -1,6 +1,6 @@
 use mathlib.Core.Path.{◌≡◌, sym, ◌∙◌}
 use Prim.Native.Nat.{◌≤◌, ◌-◌}
-use Rattle.theory.proofs.Logic.Range.{first}
+use Rattle.theory.specs.Logic.Range.{first}
 use Rattle.theory.proofs.Logic.RangeLaws.{first_step, first_hit, first_end_lem}
 use Rattle.large_images.specs.Images.{image_strays}
 use Rattle.large_images.proofs.searches.first_image.Given as goal

@@ -1,7 +1,7 @@
 -- The last edge, or the two sources decide.
 use mathlib.Core.Path.{sym}
 use borrow.Author.Tests.{lt-ltb}
-use Rattle.theory.proofs.Logic.Bools.{◌&◌}
+use Rattle.theory.specs.Logic.Bools.{◌&◌}
 use Rattle.large_images.specs.Images.{goes_on}
 use Rattle.large_images.proofs.ImagesLaws.{goes_ends}
 use Rattle.large_images.proofs.tests.goes_on.Goals as goal

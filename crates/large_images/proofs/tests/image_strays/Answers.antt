@@ -2,7 +2,7 @@
 use Prim.Native.Nat.{◌+◌, ◌<◌}
 use native.Mathlib.Omega.{arith}
 use borrow.Author.Tests.{le-leb, lt-leb, eq-eqb, ne_eqb}
-use Rattle.theory.proofs.Logic.Bools.{◌or◌}
+use Rattle.theory.specs.Logic.Bools.{◌or◌}
 use Rattle.large_table.specs.Words.{source_of, target_of}
 use Rattle.large_images.specs.Images.{image_strays}
 use Rattle.large_images.proofs.tests.image_strays.Goals as goal

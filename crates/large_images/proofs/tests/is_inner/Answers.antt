@@ -1,7 +1,7 @@
 -- The first edge, or the two sources decide.
 use native.Mathlib.Omega.{arith}
 use borrow.Author.Tests.{lt-ltb, le-ltb}
-use Rattle.theory.proofs.Logic.Bools.{◌&◌}
+use Rattle.theory.specs.Logic.Bools.{◌&◌}
 use Rattle.large_images.specs.Images.{is_inner}
 use Rattle.large_images.proofs.tests.is_inner.Goals as goal
 

@@ -3,7 +3,7 @@ use Prim.Native.Nat.{◌+◌, ◌<◌}
 use native.Mathlib.Omega.{arith}
 use lib.ListN.{get_or}
 use borrow.Author.Tests.{eq-eqb, ne_eqb}
-use Rattle.theory.proofs.Logic.Bools.{◌&◌}
+use Rattle.theory.specs.Logic.Bools.{◌&◌}
 use Rattle.large_images.specs.Images.{class_at, start_at, owner_strays}
 use Rattle.large_images.proofs.tests.owner_strays.Goals as goal
 use Rattle.large_images.proofs.tests.owner_strays.Lts as lts

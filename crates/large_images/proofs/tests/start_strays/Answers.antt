@@ -3,7 +3,7 @@ use Prim.Native.Nat.{◌+◌, ◌*◌}
 use native.Mathlib.Omega.{arith}
 use lib.ListN.{get_or}
 use borrow.Author.Tests.{le-leb, lt-leb, eq-eqb, ne_eqb}
-use Rattle.theory.proofs.Logic.Bools.{◌or◌}
+use Rattle.theory.specs.Logic.Bools.{◌or◌}
 use Rattle.large_images.specs.Images.{start_at, start_strays}
 use Rattle.large_images.proofs.tests.start_strays.Goals as goal
 

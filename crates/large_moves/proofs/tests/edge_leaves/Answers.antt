@@ -2,7 +2,7 @@
 use Prim.Native.Nat.{◌+◌, ◌*◌, ◌<◌}
 use native.Mathlib.Omega.{arith}
 use borrow.Author.Tests.{eq-eqb, ne_eqb}
-use Rattle.theory.proofs.Logic.Bools.{◌&◌}
+use Rattle.theory.specs.Logic.Bools.{◌&◌}
 use Rattle.large_table.specs.Words.{source_of, target_of}
 use Rattle.large_moves.specs.Moves.{edge_leaves}
 use Rattle.large_moves.proofs.tests.edge_leaves.Reads as reads

@@ -2,7 +2,7 @@
 use Prim.Native.Nat.{◌+◌}
 use native.Mathlib.Omega.{arith}
 use borrow.Author.Tests.{eq-eqb, ne_eqb}
-use Rattle.theory.proofs.Logic.Bools.{◌or◌}
+use Rattle.theory.specs.Logic.Bools.{◌or◌}
 use Rattle.large_moves.specs.Moves.{keeps_edge}
 use Rattle.large_moves.proofs.tests.keeps_edge.Reads as reads
 use Rattle.large_moves.proofs.tests.keeps_edge.Lts as lts

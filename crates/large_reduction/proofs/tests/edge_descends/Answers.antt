@@ -1,7 +1,7 @@
 -- The first edge, or the two sources decide.
 use native.Mathlib.Omega.{arith}
 use borrow.Author.Tests.{lt-ltb, le-ltb}
-use Rattle.theory.proofs.Logic.Bools.{◌&◌}
+use Rattle.theory.specs.Logic.Bools.{◌&◌}
 use Rattle.large_reduction.specs.ReductionCall.{edge_descends}
 use Rattle.large_reduction.proofs.tests.edge_descends.Goals as goal
 

@@ -3,7 +3,7 @@ use mathlib.Core.Path.{sym, ◌∙◌}
 use Prim.Native.Nat.{ℕ, ◌+◌, ◌*◌, ◌<◌}
 use native.Mathlib.Omega.{arith}
 use borrow.Author.Tests.{not-false}
-use Rattle.theory.proofs.Logic.Bools.{◌&◌}
+use Rattle.theory.specs.Logic.Bools.{◌&◌}
 use Rattle.theory.proofs.Logic.BoolsLaws.{not_out}
 use Rattle.large_table.specs.Words.{source_of, target_of}
 use Rattle.large_solution.specs.Places.{place_at, edge_climbs}

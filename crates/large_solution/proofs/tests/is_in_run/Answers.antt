@@ -2,7 +2,7 @@
 use Prim.Native.Nat.{◌+◌, ◌<◌}
 use native.Mathlib.Omega.{arith}
 use borrow.Author.Tests.{lt-ltb, le-ltb}
-use Rattle.theory.proofs.Logic.Bools.{◌&◌}
+use Rattle.theory.specs.Logic.Bools.{◌&◌}
 use Rattle.large_solution.specs.Places.{vertex_at, place_over}
 use Rattle.large_solution.proofs.tests.is_in_run.Reads as reads
 use Rattle.large_solution.proofs.tests.is_in_run.Lts as lts

@@ -1,6 +1,6 @@
 -- Each test of the definition in its turn.
 use borrow.Author.Tests.{lt-ltb, le-ltb, eq-eqb, ne_eqb}
-use Rattle.theory.proofs.Logic.Bools.{◌&◌, ◌or◌}
+use Rattle.theory.specs.Logic.Bools.{◌&◌, ◌or◌}
 use Rattle.large_solution.specs.Places.{is_over}
 use Rattle.large_solution.proofs.tests.is_over.Reads as reads
 use Rattle.large_solution.proofs.tests.is_over.Lts as lts

@@ -1,5 +1,5 @@
 use Rattle.marks.specs.Marks.{InMarks}
-use Rattle.theory.proofs.Logic.Range.{any_from}
+use Rattle.theory.specs.Logic.Range.{any_from}
 use Rattle.theory.proofs.Logic.RangeLaws.{from_in, from_end, from_step}
 use Rattle.marks.specs.MarkSearch.{has_mark}
 use native.Mathlib.Omega.{arith}

@@ -1,6 +1,6 @@
 -- The two words are the priorities of the game.
 use mathlib.Core.Path.{refl}
-use Rattle.theory.proofs.Order.Order.{equal_priority}
+use Rattle.theory.specs.Order.Order.{equal_priority}
 use Rattle.table.specs.Table.{game_of}
 use Rattle.marks.proofs.test.same_priority.Goals as goal
 

@@ -1,6 +1,6 @@
 -- The three ways out: not marked, unequal priorities, the test.
 use borrow.Author.Tests.{not-true, not-false}
-use Rattle.theory.proofs.Logic.Bools.{◌&◌}
+use Rattle.theory.specs.Logic.Bools.{◌&◌}
 use Rattle.order_acceptor.specs.RelationCall.{direct_pair, fails}
 use Rattle.order_acceptor.proofs.failing.test_fails.Goals as goal
 

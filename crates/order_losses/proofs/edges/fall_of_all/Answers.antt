@@ -1,7 +1,7 @@
 -- Where l is the smaller, as `fall_of`. Else all but what has to stay: what each vertex without a successor in x has is in l.
 use mathlib.Core.Path.{ap₂, ◌∙◌}
 use mathlib.Core.Bool.{not}
-use Rattle.theory.proofs.Logic.Bools.{◌&◌}
+use Rattle.theory.specs.Logic.Bools.{◌&◌}
 use Rattle.words.specs.Words.{has}
 use Rattle.order_sets.specs.LossesLaws.{near_is, fall_rest}
 use Rattle.order_rows.specs.Bits.{row_bits, cell}

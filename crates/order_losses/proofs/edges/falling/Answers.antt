@@ -2,7 +2,7 @@
 use mathlib.Core.Path.{refl, sym, ap, ap₂, ◌∙◌}
 use mathlib.Core.Bool.{not}
 use Prim.Native.Nat.{◌+◌, ◌-◌, ◌*◌, ◌≤◌}
-use Rattle.theory.proofs.Logic.Bools.{◌&◌, ◌or◌}
+use Rattle.theory.specs.Logic.Bools.{◌&◌, ◌or◌}
 use Rattle.words.specs.WordLaws.{digit_or, digit_and, digit_less}
 use Rattle.words.specs.WordsLaws.{has_at}
 use Rattle.order_rows.specs.Bits.{row_words, apart}

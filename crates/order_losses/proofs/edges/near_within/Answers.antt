@@ -1,7 +1,7 @@
 -- A vertex of the mask has a successor in l if it isn't apart from l, and if it stands in the row of predecessors of one in l.
 use mathlib.Core.Path.{ap, ◌∙◌}
 use mathlib.Core.Bool.{not}
-use Rattle.theory.proofs.Logic.Bools.{◌&◌}
+use Rattle.theory.specs.Logic.Bools.{◌&◌}
 use Rattle.words.specs.Words.{has}
 use Rattle.order_sets.specs.LossesLaws.{near_is, near_apart}
 use Rattle.order_rows.specs.Bits.{row_bits, cell}

@@ -1,7 +1,7 @@
 -- A successor whose row did not change lost nothing and has no fall. So of its row an Even vertex loses the falls of the others,
 -- and an Odd vertex what falls by the union of their losses, which `lose_odd` works out.
 use mathlib.Core.Path.{sym, ap, ap₂, ◌∙◌}
-use Rattle.theory.proofs.Logic.Bools.{◌&◌}
+use Rattle.theory.specs.Logic.Bools.{◌&◌}
 use Rattle.words.specs.Words.{has}
 use Rattle.order_rows.specs.Bits.{row_bits, RowIs, cell}
 use Rattle.order_sets.specs.LossesLaws.{loses_odd, loses_even}

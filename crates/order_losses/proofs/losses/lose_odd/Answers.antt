@@ -2,10 +2,10 @@
 use mathlib.Core.Path.{◌≡◌, sym, ap, ◌∙◌}
 use mathlib.Core.Bool.{not}
 use Prim.Native.Nat.{ℕ, ◌<◌}
-use Rattle.theory.proofs.Logic.Bools.{◌&◌}
+use Rattle.theory.specs.Logic.Bools.{◌&◌}
 use Rattle.theory.proofs.Logic.BoolsLaws.{not_out}
-use Rattle.theory.proofs.Games.Game.{Game}
-use Rattle.theory.proofs.Order.Rows.{united, fall}
+use Rattle.theory.specs.Games.Game.{Game}
+use Rattle.theory.specs.Order.Rows.{united, fall}
 use Rattle.words.specs.Words.{has}
 use Rattle.order_rows.specs.Bits.{row_bits, row_words, cell}
 use Rattle.words.specs.WordsLaws.{has_zero}

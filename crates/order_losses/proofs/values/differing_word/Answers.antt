@@ -5,7 +5,7 @@ use Prim.Native.Nat.{ℕ, ◌+◌, ◌-◌, ◌≤◌, ◌<◌}
 use native.Mathlib.Omega.{arith}
 use lib.Dec.{eqb}
 use lib.ListN.{get_or}
-use Rattle.theory.proofs.Logic.Bools.{◌&◌, ◌or◌}
+use Rattle.theory.specs.Logic.Bools.{◌&◌, ◌or◌}
 use Rattle.words.specs.Word.{word_bits, digit}
 use Rattle.words.specs.WordLaws.{digit_zero}
 use Rattle.order_losses.specs.ValuesLaws.{differs_to, differs_start, differs_next, differs_end}

@@ -3,7 +3,7 @@
 use mathlib.Core.Path.{sym, ap₂, ◌∙◌}
 use mathlib.Core.Bool.{not}
 use Prim.Native.Nat.{◌+◌, ◌*◌}
-use Rattle.theory.proofs.Logic.Bools.{◌&◌}
+use Rattle.theory.specs.Logic.Bools.{◌&◌}
 use Rattle.theory.proofs.Logic.BoolsLaws.{not_out, and_one}
 use Rattle.words.specs.Words.{has}
 use Rattle.order_sets.specs.RemovalLaws.{asking_covers, none_asked}

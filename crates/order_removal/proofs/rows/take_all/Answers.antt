@@ -3,7 +3,7 @@ use mathlib.Core.Path.{◌≡◌, refl, ◌∙◌}
 use Prim.Native.Nat.{◌+◌, ◌-◌}
 use native.Mathlib.Omega.{arith}
 use lib.ListN.{length}
-use Rattle.theory.proofs.Logic.Range.{count}
+use Rattle.theory.specs.Logic.Range.{count}
 use Rattle.theory.proofs.Logic.RangeLaws.{first_ge}
 use Rattle.theory.proofs.Logic.CountLaws.{count_le}
 use Rattle.theory.proofs.Logic.SumLaws.{sum_le}

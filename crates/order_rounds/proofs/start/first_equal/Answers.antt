@@ -2,9 +2,9 @@
 use mathlib.Core.Path.{◌≡◌, sym, ◌∙◌}
 use Prim.Native.Nat.{◌≤◌, ◌-◌}
 use borrow.Author.Tests.{eq-eqb, ne_eqb}
-use Rattle.theory.proofs.Logic.Range.{first}
+use Rattle.theory.specs.Logic.Range.{first}
 use Rattle.theory.proofs.Logic.RangeLaws.{first_step, first_hit, first_end_lem}
-use Rattle.theory.proofs.Order.Order.{equal_priority}
+use Rattle.theory.specs.Order.Order.{equal_priority}
 use Rattle.table.specs.Table.{game_of}
 use Rattle.std.proofs.Common.{rules}
 use Rattle.order_rounds.proofs.start.first_equal.Goals as goal

@@ -1,7 +1,7 @@
 -- A vertex found before v has the priority of v, so its row can be copied; otherwise the row is worked out.
 use native.Mathlib.Omega.{arith}
 use Rattle.theory.proofs.Logic.RangeLaws.{first_passes}
-use Rattle.theory.proofs.Order.Order.{equal_priority}
+use Rattle.theory.specs.Order.Order.{equal_priority}
 use Rattle.table.specs.Table.{game_of}
 use Rattle.order_rounds.proofs.start.start_row.Goals as goal
 use Rattle.order_rounds.proofs.start.start_row.Lts as lts

@@ -1,7 +1,7 @@
 -- The first j words of `out` are done. Word j gets the bits k of word j of `which` for which row 64 × j + k does not meet x.
 use mathlib.Core.Path.{refl, sym, ap, ◌∙◌}
 use Prim.Native.Nat.{◌+◌, ◌-◌, ◌*◌, ◌≤◌}
-use Rattle.theory.proofs.Logic.Bools.{◌&◌}
+use Rattle.theory.specs.Logic.Bools.{◌&◌}
 use Rattle.words.specs.Words.{has}
 use Rattle.order_rows.specs.Bits.{row_words, apart}
 use Rattle.words.specs.WordsLaws.{has_at}

@@ -3,7 +3,7 @@ use mathlib.Core.Path.{◌≡◌, sym, ap, ap₂, ◌∙◌}
 use mathlib.Core.Bool.{not}
 use Prim.Native.Nat.{ℕ, ◌+◌, ◌-◌, ◌<◌}
 use lib.Dec.{eqb}
-use Rattle.theory.proofs.Logic.Bools.{◌&◌, ◌or◌}
+use Rattle.theory.specs.Logic.Bools.{◌&◌, ◌or◌}
 use Rattle.theory.proofs.Logic.RangeLaws.{any_ext}
 use Rattle.words.specs.Word.{word_bits, digit}
 use Rattle.words.specs.Words.{has}

@@ -3,7 +3,7 @@
 use mathlib.Core.Path.{◌≡◌, sym, ap₂, ◌∙◌}
 use mathlib.Core.Bool.{not, false}
 use Prim.Native.Nat.{◌+◌, ◌-◌}
-use Rattle.theory.proofs.Logic.Bools.{◌&◌}
+use Rattle.theory.specs.Logic.Bools.{◌&◌}
 use Rattle.theory.proofs.Logic.BoolsLaws.{not_out}
 use Rattle.theory.proofs.Logic.RangeLaws.{any_fails}
 use Rattle.words.specs.Words.{has}

@@ -1,7 +1,7 @@
 use mathlib.Core.Path.{◌≡◌, ap, ◌∙◌}
 use Prim.Native.Nat.{◌-◌, ◌≤◌}
 use native.Mathlib.Omega.{arith}
-use Rattle.theory.proofs.Logic.Range.{any_below}
+use Rattle.theory.specs.Logic.Range.{any_below}
 use Rattle.order_rows.specs.Bits.{row_words, RowIs}
 use Rattle.words.specs.WordsLaws.{has_zero}
 use Rattle.order_rows.specs.MatrixLaws.{united_to, united_next, united_end}

@@ -1,7 +1,7 @@
 -- The first k words of `out` are done: each bit of an `and` of two words is the `and` of their bits.
 use mathlib.Core.Path.{refl, sym, ap₂, ◌∙◌}
 use Prim.Native.Nat.{◌-◌, ◌≤◌}
-use Rattle.theory.proofs.Logic.Bools.{◌&◌}
+use Rattle.theory.specs.Logic.Bools.{◌&◌}
 use Rattle.words.specs.Words.{has}
 use Rattle.order_rows.specs.Bits.{row_words}
 use Rattle.words.specs.WordLaws.{digit_and}

@@ -1,9 +1,9 @@
 use mathlib.Core.Path.{◌≡◌, sym, ap, ◌∙◌}
 use Prim.Native.Nat.{ℕ, ◌-◌, ◌*◌, ◌≤◌}
 use native.Mathlib.Omega.{arith}
-use Rattle.theory.proofs.Logic.Bools.{◌or◌}
+use Rattle.theory.specs.Logic.Bools.{◌or◌}
 use lib.ListN.{get_or}
-use Rattle.theory.proofs.Logic.Range.{any_below}
+use Rattle.theory.specs.Logic.Range.{any_below}
 use Rattle.theory.proofs.Logic.RangeLaws.{any_ext}
 use Rattle.words.specs.Word.{word_bits, digit}
 use Rattle.words.specs.Words.{has}

@@ -3,7 +3,7 @@ use mathlib.Core.Path.{◌≡◌, refl, sym, ap, ap₂, ◌∙◌}
 use Prim.Native.Nat.{ℕ, ◌+◌, ◌-◌, ◌*◌, ◌≤◌}
 use native.Mathlib.Omega.{arith}
 use lib.ListN.{get_or}
-use Rattle.theory.proofs.Logic.Range.{count}
+use Rattle.theory.specs.Logic.Range.{count}
 use Rattle.theory.proofs.Logic.CountLaws.{count_le}
 use Rattle.words.specs.Word.{word_bits, digit}
 use Rattle.words.specs.Words.{has}

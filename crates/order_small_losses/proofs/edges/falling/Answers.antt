@@ -1,6 +1,6 @@
 -- The parts are put together as the definition has them.
 use mathlib.Core.Path.{ap, ap₂, ◌∙◌}
-use Rattle.theory.proofs.Logic.Bools.{◌&◌, ◌or◌}
+use Rattle.theory.specs.Logic.Bools.{◌&◌, ◌or◌}
 use Rattle.words.specs.Word.{word_bits, digit}
 use Rattle.words.specs.WordLaws.{digit_or, digit_and}
 use Rattle.order_sets.specs.Sets.{apart_in}

@@ -2,7 +2,7 @@
 -- and an Odd vertex what falls by the union of their losses, which `lose_odd` works out.
 use mathlib.Core.Path.{sym, ap, ◌∙◌}
 use borrow.Author.Tests.{eq-eqb, ne_eqb}
-use Rattle.theory.proofs.Logic.Bools.{◌&◌}
+use Rattle.theory.specs.Logic.Bools.{◌&◌}
 use Rattle.words.specs.Word.{word_bits, digit}
 use Rattle.words.specs.WordLaws.{digit_and, digit_read}
 use Rattle.order_sets.specs.LossesLaws.{loses_odd, loses_even}

@@ -2,10 +2,10 @@
 use mathlib.Core.Path.{◌≡◌, refl, sym, ap, ◌∙◌}
 use mathlib.Core.Bool.{not}
 use Prim.Native.Nat.{ℕ, ◌<◌}
-use Rattle.theory.proofs.Logic.Bools.{◌&◌}
-use Rattle.theory.proofs.Logic.Range.{any_below}
-use Rattle.theory.proofs.Games.Game.{Game}
-use Rattle.theory.proofs.Order.Rows.{united}
+use Rattle.theory.specs.Logic.Bools.{◌&◌}
+use Rattle.theory.specs.Logic.Range.{any_below}
+use Rattle.theory.specs.Games.Game.{Game}
+use Rattle.theory.specs.Order.Rows.{united}
 use Rattle.words.specs.Word.{word_bits, digit}
 use Rattle.words.specs.WordLaws.{digit_zero, some_none}
 use Rattle.order_sets.specs.Losses.{EdgeSets}

@@ -3,7 +3,7 @@ use Prim.Native.Nat.{◌≤◌, ◌<◌, ◌-◌, ◌+◌}
 use mathlib.Core.Path.{◌≡◌, sym}
 use mathlib.Core.Bool.{false}
 use lib.ListN.{get_or}
-use Rattle.theory.proofs.Logic.Range.{any_from}
+use Rattle.theory.specs.Logic.Range.{any_from}
 use Rattle.index.specs.IndexLaws.{indexed_size, indexed_order}
 use Rattle.plan_links.specs.LinkIndexLaws.{Target, indexed_target}
 use Rattle.plan.specs.Stamps.{unstamped_target}

@@ -5,8 +5,8 @@ use mathlib.Core.List.{List}
 use Prim.Native.Nat.{ℕ, ◌+◌, ◌*◌, ◌≤◌}
 use native.Mathlib.Omega.{arith}
 use lib.ListN.{length}
-use Rattle.theory.proofs.Logic.Range.{pairs_of}
-use Rattle.theory.proofs.Order.Order.{order}
+use Rattle.theory.specs.Logic.Range.{pairs_of}
+use Rattle.theory.specs.Order.Order.{order}
 use Rattle.theory.proofs.Classes.QuotientLaws.{order_preorder}
 use Rattle.theory.proofs.Classes.ClassLaws.{class_count_le}
 use Rattle.table.specs.Table.{vertex_count, table_edges, game_of}

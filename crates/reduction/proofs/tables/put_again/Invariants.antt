@@ -2,7 +2,7 @@ use mathlib.Core.Path.{◌≡◌}
 use Prim.Native.Nat.{◌+◌, ◌-◌, ◌≤◌}
 use native.Mathlib.Omega.{arith}
 use lib.ListN.{length, get_or, length-set}
-use Rattle.theory.proofs.Logic.Range.{tabulate}
+use Rattle.theory.specs.Logic.Range.{tabulate}
 use Rattle.table.specs.Placing.{placed}
 use Rattle.table.specs.PlacingLaws.{placed_start}
 use Rattle.reduction.proofs.SourcesLaws.{again_more}

@@ -5,8 +5,8 @@ use Prim.Native.Nat.{ℕ, ◌+◌, ◌-◌, ◌*◌, ◌≤◌, ◌<◌}
 use native.Mathlib.Omega.{arith}
 use lib.ListN.{length, get_or, take, drop}
 use Rattle.theory.proofs.Logic.ListLaws.{zeros}
-use Rattle.theory.proofs.Order.Order.{order}
-use Rattle.theory.proofs.Classes.Reduction.{representative}
+use Rattle.theory.specs.Order.Order.{order}
+use Rattle.theory.specs.Classes.Reduction.{representative}
 use Rattle.theory.proofs.Classes.QuotientLaws.{rep_lt}
 use Rattle.table.specs.Table.{vertex_count, game_of}
 use Rattle.classes.specs.Numbering.{classes_in}

@@ -3,7 +3,7 @@ use mathlib.Core.Path.{◌≡◌}
 use Prim.Native.Nat.{ℕ, ◌+◌, ◌-◌, ◌*◌, ◌≤◌}
 use native.Mathlib.Omega.{arith}
 use lib.ListN.{length, length-map, length-set}
-use Rattle.theory.proofs.Logic.Range.{pairs_below}
+use Rattle.theory.specs.Logic.Range.{pairs_below}
 use Rattle.table.specs.Table.{game_of, table_edges}
 use Rattle.reduction_edges.proofs.ListingLaws.{rows_none, rows_more, rows_few}
 use Rattle.reduction_edges.proofs.listing.list_classes.Given as goal

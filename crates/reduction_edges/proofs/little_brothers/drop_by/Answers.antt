@@ -1,7 +1,7 @@
 -- For Odd the others are put that d is below; for Even d itself, or nothing.
 use mathlib.Core.Path.{◌≡◌, sym, ap, ◌∙◌}
 use mathlib.Core.Bool.{Bool}
-use Rattle.theory.proofs.Logic.Bools.{◌or◌}
+use Rattle.theory.specs.Logic.Bools.{◌or◌}
 use Rattle.theory.proofs.Logic.BoolsLaws.{or_false}
 use Rattle.words.specs.Words.{has}
 use Rattle.reduction_edges.proofs.LittleBrothersLaws.{drops_odd, drops_none, drops_self}

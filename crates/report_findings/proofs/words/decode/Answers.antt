@@ -3,7 +3,7 @@ use mathlib.Core.Path.{◌≡◌}
 use Prim.Native.Nat.{◌+◌, ◌*◌, ◌-◌, ◌≤◌}
 use native.Mathlib.Omega.{arith}
 use lib.ListN.{length, length-set}
-use Rattle.theory.proofs.Logic.Range.{tabulate}
+use Rattle.theory.specs.Logic.Range.{tabulate}
 use Rattle.table.specs.Answers.{written}
 use Rattle.table.specs.AnswersLaws.{written_start, written_more}
 use Rattle.theory.proofs.Logic.ListLaws.{length_tabulate}

@@ -5,7 +5,7 @@ use mathlib.Core.Bool.{not}
 use Prim.Native.Nat.{ℕ, ◌+◌, ◌-◌, ◌≤◌}
 use native.Mathlib.Omega.{arith}
 use lib.ListN.{length}
-use Rattle.theory.proofs.Logic.Bools.{bit}
+use Rattle.theory.specs.Logic.Bools.{bit}
 use Rattle.table.specs.Flags.{Flagged, different_below}
 use Rattle.table.specs.FlagsLaws.{flagged_none, flagged_more, different_none, different_step, different_all, edge_flags}
 use Rattle.std.proofs.Common.{rules}

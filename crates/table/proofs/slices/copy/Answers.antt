@@ -4,7 +4,7 @@ use Rattle.table.specs.PlacingLaws.{placed_start, placed_more}
 use Prim.Native.Nat.{◌-◌, ◌≤◌}
 use native.Mathlib.Omega.{arith}
 use lib.ListN.{length, get_or, length-set}
-use Rattle.theory.proofs.Logic.Range.{tabulate}
+use Rattle.theory.specs.Logic.Range.{tabulate}
 use Rattle.table.specs.Placing.{placed}
 use Rattle.std.proofs.Common.{rules}
 use Rattle.table.proofs.slices.copy.Goals as goal

@@ -2,7 +2,7 @@ use mathlib.Core.Path.{◌≡◌}
 use Prim.Native.Nat.{◌+◌, ◌-◌, ◌≤◌}
 use native.Mathlib.Omega.{arith}
 use lib.ListN.{length, length-set}
-use Rattle.theory.proofs.Logic.Range.{tabulate}
+use Rattle.theory.specs.Logic.Range.{tabulate}
 use Rattle.table.specs.Table.{priority_at}
 use Rattle.table.specs.Placing.{placed}
 use Rattle.table.specs.PlacingLaws.{placed_start, placed_more}
