@@ -23,25 +23,25 @@ use Rattle.carry.proofs.carry_plan.Reads as reads
 use Rattle.carry.proofs.carry_plan.Tie as tie
 
 -- the reader accepted
-answer : (c : lts.After-reading tie.the-claims reads.Pre reads.Post) → filling_answer (Accepted c.reading-1.given.0.0) ≡ sizes_answer c.args.game.now
+answer : (c : lts.After-reading tie.the-claims reads.Pre reads.Post tie.handed_clauses) → filling_answer (Accepted c.reading-1.given.0.0) ≡ sizes_answer c.args.game.now
 answer c = rw c.reading-1.given.1 at c.read_sizes-reading.ensures
 
-sized : (c : lts.After-reading tie.the-claims reads.Pre reads.Post) → WellSized c.args.game.now c.reading-1.given.0.0
+sized : (c : lts.After-reading tie.the-claims reads.Pre reads.Post tie.handed_clauses) → WellSized c.args.game.now c.reading-1.given.0.0
 sized c = reading_accepted _ _ (answer c)
 
 -- the length that both buffers need
-needed : (c : lts.After-length_for tie.the-claims reads.Pre reads.Post) → c.length_for-needed.result ≡ marks_length (vertex_count c.args.game.now)
+needed : (c : lts.After-length_for tie.the-claims reads.Pre reads.Post tie.handed_clauses) → c.length_for-needed.result ≡ marks_length (vertex_count c.args.game.now)
 needed c = c.length_for-needed.ensures ∙ ap marks_length (sized c.before.before).vertices
 
 -- both buffers are long enough
-fits : (c : lts.Else2 tie.the-claims reads.Pre reads.Post) → let a = c.args in OrderFits a.game.now a.marks.now a.spare.now
+fits : (c : lts.Else2 tie.the-claims reads.Pre reads.Post tie.handed_clauses) → let a = c.args in OrderFits a.game.now a.marks.now a.spare.now
 fits c =
     let n = needed c.before.before in
     record { game = (sized c.before.before.before.before).well; marks_fit = rw n at c.if-marks-needed.false; spare_fit = rw n at c.if-spare-needed.false }
 
 -- the plan passed
-passed : (c : lts.After-enum_told2 tie.the-claims reads.Pre reads.Post)
-    → let r : lts.After-read_sizes tie.the-claims reads.Pre reads.Post = search in let a = (start r).args in
+passed : (c : lts.After-enum_told2 tie.the-claims reads.Pre reads.Post tie.handed_clauses)
+    → let r : lts.After-read_sizes tie.the-claims reads.Pre reads.Post tie.handed_clauses = search in let a = (start r).args in
     accepted [] ≡ judge (plan_rows a.game.now a.player a.plan.now) []
 passed c = ap acceptance_answer (sym c.enum_told-in_default-judged-1.given.1) ∙ c.judge_plan-judged.ensures
 
@@ -71,7 +71,7 @@ returns-in-Refused c = carry_judged _ _ _ _ _ _ _ (fits c.before.before.before.b
 
 pub fill_order-requires : goal.fill_order-requires
 fill_order-requires c = let f = fits c.before.before.before.before.before.before in
-    (f.game, (f.marks_fit, f.spare_fit))
+    record { well_formed = f.game; game_in_bounds = (f.marks_fit, f.spare_fit); }
 
 pub carry_to-requires : goal.carry_to-requires
 carry_to-requires c = let o = fits c.before.before.before.before.before.before.before.before.before.before.before.before.before.before in

@@ -14,18 +14,18 @@ use Rattle.carry_replies.proofs.answer.Lts as lts
 use Rattle.carry_replies.proofs.answer.Reads as reads
 use Rattle.carry_replies.proofs.answer.Tie as tie
 
-abbrev before-owns : lts.After-shared_slice_known8 tie.the-claims reads.Pre reads.Post goal.the-invariant-loop-k goal.the-decreases-loop-k → lts.Start tie.the-claims reads.Pre reads.Post goal.the-invariant-loop-k goal.the-decreases-loop-k
+abbrev before-owns : lts.After-shared_slice_known8 tie.the-claims reads.Pre reads.Post goal.the-invariant-loop-k goal.the-decreases-loop-k tie.handed_clauses → lts.Start tie.the-claims reads.Pre reads.Post goal.the-invariant-loop-k goal.the-decreases-loop-k tie.handed_clauses
 before-owns c = search
 
-abbrev start : lts.After-owns tie.the-claims reads.Pre reads.Post goal.the-invariant-loop-k goal.the-decreases-loop-k → lts.Start tie.the-claims reads.Pre reads.Post goal.the-invariant-loop-k goal.the-decreases-loop-k
+abbrev start : lts.After-owns tie.the-claims reads.Pre reads.Post goal.the-invariant-loop-k goal.the-decreases-loop-k tie.handed_clauses → lts.Start tie.the-claims reads.Pre reads.Post goal.the-invariant-loop-k goal.the-decreases-loop-k tie.handed_clauses
 start c = before-owns c.before
 
 -- the vertex as which i compares
-seat_lt : (e : lts.Start tie.the-claims reads.Pre reads.Post goal.the-invariant-loop-k goal.the-decreases-loop-k) → get_or e.args.seats.now e.args.i 0 < vertex_count e.args.game.now
+seat_lt : (e : lts.Start tie.the-claims reads.Pre reads.Post goal.the-invariant-loop-k goal.the-decreases-loop-k tie.handed_clauses) → get_or e.args.seats.now e.args.i 0 < vertex_count e.args.game.now
 seat_lt e = e.requires.linked.board.inside e.args.i e.requires.i_bound.0
 
 -- the link that the walk looks for
-followed : (c : lts.After-owns tie.the-claims reads.Pre reads.Post goal.the-invariant-loop-k goal.the-decreases-loop-k) → let e = (start c).args in
+followed : (c : lts.After-owns tie.the-claims reads.Pre reads.Post goal.the-invariant-loop-k goal.the-decreases-loop-k tie.handed_clauses) → let e = (start c).args in
     let l = link_count e.plan.now in
     let keeps = link_keeps e.game.now e.player e.plan.now e.seats.now e.w in
     first (good (link_source e.plan.now) l c.owns-lone.result keeps e.i) 0 l
@@ -47,7 +47,7 @@ pub loop-k-init : goal.loop-k-init
 loop-k-init c = let e = start c.before.before in pass_start _ _ _ _ _ _ _ _ e.pre.0.chains e.pre.1.0
 
 pub link_keeps-requires : goal.link_keeps-requires
-link_keeps-requires c = let e = start c.before.before.before.before in (e.pre.0.board, (c.loop-k-test.true, e.pre.1.1))
+link_keeps-requires c = let e = start c.before.before.before.before in record { seated = e.pre.0.board; k_bound = (c.loop-k-test.true, e.pre.1.1); }
 
 pub returns-then-link_keeps : goal.returns-then-link_keeps
 returns-then-link_keeps c = pass_hit _ _ _ _ _ c.loop-k.k c.loop-k-test.true c.loop-k.invariant (sym c.link_keeps.ensures ∙ c.if-link_keeps.true)

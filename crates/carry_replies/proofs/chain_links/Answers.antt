@@ -12,22 +12,22 @@ use Rattle.carry_replies.proofs.chain_links.Lts as lts
 use Rattle.carry_replies.proofs.chain_links.Reads as reads
 use Rattle.carry_replies.proofs.chain_links.Tie as tie
 
-abbrev start : lts.At-loop tie.the-claims reads.Pre reads.Post goal.the-invariant-loop-k goal.the-decreases-loop-k → lts.Start tie.the-claims reads.Pre reads.Post goal.the-invariant-loop-k goal.the-decreases-loop-k
+abbrev start : lts.At-loop tie.the-claims reads.Pre reads.Post goal.the-invariant-loop-k goal.the-decreases-loop-k tie.handed_clauses → lts.Start tie.the-claims reads.Pre reads.Post goal.the-invariant-loop-k goal.the-decreases-loop-k tie.handed_clauses
 start c = search
 
 -- the source of the link before k is a position
-source_lt : (c : lts.In-loop tie.the-claims reads.Pre reads.Post goal.the-invariant-loop-k goal.the-decreases-loop-k) → let e = (start c.before).args in
+source_lt : (c : lts.In-loop tie.the-claims reads.Pre reads.Post goal.the-invariant-loop-k goal.the-decreases-loop-k tie.handed_clauses) → let e = (start c.before).args in
     link_source e.plan.now (c.loop-k.k - 1) < position_count e.plan.now
 source_lt c = (start c.before).pre.1.0 (c.loop-k.k - 1) (omega (arith, c.loop-k.invariant.to, c.loop-k-test.true))
 
-room_firsts : (c : lts.At-loop tie.the-claims reads.Pre reads.Post goal.the-invariant-loop-k goal.the-decreases-loop-k) → position_count (start c).args.plan.now ≤ length c.loop-k.firsts
+room_firsts : (c : lts.At-loop tie.the-claims reads.Pre reads.Post goal.the-invariant-loop-k goal.the-decreases-loop-k tie.handed_clauses) → position_count (start c).args.plan.now ≤ length c.loop-k.firsts
 room_firsts c = omega (arith, (start c).requires.1.1.0, c.fill.auto, c.loop-k.invariant.same-firsts)
 
-room_follow : (c : lts.At-loop tie.the-claims reads.Pre reads.Post goal.the-invariant-loop-k goal.the-decreases-loop-k) → link_count (start c).args.plan.now ≤ length c.loop-k.follow
+room_follow : (c : lts.At-loop tie.the-claims reads.Pre reads.Post goal.the-invariant-loop-k goal.the-decreases-loop-k tie.handed_clauses) → link_count (start c).args.plan.now ≤ length c.loop-k.follow
 room_follow c = omega (arith, (start c).requires.1.1.1, c.loop-k.invariant.same-follow)
 
 pub fill-requires : goal.fill-requires
-fill-requires c = omega (arith, c.requires.by_index.1.0)
+fill-requires c = omega (arith, c.requires.plan_in_bounds.0)
 
 pub loop-k-init : goal.loop-k-init
 loop-k-init c = record {

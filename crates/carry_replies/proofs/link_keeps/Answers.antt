@@ -11,16 +11,16 @@ use Rattle.carry_replies.proofs.link_keeps.Lts as lts
 use Rattle.carry_replies.proofs.link_keeps.Reads as reads
 use Rattle.carry_replies.proofs.link_keeps.Tie as tie
 
-abbrev read-start : lts.After-shared_slice_known8 tie.the-claims reads.Pre reads.Post → lts.Start tie.the-claims reads.Pre reads.Post
+abbrev read-start : lts.After-shared_slice_known8 tie.the-claims reads.Pre reads.Post tie.handed_clauses → lts.Start tie.the-claims reads.Pre reads.Post tie.handed_clauses
 read-start c = search
 
-abbrev start : lts.After-shared_slice_known9 tie.the-claims reads.Pre reads.Post → lts.Start tie.the-claims reads.Pre reads.Post
+abbrev start : lts.After-shared_slice_known9 tie.the-claims reads.Pre reads.Post tie.handed_clauses → lts.Start tie.the-claims reads.Pre reads.Post tie.handed_clauses
 start c = read-start c.before
 
-target_lt : (e : lts.Start tie.the-claims reads.Pre reads.Post) → link_target e.args.plan.now e.args.k < position_count e.args.plan.now
+target_lt : (e : lts.Start tie.the-claims reads.Pre reads.Post tie.handed_clauses) → link_target e.args.plan.now e.args.k < position_count e.args.plan.now
 target_lt e = e.requires.seated.formed.targets e.args.k e.requires.k_bound.0
 
-seat_lt : (e : lts.Start tie.the-claims reads.Pre reads.Post) → get_or e.args.seats.now (link_target e.args.plan.now e.args.k) 0 < vertex_count e.args.game.now
+seat_lt : (e : lts.Start tie.the-claims reads.Pre reads.Post tie.handed_clauses) → get_or e.args.seats.now (link_target e.args.plan.now e.args.k) 0 < vertex_count e.args.game.now
 seat_lt e = e.requires.seated.inside _ (target_lt e)
 
 pub overflow_cast-j : goal.overflow_cast-j

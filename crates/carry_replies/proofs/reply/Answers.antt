@@ -8,13 +8,13 @@ use Rattle.carry_replies.proofs.reply.Lts as lts
 use Rattle.carry_replies.proofs.reply.Reads as reads
 use Rattle.carry_replies.proofs.reply.Tie as tie
 
-abbrev before-flags : lts.After-shared_slice_known9 tie.the-claims reads.Pre reads.Post → lts.Start tie.the-claims reads.Pre reads.Post
+abbrev before-flags : lts.After-shared_slice_known9 tie.the-claims reads.Pre reads.Post tie.handed_clauses → lts.Start tie.the-claims reads.Pre reads.Post tie.handed_clauses
 before-flags c = search
 
-abbrev start : lts.After-is_edge tie.the-claims reads.Pre reads.Post → lts.Start tie.the-claims reads.Pre reads.Post
+abbrev start : lts.After-is_edge tie.the-claims reads.Pre reads.Post tie.handed_clauses → lts.Start tie.the-claims reads.Pre reads.Post tie.handed_clauses
 start c = before-flags c.before
 
-edge_is : (c : lts.After-is_edge tie.the-claims reads.Pre reads.Post) → let e = (start c).args in c.is_edge.result ≡ (game_of e.game.now).edge e.u e.w
+edge_is : (c : lts.After-is_edge tie.the-claims reads.Pre reads.Post tie.handed_clauses) → let e = (start c).args in c.is_edge.result ≡ (game_of e.game.now).edge e.u e.w
 edge_is c = let e = start c in c.is_edge.ensures ∙ e.pre.0.flags.edge e.args.u e.args.w e.pre.1.1 e.pre.1.2
 
 pub is_edge-requires : goal.is_edge-requires

@@ -6,7 +6,7 @@ use Rattle.carry_replies.proofs.reply_along.Lts as lts
 use Rattle.carry_replies.proofs.reply_along.Reads as reads
 use Rattle.carry_replies.proofs.reply_along.Tie as tie
 
-abbrev start : lts.After-answer tie.the-claims reads.Pre reads.Post → lts.Start tie.the-claims reads.Pre reads.Post
+abbrev start : lts.After-answer tie.the-claims reads.Pre reads.Post tie.handed_clauses → lts.Start tie.the-claims reads.Pre reads.Post tie.handed_clauses
 start c = search
 
 pub overflow_cast-result : goal.overflow_cast-result

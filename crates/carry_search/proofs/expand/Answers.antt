@@ -19,13 +19,13 @@ use Rattle.carry_search.proofs.expand.Lts as lts
 use Rattle.carry_search.proofs.expand.Reads as reads
 use Rattle.carry_search.proofs.expand.Tie as tie
 
-abbrev at-start : lts.After-slice_known2 tie.the-claims reads.Pre reads.Post goal.the-invariant-loop-w goal.the-decreases-loop-w → lts.Start tie.the-claims reads.Pre reads.Post goal.the-invariant-loop-w goal.the-decreases-loop-w
+abbrev at-start : lts.After-slice_known2 tie.the-claims reads.Pre reads.Post goal.the-invariant-loop-w goal.the-decreases-loop-w tie.handed_clauses → lts.Start tie.the-claims reads.Pre reads.Post goal.the-invariant-loop-w goal.the-decreases-loop-w tie.handed_clauses
 at-start c = search
 
 pub bounds-work-k : goal.bounds-work-k
 bounds-work-k c = omega (arith, expandable_long (at-start c.before).requires.1)
 
-abbrev vertex-start : lts.After-slice_known3 tie.the-claims reads.Pre reads.Post goal.the-invariant-loop-w goal.the-decreases-loop-w → lts.Start tie.the-claims reads.Pre reads.Post goal.the-invariant-loop-w goal.the-decreases-loop-w
+abbrev vertex-start : lts.After-slice_known3 tie.the-claims reads.Pre reads.Post goal.the-invariant-loop-w goal.the-decreases-loop-w tie.handed_clauses → lts.Start tie.the-claims reads.Pre reads.Post goal.the-invariant-loop-w goal.the-decreases-loop-w tie.handed_clauses
 vertex-start c = search
 
 pub bounds-work-k-2 : goal.bounds-work-k-2
@@ -58,13 +58,7 @@ pub step-more-requires : goal.step-more-requires
 step-more-requires c = let e = start c.before.before.before.before.before in
     let x = e.pre.1 in
     let b = most_within _ _ _ _ _ (most c.before.before.before.before.before) x.within.few_links in
-    let within : Within c.loop-w.pairs c.loop-w.links = record { few_pairs = c.if-pairs-gt-POSITIONS.false; few_links = omega (arith, c.if-most-links.false, b) } in (
-      e.pre.0,
-      (
-        (c.loop-w.invariant.2.ready, within, omega (arith, x.within.few_pairs, x.found)),
-        (x.inside.old_lt, x.inside.new_lt, c.loop-w-test.true),
-      ),
-    )
+    let within : Within c.loop-w.pairs c.loop-w.links = record { few_pairs = c.if-pairs-gt-POSITIONS.false; few_links = omega (arith, c.if-most-links.false, b) } in record { readable = e.pre.0; search_room = (c.loop-w.invariant.2.ready, within, omega (arith, x.within.few_pairs, x.found)); i_bound = (x.inside.old_lt, x.inside.new_lt, c.loop-w-test.true); }
 
 pub overflow_add-w : goal.overflow_add-w
 overflow_add-w c = omega (arith, c.loop-w-test.true, (start c.before.before.before.before.before.before.before.before).pre.0.links.board.well.vertices)

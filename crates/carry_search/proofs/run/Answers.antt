@@ -11,7 +11,7 @@ use Rattle.carry_search.proofs.run.Lts as lts
 use Rattle.carry_search.proofs.run.Reads as reads
 use Rattle.carry_search.proofs.run.Tie as tie
 
-abbrev at-start : lts.After-slice_known tie.the-claims reads.Pre reads.Post goal.the-invariant-loop-k goal.the-decreases-loop-k → lts.Start tie.the-claims reads.Pre reads.Post goal.the-invariant-loop-k goal.the-decreases-loop-k
+abbrev at-start : lts.After-slice_known tie.the-claims reads.Pre reads.Post goal.the-invariant-loop-k goal.the-decreases-loop-k tie.handed_clauses → lts.Start tie.the-claims reads.Pre reads.Post goal.the-invariant-loop-k goal.the-decreases-loop-k tie.handed_clauses
 at-start c = search
 
 pub loop-k-init : goal.loop-k-init
@@ -20,7 +20,7 @@ loop-k-init c = let e = at-start c.before in
 
 pub expand-more-requires : goal.expand-more-requires
 expand-more-requires c = let r = c.loop-k.invariant.1 in
-    (r.readable, runs_expandable _ _ _ _ _ _ _ _ _ _ _ _ r _ c.loop-k-test.true)
+    record { readable = r.readable; expandable = runs_expandable _ _ _ _ _ _ _ _ _ _ _ _ r _ c.loop-k-test.true; }
 
 pub returns-then-pairs-gt-POSITIONS : goal.returns-then-pairs-gt-POSITIONS
 returns-then-pairs-gt-POSITIONS c = runs_over _ _ _ _ _ _ _ _ _ _ _ _ c.loop-k.invariant.1 _ _ c.loop-k-test.true c.expand-more.ensures (inl c.if-pairs-gt-POSITIONS.true)

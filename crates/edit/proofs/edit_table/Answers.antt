@@ -20,38 +20,38 @@ use Rattle.edit.proofs.edit_table.Lts as lts
 use Rattle.edit.proofs.edit_table.Reads as reads
 use Rattle.edit.proofs.edit_table.Tie as tie
 
-abbrev entry : lts.After-enum_told tie.the-claims reads.Pre reads.Post → lts.Start tie.the-claims reads.Pre reads.Post
+abbrev entry : lts.After-enum_told tie.the-claims reads.Pre reads.Post tie.handed_clauses → lts.Start tie.the-claims reads.Pre reads.Post tie.handed_clauses
 entry c = start c.before.before
 
 -- the memory is long enough
-enough : (c : lts.After-enum_told tie.the-claims reads.Pre reads.Post)
+enough : (c : lts.After-enum_told tie.the-claims reads.Pre reads.Post tie.handed_clauses)
     → let a = (entry c).args in memory_answer Enough ≡ judge (memory_rows a.n (length a.marks.now) (length a.spare.now) (length a.classes.now)) []
 enough c = ap memory_answer (sym c.enum_told-1.given.1) ∙ c.judge_memory-memory.ensures
 
 -- the table is there whole, and is the part that is lent
-room : (s : lts.Start tie.the-claims reads.Pre reads.Post) → let a = s.args in table_length a.n a.m ≤ length a.buffer.now
+room : (s : lts.Start tie.the-claims reads.Pre reads.Post tie.handed_clauses) → let a = s.args in table_length a.n a.m ≤ length a.buffer.now
 room s = let a = s.args in formed_room a.buffer.now a.n a.m s.requires
 
-part : (s : lts.Start tie.the-claims reads.Pre reads.Post) → let a = s.args in take (table_length a.n a.m) a.buffer.now ≡ table_in a.buffer.now
+part : (s : lts.Start tie.the-claims reads.Pre reads.Post tie.handed_clauses) → let a = s.args in take (table_length a.n a.m) a.buffer.now ≡ table_in a.buffer.now
 part s = let a = s.args in formed_part a.buffer.now a.n a.m s.requires
 
-abbrev told_at : lts.After-judge_edit tie.the-claims reads.Pre reads.Post → lts.After-enum_told tie.the-claims reads.Pre reads.Post
+abbrev told_at : lts.After-judge_edit tie.the-claims reads.Pre reads.Post tie.handed_clauses → lts.After-enum_told tie.the-claims reads.Pre reads.Post tie.handed_clauses
 told_at c = search
 
 -- what the scan found, in the table that begins the buffer
-scanned : (c : lts.After-scan_edges tie.the-claims reads.Pre reads.Post)
+scanned : (c : lts.After-scan_edges tie.the-claims reads.Pre reads.Post tie.handed_clauses)
     → let a = (entry c.before.before).args in Scanned (table_in a.buffer.now) a.m a.source a.target c.scan_edges-scan.result
 scanned c = rw (part (entry c.before.before)) at c.scan_edges-scan.ensures
 
 -- what the judge said of the edit
-judged : (c : lts.After-judge_edit tie.the-claims reads.Pre reads.Post)
+judged : (c : lts.After-judge_edit tie.the-claims reads.Pre reads.Post tie.handed_clauses)
     → let a = (entry (told_at c)).args in
     acceptance_answer c.judge_edit-judged.result ≡ judge (edit_rows a.edit (table_in a.buffer.now) (length a.buffer.now) a.source a.target) []
 judged c =
     let s = entry c.before.before.before in
     c.judge_edit-judged.ensures ∙ ap (λ (rs : List Row). judge rs []) (scanned_rows s.pre _ _ (scanned c.before) (length s.args.buffer.now) s.args.edit)
 
-passed : (c : lts.After-enum_told2 tie.the-claims reads.Pre reads.Post)
+passed : (c : lts.After-enum_told2 tie.the-claims reads.Pre reads.Post tie.handed_clauses)
     → let a = (entry (told_at c.before.before)).args in
     accepted [] ≡ judge (edit_rows a.edit (table_in a.buffer.now) (length a.buffer.now) a.source a.target) []
 passed c = ap acceptance_answer (sym c.enum_told-in_default-judged-1.given.1) ∙ judged c.before.before
@@ -85,9 +85,9 @@ pub apply_edit-counts-requires : goal.apply_edit-counts-requires
 apply_edit-counts-requires c = let t = told_at c.before.before.before.before.before.before in
     let s = entry t in
     let a = s.args in
-    ((s.pre, call_fits (table_in a.buffer.now) _ _ _ s.pre (enough t)), ((scanned c.before.before.before.before.before.before.before).found, passed_clean _ (passed c.before.before.before.before)))
+    record { formed = (s.pre, call_fits (table_in a.buffer.now) _ _ _ s.pre (enough t)); copy_value = (scanned c.before.before.before.before.before.before.before).found; clean = passed_clean _ (passed c.before.before.before.before); }
 
-abbrev at-apply-edit : lts.After-slice_known8 tie.the-claims reads.Pre reads.Post → lts.After-apply_edit tie.the-claims reads.Pre reads.Post
+abbrev at-apply-edit : lts.After-slice_known8 tie.the-claims reads.Pre reads.Post tie.handed_clauses → lts.After-apply_edit tie.the-claims reads.Pre reads.Post tie.handed_clauses
 at-apply-edit c = search
 
 pub returns : goal.returns

@@ -9,11 +9,11 @@ use Rattle.edit_buffer.proofs.arrive.Lts as lts
 use Rattle.edit_buffer.proofs.arrive.Reads as reads
 use Rattle.edit_buffer.proofs.arrive.Tie as tie
 
-abbrev entry : lts.After-copy2 tie.the-claims reads.Pre reads.Post → lts.Start tie.the-claims reads.Pre reads.Post
+abbrev entry : lts.After-copy2 tie.the-claims reads.Pre reads.Post tie.handed_clauses → lts.Start tie.the-claims reads.Pre reads.Post tie.handed_clauses
 entry c = start c.before.before.before.before
 
 -- the buffer keeps its length
-kept : (c : lts.After-copy2 tie.the-claims reads.Pre reads.Post) → length c.copy-2.new.0 ≡ length (entry c).args.buffer.now
+kept : (c : lts.After-copy2 tie.the-claims reads.Pre reads.Post tie.handed_clauses) → length c.copy-2.new.0 ≡ length (entry c).args.buffer.now
 kept c = c.copy-2.auto.0 ∙ simp length-set
 
 pub bounds-buffer-at : goal.bounds-buffer-at

@@ -17,21 +17,21 @@ use Rattle.edit_buffer.proofs.leave.Reads as reads
 use Rattle.edit_buffer.proofs.leave.Tie as tie
 
 -- the table is there whole, and is the part that is lent
-room : (s : lts.Start tie.the-claims reads.Pre reads.Post) → let a = s.args in table_length a.n a.m ≤ length a.buffer.now
+room : (s : lts.Start tie.the-claims reads.Pre reads.Post tie.handed_clauses) → let a = s.args in table_length a.n a.m ≤ length a.buffer.now
 room s = let a = s.args in formed_room a.buffer.now a.n a.m s.requires.0
 
-part : (s : lts.Start tie.the-claims reads.Pre reads.Post) → let a = s.args in take (table_length a.n a.m) a.buffer.now ≡ table_in a.buffer.now
+part : (s : lts.Start tie.the-claims reads.Pre reads.Post tie.handed_clauses) → let a = s.args in take (table_length a.n a.m) a.buffer.now ≡ table_in a.buffer.now
 part s = let a = s.args in formed_part a.buffer.now a.n a.m s.requires.0
 
 -- no more edges than before
-few : (c : lts.After-list_others tie.the-claims reads.Pre reads.Post) → c.list_others-e.result ≤ c.args.m
+few : (c : lts.After-list_others tie.the-claims reads.Pre reads.Post tie.handed_clauses) → c.list_others-e.result ≤ c.args.m
 few c = let a = c.args in leaving_few a.buffer.now a.n a.m c.requires.0 a.s a.t (rw (part c.before.before.before.before.before) at c.list_others-e.ensures)
 
 -- the buffer keeps its length
-kept1 : (c : lts.After-copy tie.the-claims reads.Pre reads.Post) → length c.copy.new.0 ≡ length (start c.before.before.before.before.before).args.buffer.now
+kept1 : (c : lts.After-copy tie.the-claims reads.Pre reads.Post tie.handed_clauses) → length c.copy.new.0 ≡ length (start c.before.before.before.before.before).args.buffer.now
 kept1 c = c.copy.auto.0 ∙ simp length-set
 
-kept2 : (c : lts.After-copy2 tie.the-claims reads.Pre reads.Post) → length c.copy-2.new.0 ≡ length (start (listed_at c.before.before.before.before.before)).args.buffer.now
+kept2 : (c : lts.After-copy2 tie.the-claims reads.Pre reads.Post tie.handed_clauses) → length c.copy-2.new.0 ≡ length (start (listed_at c.before.before.before.before.before)).args.buffer.now
 kept2 c = c.copy-2.auto.0 ∙ kept1 c.before.before.before.before.before
 
 pub slice_bounds-list_others-end : goal.slice_bounds-list_others-end
@@ -43,7 +43,7 @@ slice_bounds-list_others-end-2 c = sym (length-take-le _ _ (room c.before.before
 pub list_others-e-requires : goal.list_others-e-requires
 list_others-e-requires c = let a = c.args in
     let few : a.m ≤ edge_limit = omega (arith, c.requires.0.edges, c.requires.0.well.edges) in
-    (subst (λ (g : List ℕ). Formed g a.n a.m × (a.copy ≡ first (leads g a.s a.t true) 0 a.m)) (sym (part c.before.before.before.before)) c.requires, (omega arith, omega arith))
+    record { formed = subst (λ (g : List ℕ). Formed g a.n a.m × (a.copy ≡ first (leads g a.s a.t true) 0 a.m)) (sym (part c.before.before.before.before)) c.requires; m_in_bounds = (omega arith, omega arith); }
 
 pub overflow_cast-buffer : goal.overflow_cast-buffer
 overflow_cast-buffer c = omega (arith, few c.before.before, c.requires.0.edges, c.requires.0.well.edges)

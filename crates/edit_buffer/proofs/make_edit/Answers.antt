@@ -14,14 +14,14 @@ use Rattle.edit_buffer.proofs.make_edit.Reads as reads
 use Rattle.edit_buffer.proofs.make_edit.Tie as tie
 
 -- the rows of an arrival are passed
-passed : (c : lts.After-enum_told tie.the-claims reads.Pre reads.Post)
+passed : (c : lts.After-enum_told tie.the-claims reads.Pre reads.Post tie.handed_clauses)
     → let a = c.args in Clean (edit_rows Arrival (table_in a.buffer.now) (length a.buffer.now) a.source a.target)
 passed c =
     let a = c.args in
     subst (λ (e : Edit). Clean (edit_rows e (table_in a.buffer.now) (length a.buffer.now) a.source a.target)) c.enum_told-1.given.1 c.requires.clean
 
 -- so its ends are vertices
-placed : (c : lts.After-enum_told tie.the-claims reads.Pre reads.Post) → let a = c.args in Placed Arrival (table_in a.buffer.now) a.source a.target
+placed : (c : lts.After-enum_told tie.the-claims reads.Pre reads.Post tie.handed_clauses) → let a = c.args in Placed Arrival (table_in a.buffer.now) a.source a.target
 placed c = edit_placed _ _ _ _ Arrival (passed c)
 
 pub overflow_cast-source : goal.overflow_cast-source
@@ -33,7 +33,7 @@ overflow_cast-target c = omega (arith, (placed c.before).target, c.requires.form
 pub arrive-requires : goal.arrive-requires
 arrive-requires c = let p = c.requires.formed.0 in
     let f = arrival_fits _ _ _ _ (passed c.before) in
-    ((p, omega (arith, f.0, p.edges)), omega (arith, f.1, p.vertices, p.edges))
+    record { formed = (p, omega (arith, f.0, p.edges)); m_in_bounds = omega (arith, f.1, p.vertices, p.edges); }
 
 pub returns-in-Arrival : goal.returns-in-Arrival
 returns-in-Arrival c = rw c.enum_told-1.given.1 c.arrive.ensures

@@ -9,9 +9,10 @@ use Rattle.std.proofs.Common.{rules}
 use Rattle.edit_links.proofs.chain.Goals as goal
 use Rattle.edit_links.proofs.chain.Lts as lts
 use Rattle.edit_links.proofs.chain.Reads as reads
+use Rattle.edit_links.proofs.chain.Tie as tie
 
 -- a source is below n
-below : (c : lts.In-loop reads.Pre reads.Post goal.the-invariant-loop-x goal.the-decreases-loop-x) → get_or c.args.sources.now c.loop-x.x 0 < c.args.n
+below : (c : lts.In-loop reads.Pre reads.Post goal.the-invariant-loop-x goal.the-decreases-loop-x tie.handed_clauses) → get_or c.args.sources.now c.loop-x.x 0 < c.args.n
 below c = c.requires.by_index.0 c.loop-x.x c.loop-x-test.true
 
 pub loop-x-init : goal.loop-x-init

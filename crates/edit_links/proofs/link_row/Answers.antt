@@ -12,18 +12,18 @@ use Rattle.edit_links.proofs.link_row.Lts as lts
 use Rattle.edit_links.proofs.link_row.Reads as reads
 use Rattle.edit_links.proofs.link_row.Tie as tie
 
-abbrev start : lts.In-loop tie.the-claims reads.Pre reads.Post goal.the-invariant-loop-p goal.the-decreases-loop-p → lts.Start tie.the-claims reads.Pre reads.Post goal.the-invariant-loop-p goal.the-decreases-loop-p
+abbrev start : lts.In-loop tie.the-claims reads.Pre reads.Post goal.the-invariant-loop-p goal.the-decreases-loop-p tie.handed_clauses → lts.Start tie.the-claims reads.Pre reads.Post goal.the-invariant-loop-p goal.the-decreases-loop-p tie.handed_clauses
 start c = search
 
 -- the pair that is taken
-inside : (c : lts.In-loop tie.the-claims reads.Pre reads.Post goal.the-invariant-loop-p goal.the-decreases-loop-p) → c.loop-p.p - 1 < (start c).args.count
+inside : (c : lts.In-loop tie.the-claims reads.Pre reads.Post goal.the-invariant-loop-p goal.the-decreases-loop-p tie.handed_clauses) → c.loop-p.p - 1 < (start c).args.count
 inside c = omega (arith, c.loop-p-test.true, c.loop-p.invariant.2.within)
 
-target : (c : lts.In-loop tie.the-claims reads.Pre reads.Post goal.the-invariant-loop-p goal.the-decreases-loop-p) → get_or (start c).args.targets.now (c.loop-p.p - 1) 0 < (start c).args.n
+target : (c : lts.In-loop tie.the-claims reads.Pre reads.Post goal.the-invariant-loop-p goal.the-decreases-loop-p tie.handed_clauses) → get_or (start c).args.targets.now (c.loop-p.p - 1) 0 < (start c).args.n
 target c = (start c).requires.0.0.target (c.loop-p.p - 1) (inside c)
 
 -- the one before it
-back : (c : lts.In-loop tie.the-claims reads.Pre reads.Post goal.the-invariant-loop-p goal.the-decreases-loop-p)
+back : (c : lts.In-loop tie.the-claims reads.Pre reads.Post goal.the-invariant-loop-p goal.the-decreases-loop-p tie.handed_clauses)
     → let a = (start c).args in
     let x = c.loop-p.p - 1 in
     get_or a.before.now x 0 ≡ last_of (of_source a.sources.now a.v) x

@@ -18,13 +18,7 @@ fill-requires c = omega (arith, c.loop-v.invariant.1, c.requires.n_in_bounds)
 
 pub link_row-requires : goal.link_row-requires
 link_row-requires c = let l = c.loop-v in
-    let p = c.requires.n_in_bounds in (
-      (c.requires.pairs.0, c.loop-v-test.true, c.requires.pairs.2),
-      (
-        (p.0, p.1, omega (arith, c.fill.kept, l.inv.1, p), omega (arith, l.inv.2, p)),
-        (filled_with _ _ _ _ c.fill.ensures, c.requires.pairs.1),
-      ),
-    )
+    let p = c.requires.n_in_bounds in record { pairs = (c.requires.pairs.0, c.loop-v-test.true, c.requires.pairs.2); n_in_bounds = (p.0, p.1, omega (arith, c.fill.kept, l.inv.1, p), omega (arith, l.inv.2, p)); by_index = (filled_with _ _ _ _ c.fill.ensures, c.requires.pairs.1); }
 
 pub loop-v-preserved : goal.loop-v-preserved
 loop-v-preserved c = let l = c.loop-v in (

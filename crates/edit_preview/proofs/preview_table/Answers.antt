@@ -23,35 +23,35 @@ use Rattle.edit_preview.proofs.preview_table.Lts as lts
 use Rattle.edit_preview.proofs.preview_table.Reads as reads
 use Rattle.edit_preview.proofs.preview_table.Tie as tie
 
-abbrev entry : lts.After-enum_told tie.the-claims reads.Pre reads.Post → lts.Start tie.the-claims reads.Pre reads.Post
+abbrev entry : lts.After-enum_told tie.the-claims reads.Pre reads.Post tie.handed_clauses → lts.Start tie.the-claims reads.Pre reads.Post tie.handed_clauses
 entry c = start c.before.before
 
 -- the memory is long enough
-enough : (c : lts.After-enum_told tie.the-claims reads.Pre reads.Post)
+enough : (c : lts.After-enum_told tie.the-claims reads.Pre reads.Post tie.handed_clauses)
     → let a = (entry c).args in memory_answer Enough ≡ judge (memory_rows a.n (length a.marks.now) (length a.spare.now) (length a.classes.now)) []
 enough c = ap memory_answer (sym c.enum_told-1.given.1) ∙ c.judge_memory-memory.ensures
 
 -- the first table is there whole, and is the part that is judged
-room : (s : lts.Start tie.the-claims reads.Pre reads.Post) → let a = s.args in table_length a.n a.m ≤ length a.game.now
+room : (s : lts.Start tie.the-claims reads.Pre reads.Post tie.handed_clauses) → let a = s.args in table_length a.n a.m ≤ length a.game.now
 room s = let a = s.args in formed_room a.game.now a.n a.m s.requires
 
-part : (s : lts.Start tie.the-claims reads.Pre reads.Post) → let a = s.args in take (table_length a.n a.m) a.game.now ≡ table_in a.game.now
+part : (s : lts.Start tie.the-claims reads.Pre reads.Post tie.handed_clauses) → let a = s.args in take (table_length a.n a.m) a.game.now ≡ table_in a.game.now
 part s = let a = s.args in formed_part a.game.now a.n a.m s.requires
 
 -- the second is long enough for it
-long : (c : lts.Else1 tie.the-claims reads.Pre reads.Post) → let a = (entry c.before).args in table_length a.n a.m ≤ length a.table.now
+long : (c : lts.Else1 tie.the-claims reads.Pre reads.Post tie.handed_clauses) → let a = (entry c.before).args in table_length a.n a.m ≤ length a.table.now
 long c = search rules
 
-abbrev else-at : lts.After-judge_edit tie.the-claims reads.Pre reads.Post → lts.Else1 tie.the-claims reads.Pre reads.Post
+abbrev else-at : lts.After-judge_edit tie.the-claims reads.Pre reads.Post tie.handed_clauses → lts.Else1 tie.the-claims reads.Pre reads.Post tie.handed_clauses
 else-at c = scan-at c.before
 
 -- what the scan found, in the table that begins the first buffer
-scanned : (c : lts.After-scan_edges tie.the-claims reads.Pre reads.Post)
+scanned : (c : lts.After-scan_edges tie.the-claims reads.Pre reads.Post tie.handed_clauses)
     → let a = (entry c.before.before.before).args in Scanned (table_in a.game.now) a.m a.source a.target c.scan_edges-scan.result
 scanned c = rw (part (entry c.before.before.before)) at c.scan_edges-scan.ensures
 
 -- what the judge said of the edit
-judged : (c : lts.After-judge_edit tie.the-claims reads.Pre reads.Post)
+judged : (c : lts.After-judge_edit tie.the-claims reads.Pre reads.Post tie.handed_clauses)
     → let a = (entry (else-at c).before).args in
     acceptance_answer c.judge_edit-judged.result ≡ judge (edit_rows a.edit (table_in a.game.now) (length a.table.now) a.source a.target) []
 judged c =
@@ -60,22 +60,22 @@ judged c =
     c.judge_edit-judged.ensures
     ∙ ap (λ (rs : List Row). judge rs []) (scanned_rows s.pre _ _ (scanned c.before) (length a.table.now) a.edit)
 
-clean : (c : lts.After-enum_told2 tie.the-claims reads.Pre reads.Post)
+clean : (c : lts.After-enum_told2 tie.the-claims reads.Pre reads.Post tie.handed_clauses)
     → let a = (entry (else-at c.before.before).before).args in
     Clean (edit_rows a.edit (table_in a.game.now) (length a.table.now) a.source a.target)
 clean c = passed_clean _ (ap acceptance_answer (sym c.enum_told-in_default-judged-1.given.1) ∙ judged c.before.before)
 
-abbrev long-at : lts.After-copy tie.the-claims reads.Pre reads.Post → lts.Else1 tie.the-claims reads.Pre reads.Post
+abbrev long-at : lts.After-copy tie.the-claims reads.Pre reads.Post tie.handed_clauses → lts.Else1 tie.the-claims reads.Pre reads.Post tie.handed_clauses
 long-at c = else-at c.before.before.before.before
 
-abbrev begin : lts.After-copy tie.the-claims reads.Pre reads.Post → lts.Start tie.the-claims reads.Pre reads.Post
+abbrev begin : lts.After-copy tie.the-claims reads.Pre reads.Post tie.handed_clauses → lts.Start tie.the-claims reads.Pre reads.Post tie.handed_clauses
 begin c = entry (long-at c).before
 
 -- the first table begins the second
-same : (c : lts.After-copy tie.the-claims reads.Pre reads.Post) → table_in c.copy.new.0 ≡ table_in (begin c).args.game.now
+same : (c : lts.After-copy tie.the-claims reads.Pre reads.Post tie.handed_clauses) → table_in c.copy.new.0 ≡ table_in (begin c).args.game.now
 same c = let s = begin c in copied_in s.args.game.now s.args.table.now s.pre c.copy.ensures
 
-same_size : (c : lts.After-copy tie.the-claims reads.Pre reads.Post) → length c.copy.new.0 ≡ length (begin c).args.table.now
+same_size : (c : lts.After-copy tie.the-claims reads.Pre reads.Post tie.handed_clauses) → length c.copy.new.0 ≡ length (begin c).args.table.now
 same_size c = let s = begin c in copied_length s.args.game.now s.args.table.now s.pre c.copy.ensures (long (long-at c))
 
 pub judge_memory-memory-requires : goal.judge_memory-memory-requires
@@ -117,12 +117,9 @@ copy-requires c = let e = else-at c.before.before.before.before in
 pub apply_edit-counts-requires : goal.apply_edit-counts-requires
 apply_edit-counts-requires c = let s = begin c.before.before.before.before.before.before.before in
     let a = s.args in
-    let fits = call_fits (table_in a.game.now) a.marks.now a.spare.now a.classes.now s.pre (enough (long-at c.before.before.before.before.before.before.before).before) in (
-      subst (λ (g : List ℕ). Formed g a.n a.m × ClassesFit g a.marks.now a.spare.now a.classes.now) (sym (same c.before.before.before.before.before.before.before)) (s.pre, fits),
-      (rw (same c.before.before.before.before.before.before.before) (scanned c.before.before.before.before.before.before.before.before.before.before.before.before).found, rw (same c.before.before.before.before.before.before.before, same_size c.before.before.before.before.before.before.before) (clean c.before.before.before.before.before.before.before.before.before)),
-    )
+    let fits = call_fits (table_in a.game.now) a.marks.now a.spare.now a.classes.now s.pre (enough (long-at c.before.before.before.before.before.before.before).before) in record { formed = subst (λ (g : List ℕ). Formed g a.n a.m × ClassesFit g a.marks.now a.spare.now a.classes.now) (sym (same c.before.before.before.before.before.before.before)) (s.pre, fits); copy_value = rw (same c.before.before.before.before.before.before.before) (scanned c.before.before.before.before.before.before.before.before.before.before.before.before).found; clean = rw (same c.before.before.before.before.before.before.before, same_size c.before.before.before.before.before.before.before) (clean c.before.before.before.before.before.before.before.before.before); }
 
-abbrev at-apply-edit : lts.After-slice_known9 tie.the-claims reads.Pre reads.Post → lts.After-apply_edit tie.the-claims reads.Pre reads.Post
+abbrev at-apply-edit : lts.After-slice_known9 tie.the-claims reads.Pre reads.Post tie.handed_clauses → lts.After-apply_edit tie.the-claims reads.Pre reads.Post tie.handed_clauses
 at-apply-edit c = search
 
 pub returns : goal.returns

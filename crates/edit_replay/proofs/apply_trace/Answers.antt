@@ -13,7 +13,7 @@ use Rattle.edit_replay.proofs.apply_trace.Lts as lts
 use Rattle.edit_replay.proofs.apply_trace.Reads as reads
 use Rattle.edit_replay.proofs.apply_trace.Tie as tie
 
-few : (c : lts.After-run_entries tie.the-claims reads.Pre reads.Post) → (c.run_entries-run.result.edges ≤ edge_limit) × (c.args.n ≤ vertex_limit)
+few : (c : lts.After-run_entries tie.the-claims reads.Pre reads.Post tie.handed_clauses) → (c.run_entries-run.result.edges ≤ edge_limit) × (c.args.n ≤ vertex_limit)
 few c =
     let f = c.run_entries-run.ensures.formed in
     (omega (arith, f.edges, f.well.edges), omega (arith, f.vertices, f.well.vertices))

@@ -14,16 +14,16 @@ use Rattle.edit_replay.proofs.replay_table.Lts as lts
 use Rattle.edit_replay.proofs.replay_table.Reads as reads
 use Rattle.edit_replay.proofs.replay_table.Tie as tie
 
-abbrev entry : lts.After-enum_told tie.the-claims reads.Pre reads.Post → lts.Start tie.the-claims reads.Pre reads.Post
+abbrev entry : lts.After-enum_told tie.the-claims reads.Pre reads.Post tie.handed_clauses → lts.Start tie.the-claims reads.Pre reads.Post tie.handed_clauses
 entry c = start c.before.before
 
 -- the memory is long enough
-enough : (c : lts.After-enum_told tie.the-claims reads.Pre reads.Post)
+enough : (c : lts.After-enum_told tie.the-claims reads.Pre reads.Post tie.handed_clauses)
     → let a = (entry c).args in memory_answer Enough ≡ judge (memory_rows a.n (length a.marks.now) (length a.spare.now) (length a.classes.now)) []
 enough c = ap memory_answer (sym c.enum_told-1.given.1) ∙ c.judge_memory-memory.ensures
 
 -- the trace is as it should be
-passed : (c : lts.After-enum_told2 tie.the-claims reads.Pre reads.Post) → accepted [] ≡ judge (trace_rows (entry c.before.before.before).args.trace.now) []
+passed : (c : lts.After-enum_told2 tie.the-claims reads.Pre reads.Post tie.handed_clauses) → accepted [] ≡ judge (trace_rows (entry c.before.before.before).args.trace.now) []
 passed c = ap acceptance_answer (sym c.enum_told-in_default-judged-1.given.1) ∙ c.judge_trace-judged.ensures
 
 pub judge_memory-memory-requires : goal.judge_memory-memory-requires
@@ -37,12 +37,9 @@ returns-in-Refused c = start_unfit _ _ _ _ _ (entry c.before.before.before.befor
 
 pub apply_trace-requires : goal.apply_trace-requires
 apply_trace-requires c = let s = entry c.before.before.before.before.before.before.before.before in
-    let a = s.args in (
-      (s.pre, start_fits a.buffer.now a.trace.now _ _ _ s.pre (enough c.before.before.before.before.before.before.before.before)),
-      trace_passed a.buffer.now a.trace.now a.marks.now a.spare.now a.classes.now s.pre (enough c.before.before.before.before.before.before.before.before) (passed c.before.before.before.before.before),
-    )
+    let a = s.args in record { formed = (s.pre, start_fits a.buffer.now a.trace.now _ _ _ s.pre (enough c.before.before.before.before.before.before.before.before)); clean = trace_passed a.buffer.now a.trace.now a.marks.now a.spare.now a.classes.now s.pre (enough c.before.before.before.before.before.before.before.before) (passed c.before.before.before.before.before); }
 
-abbrev at-apply-trace : lts.After-slice_known8 tie.the-claims reads.Pre reads.Post → lts.After-apply_trace tie.the-claims reads.Pre reads.Post
+abbrev at-apply-trace : lts.After-slice_known8 tie.the-claims reads.Pre reads.Post tie.handed_clauses → lts.After-apply_trace tie.the-claims reads.Pre reads.Post tie.handed_clauses
 at-apply-trace c = search
 
 pub returns : goal.returns

@@ -4,7 +4,7 @@ use Rattle.edit_run.specs.GatheredLaws.{gathered}
 use Rattle.edit_run.proofs.gather_pairs.Goals as goal
 
 pub overflow_cast-count : goal.overflow_cast-count
-overflow_cast-count c = omega (arith, c.requires.trace_len.0.1)
+overflow_cast-count c = omega (arith, c.requires.trace_len.1)
 
 pub returns : goal.returns
 returns c = let p = c.requires in

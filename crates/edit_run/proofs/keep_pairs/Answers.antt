@@ -15,9 +15,9 @@ use Rattle.edit_run.proofs.keep_pairs.Reads as reads
 use Rattle.edit_run.proofs.keep_pairs.Tie as tie
 
 -- at most the pairs that were looked at
-few : (i : lts.In-loop tie.the-claims reads.Pre reads.Post goal.the-invariant-loop-x goal.the-decreases-loop-x) → i.loop-x.e ≤ i.loop-x.x
+few : (i : lts.In-loop tie.the-claims reads.Pre reads.Post goal.the-invariant-loop-x goal.the-decreases-loop-x tie.handed_clauses) → i.loop-x.e ≤ i.loop-x.x
 few i =
-    let s : lts.Start tie.the-claims reads.Pre reads.Post goal.the-invariant-loop-x goal.the-decreases-loop-x = search in
+    let s : lts.Start tie.the-claims reads.Pre reads.Post goal.the-invariant-loop-x goal.the-decreases-loop-x tie.handed_clauses = search in
     let a = s.args in
     let l = i.loop-x in
     omega (arith, l.invariant.3.count, kept_few a.sources.now a.targets.now a.copies.now a.links.now a.end l.x)

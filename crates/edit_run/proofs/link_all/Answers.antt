@@ -10,16 +10,16 @@ pub link_pairs-requires : goal.link_pairs-requires
 link_pairs-requires c = let p = c.requires in
     let a = length-replicate {A = ℕ} 512 0 in
     let b = length-replicate {A = ℕ} 8192 0 in
-    ((p.0.0, p.0.1, zeros 512), (omega (arith, a, p.0), omega (arith, b, p.0.0.few), omega (arith, a, p.0), p.1.0.0))
+    record { pairs = (p.0.0, p.0.1, zeros 512); n_in_bounds = (omega (arith, a, p.0), omega (arith, b, p.0.0.few), omega (arith, a, p.0), p.1.0.0); }
 
 pub count_sources-requires : goal.count_sources-requires
 count_sources-requires c = let p = c.requires in
     let k = c.link_pairs.kept in
-    (link_column _ _ _ _ p.0.1 _ c.link_pairs.ensures p.0.2 (omega (arith, k, p.1.0)), (omega (arith, p.1.0), p.1.1.0))
+    record { column = link_column _ _ _ _ p.0.1 _ c.link_pairs.ensures p.0.2 (omega (arith, k, p.1.0)); n_in_bounds = omega (arith, p.1.0); by_index = p.1.1.0; }
 
 pub count_sources-requires-2 : goal.count_sources-requires-2
 count_sources-requires-2 c = let p = c.requires in
-    (source_column p.0.0 p.0.1 p.0.2, (omega (arith, p.1.0), p.1.1.1))
+    record { column = source_column p.0.0 p.0.1 p.0.2; n_in_bounds = omega (arith, p.1.0); by_index = p.1.1.1; }
 
 pub returns : goal.returns
 returns c = record {

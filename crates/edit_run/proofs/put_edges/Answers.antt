@@ -9,20 +9,20 @@ use Rattle.edit_run.proofs.put_edges.Reads as reads
 use Rattle.edit_run.proofs.put_edges.Tie as tie
 
 -- the buffer keeps its length
-kept1 : (c : lts.After-copy tie.the-claims reads.Pre reads.Post) → let s : lts.Start tie.the-claims reads.Pre reads.Post = search in length c.copy.new.0 ≡ length s.args.buffer.now
+kept1 : (c : lts.After-copy tie.the-claims reads.Pre reads.Post tie.handed_clauses) → let s : lts.Start tie.the-claims reads.Pre reads.Post tie.handed_clauses = search in length c.copy.new.0 ≡ length s.args.buffer.now
 kept1 c = c.copy.auto.0 ∙ simp length-set
 
-kept2 : (c : lts.After-copy2 tie.the-claims reads.Pre reads.Post) → let s : lts.Start tie.the-claims reads.Pre reads.Post = search in length c.copy-2.new.0 ≡ length s.args.buffer.now
-kept2 c = let x : lts.After-copy tie.the-claims reads.Pre reads.Post = search in c.copy-2.auto.0 ∙ kept1 x
+kept2 : (c : lts.After-copy2 tie.the-claims reads.Pre reads.Post tie.handed_clauses) → let s : lts.Start tie.the-claims reads.Pre reads.Post tie.handed_clauses = search in length c.copy-2.new.0 ≡ length s.args.buffer.now
+kept2 c = let x : lts.After-copy tie.the-claims reads.Pre reads.Post tie.handed_clauses = search in c.copy-2.auto.0 ∙ kept1 x
 
 pub copy-requires : goal.copy-requires
-copy-requires c = (simp length-set (omega (arith, c.requires.n_value, c.requires.top_in_bounds.0)), c.requires.top_in_bounds.0.1)
+copy-requires c = (simp length-set (omega (arith, c.requires.n_value, c.requires.top_in_bounds)), c.requires.top_in_bounds.1)
 
 pub copy-requires-2 : goal.copy-requires-2
-copy-requires-2 c = (omega (arith, kept1 c.before.before.before.before, c.requires.n_value, c.requires.top_in_bounds.0), c.requires.top_in_bounds.0.2)
+copy-requires-2 c = (omega (arith, kept1 c.before.before.before.before, c.requires.n_value, c.requires.top_in_bounds), c.requires.top_in_bounds.2)
 
 pub fill-requires : goal.fill-requires
-fill-requires c = omega (arith, kept2 c.before.before.before.before, c.requires.n_value, c.requires.top_in_bounds.0)
+fill-requires c = omega (arith, kept2 c.before.before.before.before, c.requires.n_value, c.requires.top_in_bounds)
 
 pub shape_of-buffer : goal.shape_of-buffer
 shape_of-buffer c = c.fill.kept.0 ∙ kept2 c.before.before.before.before.before.before.before

@@ -17,31 +17,31 @@ use Rattle.edit_run.proofs.run_first.Lts as lts
 use Rattle.edit_run.proofs.run_first.Reads as reads
 use Rattle.edit_run.proofs.run_first.Tie as tie
 
-abbrev start : lts.After-gather_pairs tie.the-claims reads.Pre reads.Post → lts.Start tie.the-claims reads.Pre reads.Post
+abbrev start : lts.After-gather_pairs tie.the-claims reads.Pre reads.Post tie.handed_clauses → lts.Start tie.the-claims reads.Pre reads.Post tie.handed_clauses
 start c = search
 
-abbrev gathered-at : lts.After-link_all tie.the-claims reads.Pre reads.Post → lts.After-gather_pairs tie.the-claims reads.Pre reads.Post
+abbrev gathered-at : lts.After-link_all tie.the-claims reads.Pre reads.Post tie.handed_clauses → lts.After-gather_pairs tie.the-claims reads.Pre reads.Post tie.handed_clauses
 gathered-at c = search
 
 -- the trace is as long as its count tells
-size : (s : lts.Start tie.the-claims reads.Pre reads.Post) → length s.args.trace.now ≡ 1 + 2 * entry_count s.args.trace.now
+size : (s : lts.Start tie.the-claims reads.Pre reads.Post tie.handed_clauses) → length s.args.trace.now ≡ 1 + 2 * entry_count s.args.trace.now
 size s = trace_length s.args.trace.now s.requires.formed.1
 
-few : (s : lts.Start tie.the-claims reads.Pre reads.Post) → entry_count s.args.trace.now ≤ 4096
+few : (s : lts.Start tie.the-claims reads.Pre reads.Post tie.handed_clauses) → entry_count s.args.trace.now ≤ 4096
 few s = trace_few s.args.trace.now s.requires.formed.1
 
 -- no more entries than there are
-high : (s : lts.Start tie.the-claims reads.Pre reads.Post) → s.args.k ≤ entry_count s.args.trace.now
+high : (s : lts.Start tie.the-claims reads.Pre reads.Post tie.handed_clauses) → s.args.k ≤ entry_count s.args.trace.now
 high s =
     let a = s.args in
     omega (arith, s.requires.k_value.0, first_le (outside a.trace.now a.n) 0 (entry_count a.trace.now) (omega arith))
 
 -- no more edges and vertices than there may be
-small : (s : lts.Start tie.the-claims reads.Pre reads.Post) → (s.args.n ≤ vertex_limit) × (s.args.m ≤ edge_limit)
+small : (s : lts.Start tie.the-claims reads.Pre reads.Post tie.handed_clauses) → (s.args.n ≤ vertex_limit) × (s.args.m ≤ edge_limit)
 small s = let f = s.requires.formed.0 in (omega (arith, f.vertices, f.well.vertices), omega (arith, f.edges, f.well.edges))
 
 -- the pairs that are gathered
-pairs : (c : lts.After-gather_pairs tie.the-claims reads.Pre reads.Post)
+pairs : (c : lts.After-gather_pairs tie.the-claims reads.Pre reads.Post tie.handed_clauses)
     → let a = (start c).args in
     Pairs c.gather_pairs.new.1.1.1.1.1.0 c.gather_pairs.new.1.1.1.1.1.1.0 (a.m + a.k) a.n
 pairs c =
@@ -51,13 +51,7 @@ pairs c =
     (omega (arith, r, c.gather_pairs.auto, high s, few s, small s)) (omega (arith, r, c.gather_pairs.auto, high s, few s, small s))
 
 pub gather_pairs-requires : goal.gather_pairs-requires
-gather_pairs-requires c = let r = length-replicate {A = ℕ} 8192 0 in (
-      (c.requires.formed.0, formed_room c.args.buffer.now c.args.n c.args.m c.requires.formed.0, high c.before.before.before.before.before),
-      (
-        (size c.before.before.before.before.before, few c.before.before.before.before.before, (small c.before.before.before.before.before).0, (small c.before.before.before.before.before).1),
-        (omega (arith, r, high c.before.before.before.before.before, few c.before.before.before.before.before, small c.before.before.before.before.before), omega (arith, r, high c.before.before.before.before.before, few c.before.before.before.before.before, small c.before.before.before.before.before)),
-      ),
-    )
+gather_pairs-requires c = let r = length-replicate {A = ℕ} 8192 0 in record { formed = (c.requires.formed.0, formed_room c.args.buffer.now c.args.n c.args.m c.requires.formed.0, high c.before.before.before.before.before); trace_len = (size c.before.before.before.before.before, few c.before.before.before.before.before, (small c.before.before.before.before.before).0, (small c.before.before.before.before.before).1); k_in_bounds = (omega (arith, r, high c.before.before.before.before.before, few c.before.before.before.before.before, small c.before.before.before.before.before), omega (arith, r, high c.before.before.before.before.before, few c.before.before.before.before.before, small c.before.before.before.before.before)); }
 
 pub overflow_add-m : goal.overflow_add-m
 overflow_add-m c = omega (arith, high c.before.before.before.before.before.before.before.before.before.before, few c.before.before.before.before.before.before.before.before.before.before, small c.before.before.before.before.before.before.before.before.before.before)
@@ -66,30 +60,15 @@ pub link_all-requires : goal.link_all-requires
 link_all-requires c = let s = start c.before.before.before.before.before.before.before.before in
     let r = length-replicate {A = ℕ} 8192 0 in
     let q = length-replicate {A = ℕ} 8193 0 in
-    let u = length-replicate {A = ℕ} 512 0 in (
-      (pairs c.before.before.before.before.before.before.before.before, omega arith, (small s).1, (small s).0),
-      (
-        (omega (arith, r, high s, few s, small s), omega (arith, q, high s, few s, small s), omega (arith, u, small s)),
-        (zeros 8193, zeros 512),
-      ),
-    )
+    let u = length-replicate {A = ℕ} 512 0 in record { pairs = (pairs c.before.before.before.before.before.before.before.before, omega arith, (small s).1, (small s).0); count_in_bounds = (omega (arith, r, high s, few s, small s), omega (arith, q, high s, few s, small s), omega (arith, u, small s)); by_index = (zeros 8193, zeros 512); }
 
 pub settle-requires : goal.settle-requires
 settle-requires c = let y = gathered-at c.before.before.before.before.before.before.before.before.before.before in
     let s = start y in
     let r = length-replicate {A = ℕ} 8192 0 in
     let q = length-replicate {A = ℕ} 8193 0 in
-    let u = length-replicate {A = ℕ} 512 0 in (
-      (s.pre.0.0, s.pre.1.0, s.pre.1.1),
-      (
-        (size s, y.gather_pairs.ensures),
-        (
-          (pairs y, c.link_all.ensures),
-          (
+    let u = length-replicate {A = ℕ} 512 0 in record { formed = (s.pre.0.0, s.pre.1.0, s.pre.1.1); trace_len = (size s, y.gather_pairs.ensures); pairs = (pairs y, c.link_all.ensures); k_in_bounds = (
             omega (arith, r, c.link_all.kept, high s, few s, small s),
             omega (arith, q, c.link_all.kept, high s, few s, small s),
             omega (arith, u, c.link_all.kept, small s),
-          ),
-        ),
-      ),
-    )
+          ); }

@@ -15,13 +15,7 @@ overflow_add-m c = omega (arith, c.loop-done.invariant.2.inside, c.requires.pair
 
 pub enter-entry-requires : goal.enter-entry-requires
 enter-entry-requires c = let p = c.requires in
-    let l = c.loop-done in (
-      (p.0.0, p.0.1, p.0.2, c.if-count-m.false),
-      (
-        (p.1.0.0, l.inv.2.few, p.1.0.2, omega (arith, l.inv.0, p.1.0), omega (arith, l.inv.1, p.1.0)),
-        l.inv.2.tally,
-      ),
-    )
+    let l = c.loop-done in record { pairs = (p.0.0, p.0.1, p.0.2, c.if-count-m.false); n_le_vertex_limit = (p.1.0.0, l.inv.2.few, p.1.0.2, omega (arith, l.inv.0, p.1.0), omega (arith, l.inv.1, p.1.0)); tallied = l.inv.2.tally; }
 
 pub overflow_add-done : goal.overflow_add-done
 overflow_add-done c = omega (arith, c.if-count-m.false, c.requires.pairs.0.few)

@@ -13,20 +13,20 @@ use Rattle.edit_run.proofs.settle.Lts as lts
 use Rattle.edit_run.proofs.settle.Reads as reads
 use Rattle.edit_run.proofs.settle.Tie as tie
 
-abbrev run_at : lts.After-keep_pairs tie.the-claims reads.Pre reads.Post → lts.After-run_pairs tie.the-claims reads.Pre reads.Post
+abbrev run_at : lts.After-keep_pairs tie.the-claims reads.Pre reads.Post tie.handed_clauses → lts.After-run_pairs tie.the-claims reads.Pre reads.Post tie.handed_clauses
 run_at c = search
 
-abbrev start : lts.After-run_pairs tie.the-claims reads.Pre reads.Post → lts.Start tie.the-claims reads.Pre reads.Post
+abbrev start : lts.After-run_pairs tie.the-claims reads.Pre reads.Post tie.handed_clauses → lts.Start tie.the-claims reads.Pre reads.Post tie.handed_clauses
 start c = search
 
-abbrev keep_at : lts.After-put_edges tie.the-claims reads.Pre reads.Post → lts.After-keep_pairs tie.the-claims reads.Pre reads.Post
+abbrev keep_at : lts.After-put_edges tie.the-claims reads.Pre reads.Post tie.handed_clauses → lts.After-keep_pairs tie.the-claims reads.Pre reads.Post tie.handed_clauses
 keep_at c = search
 
-abbrev put-at : lts.After-judge_rest tie.the-claims reads.Pre reads.Post → lts.After-put_edges tie.the-claims reads.Pre reads.Post
+abbrev put-at : lts.After-judge_rest tie.the-claims reads.Pre reads.Post tie.handed_clauses → lts.After-put_edges tie.the-claims reads.Pre reads.Post tie.handed_clauses
 put-at c = search
 
 -- what the entries leave fits
-fit : (y : lts.After-keep_pairs tie.the-claims reads.Pre reads.Post)
+fit : (y : lts.After-keep_pairs tie.the-claims reads.Pre reads.Post tie.handed_clauses)
     → let h = (run_at y).run-pairs.result in
     let a = (start (run_at y)).args in
     (y.keep_pairs-edges.result ≤ edge_limit) × (y.keep_pairs-edges.result ≤ h.most) × (h.most ≤ edge_limit) × (table_length a.n h.most ≤ length a.buffer.now)
@@ -36,7 +36,7 @@ fit y =
     let p = s.pre in
     settled_fits s.args.buffer.now s.args.trace.now p.0.0 p.0.1 p.1.0.1 p.1.1.0.1.linked x.run-pairs.ensures y.keep_pairs-edges.ensures
 
-few : (y : lts.After-keep_pairs tie.the-claims reads.Pre reads.Post)
+few : (y : lts.After-keep_pairs tie.the-claims reads.Pre reads.Post tie.handed_clauses)
     → let h = (run_at y).run-pairs.result in
     let a = (start (run_at y)).args in
     (y.keep_pairs-edges.result ≤ a.m + h.done) × (h.done ≤ a.k) × (a.k ≤ entry_count a.trace.now)
@@ -49,26 +49,14 @@ few y =
 pub run_pairs-halt-requires : goal.run_pairs-halt-requires
 run_pairs-halt-requires c = let p = c.requires in
     let f = p.0.0 in
-    let q = p.1.1 in (
-      (q.0.0, omega arith, q.0.1.linked),
-      (
-        (omega (arith, f.vertices, f.well.vertices), omega (arith, f.edges, f.well.edges), q.1.0, q.1.1, q.1.2),
-        q.0.1.tally,
-      ),
-    )
+    let q = p.1.1 in record { pairs = (q.0.0, omega arith, q.0.1.linked); n_le_vertex_limit = (omega (arith, f.vertices, f.well.vertices), omega (arith, f.edges, f.well.edges), q.1.0, q.1.1, q.1.2); tallied = q.0.1.tally; }
 
 pub put_edges-requires : goal.put_edges-requires
 put_edges-requires c = let s = start (run_at c.before.before.before.before.before.before) in
     let p = s.pre in
     let f = p.0.0 in
     let r = length-replicate {A = ℕ} 8192 0 in
-    let long : c.keep_pairs-edges.result ≤ 8192 = omega (arith, few c.before.before.before.before.before.before, p.1.1.0.0.few) in (
-      (f.vertices ∙ in_vertices s.args.buffer.now, omega (arith, f.vertices, f.well.vertices), (fit c.before.before.before.before.before.before).0, (fit c.before.before.before.before.before.before).1, (fit c.before.before.before.before.before.before).2),
-      (
-        ((fit c.before.before.before.before.before.before).3, omega (arith, long, r, c.keep_pairs-edges.kept), omega (arith, long, r, c.keep_pairs-edges.kept)),
-        in_room s.args.buffer.now f.well,
-      ),
-    )
+    let long : c.keep_pairs-edges.result ≤ 8192 = omega (arith, few c.before.before.before.before.before.before, p.1.1.0.0.few) in record { n_value = (f.vertices ∙ in_vertices s.args.buffer.now, omega (arith, f.vertices, f.well.vertices), (fit c.before.before.before.before.before.before).0, (fit c.before.before.before.before.before.before).1, (fit c.before.before.before.before.before.before).2); top_in_bounds = ((fit c.before.before.before.before.before.before).3, omega (arith, long, r, c.keep_pairs-edges.kept), omega (arith, long, r, c.keep_pairs-edges.kept)); buffer_in_bounds = in_room s.args.buffer.now f.well; }
 
 pub judge_rest-verdict-requires : goal.judge_rest-verdict-requires
 judge_rest-verdict-requires c = let y = keep_at c.before.before.before in

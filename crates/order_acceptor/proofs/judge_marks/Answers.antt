@@ -16,37 +16,37 @@ use Rattle.order_acceptor.proofs.judge_marks.Lts as lts
 use Rattle.order_acceptor.proofs.judge_marks.Reads as reads
 use Rattle.order_acceptor.proofs.judge_marks.Tie as tie
 
-abbrev game : lts.Start tie.the-claims reads.Pre reads.Post → List ℕ
+abbrev game : lts.Start tie.the-claims reads.Pre reads.Post tie.handed_clauses → List ℕ
 game s = s.args.game.now
 
-abbrev marks : lts.Start tie.the-claims reads.Pre reads.Post → List ℕ
+abbrev marks : lts.Start tie.the-claims reads.Pre reads.Post tie.handed_clauses → List ℕ
 marks s = s.args.marks.now
 
-pairs_are : (s : lts.Start tie.the-claims reads.Pre reads.Post) → s.args.n * s.args.n ≡ pair_count (game s)
+pairs_are : (s : lts.Start tie.the-claims reads.Pre reads.Post tie.handed_clauses) → s.args.n * s.args.n ≡ pair_count (game s)
 pairs_are s = ap (λ (k : ℕ). k * k) s.requires.1
 
-few : (s : lts.Start tie.the-claims reads.Pre reads.Post) → pair_count (game s) ≤ pair_limit
+few : (s : lts.Start tie.the-claims reads.Pre reads.Post tie.handed_clauses) → pair_count (game s) ≤ pair_limit
 few s = let w = s.requires.0.vertices in omega (arith, mul-le-mul w w)
 
-needed : (c : lts.After-length_for tie.the-claims reads.Pre reads.Post) → c.length_for-needed.result ≡ marks_length (vertex_count (game c.before.before.before))
+needed : (c : lts.After-length_for tie.the-claims reads.Pre reads.Post tie.handed_clauses) → c.length_for-needed.result ≡ marks_length (vertex_count (game c.before.before.before))
 needed c = c.length_for-needed.ensures ∙ ap marks_length c.requires.1
 
-fit : (c : lts.Else1 tie.the-claims reads.Pre reads.Post) → marks_length (vertex_count (game c.before.before.before.before)) ≤ length (marks c.before.before.before.before)
+fit : (c : lts.Else1 tie.the-claims reads.Pre reads.Post tie.handed_clauses) → marks_length (vertex_count (game c.before.before.before.before)) ≤ length (marks c.before.before.before.before)
 fit c = rw (needed c.before) at c.if-marks-needed.false
 
-unused : (c : lts.After-has_unused tie.the-claims reads.Pre reads.Post) → c.has_unused.result ≡ has_unused (marks c.before.before.before.before.before) (pair_count (game c.before.before.before.before.before))
+unused : (c : lts.After-has_unused tie.the-claims reads.Pre reads.Post tie.handed_clauses) → c.has_unused.result ≡ has_unused (marks c.before.before.before.before.before) (pair_count (game c.before.before.before.before.before))
 unused c = rw (pairs_are c.before.before.before.before.before) at c.has_unused.ensures
 
-clear : (c : lts.Else2 tie.the-claims reads.Pre reads.Post) → has_unused (marks c.before.before.before.before.before.before) (pair_count (game c.before.before.before.before.before.before)) ≡ false
+clear : (c : lts.Else2 tie.the-claims reads.Pre reads.Post tie.handed_clauses) → has_unused (marks c.before.before.before.before.before.before) (pair_count (game c.before.before.before.before.before.before)) ≡ false
 clear c = sym (unused c.before) ∙ c.if-has_unused.false
 
-place : (c : lts.After-failing_pair tie.the-claims reads.Pre reads.Post)
+place : (c : lts.After-failing_pair tie.the-claims reads.Pre reads.Post tie.handed_clauses)
     → c.failing_pair-failing.result.v * c.args.n + c.failing_pair-failing.result.w ≡ first_failing (pair_by c.args.mirror) (game c.before.before.before.before.before.before.before) (marks c.before.before.before.before.before.before.before)
 place c =
     let f = c.failing_pair-failing in
     ap (λ (k : ℕ). f.result.v * k + f.result.w) c.requires.1 ∙ f.ensures
 
-limit : (c : lts.After-failing_pair tie.the-claims reads.Pre reads.Post) → first_failing (pair_by c.args.mirror) (game c.before.before.before.before.before.before.before) (marks c.before.before.before.before.before.before.before) ≤ pair_limit
+limit : (c : lts.After-failing_pair tie.the-claims reads.Pre reads.Post tie.handed_clauses) → first_failing (pair_by c.args.mirror) (game c.before.before.before.before.before.before.before) (marks c.before.before.before.before.before.before.before) ≤ pair_limit
 limit c = omega (arith, first_failing_le (pair_by c.args.mirror) (game c.before.before.before.before.before.before.before) (marks c.before.before.before.before.before.before.before), few c.before.before.before.before.before.before.before)
 
 pub length_for-needed-requires : goal.length_for-needed-requires
@@ -69,7 +69,7 @@ pub returns-then-has_unused : goal.returns-then-has_unused
 returns-then-has_unused c = rw (c.refused-then-has_unused.ensures, needed c.before.before.before.before.before) (relation_unused _ _ _ c.requires.0 (fit c.before.before.before.before) (sym (unused c.before.before.before) ∙ c.if-has_unused.true))
 
 pub failing_pair-failing-requires : goal.failing_pair-failing-requires
-failing_pair-failing-requires c = (c.requires.0, fit c.before.before.before)
+failing_pair-failing-requires c = record { well_formed = c.requires.0; game_in_bounds = fit c.before.before.before; }
 
 pub overflow_mul-place : goal.overflow_mul-place
 overflow_mul-place c = omega (arith, place c.before.before, limit c.before.before)

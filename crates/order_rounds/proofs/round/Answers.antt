@@ -13,19 +13,13 @@ use Rattle.order_rounds.proofs.round.Lts as lts
 use Rattle.order_rounds.proofs.round.Reads as reads
 use Rattle.order_rounds.proofs.round.Tie as tie
 
-abbrev at-put : lts.After-lose-all-arg5 tie.the-claims reads.Pre reads.Post → lts.After-put tie.the-claims reads.Pre reads.Post
+abbrev at-put : lts.After-lose-all-arg5 tie.the-claims reads.Pre reads.Post tie.handed_clauses → lts.After-put tie.the-claims reads.Pre reads.Post tie.handed_clauses
 at-put c = search
 
 pub lose_all-requires : goal.lose_all-requires
-lose_all-requires c = let fit = c.requires.rows_fit in (
-      (c.requires.edge_words_in_bounds.0, fit.0, fit.1, fit.2),
-      (
-        (search rules, fit.3, omega (arith, c.requires.edge_words_in_bounds, (at-put c.before).put.auto.0)),
-        λ x h. sym ((at-put c.before).put.ensures.here x h) ∙ has_zero row_words x,
-      ),
-    )
+lose_all-requires c = let fit = c.requires.rows_fit in record { edge_words_in_bounds = (c.requires.edge_words_in_bounds.0, fit.0, fit.1, fit.2); row_words_in_bounds = (search rules, fit.3, omega (arith, c.requires.edge_words_in_bounds, (at-put c.before).put.auto.0)); by_index = λ x h. sym ((at-put c.before).put.ensures.here x h) ∙ has_zero row_words x; }
 
-abbrev complete-put : lts.After-complete-arg2 tie.the-claims reads.Pre reads.Post → lts.After-put tie.the-claims reads.Pre reads.Post
+abbrev complete-put : lts.After-complete-arg2 tie.the-claims reads.Pre reads.Post tie.handed_clauses → lts.After-put tie.the-claims reads.Pre reads.Post tie.handed_clauses
 complete-put c = search
 
 pub complete-requires : goal.complete-requires
@@ -33,10 +27,10 @@ complete-requires c = let p = c.requires in
     let k = c.lose_all.auto in
     (omega (arith, p.1, k), omega (arith, p.0, (complete-put c.before).put.auto.0, k))
 
-abbrev at-lose-all : lts.After-take-all-arg5 tie.the-claims reads.Pre reads.Post → lts.After-lose_all tie.the-claims reads.Pre reads.Post
+abbrev at-lose-all : lts.After-take-all-arg5 tie.the-claims reads.Pre reads.Post tie.handed_clauses → lts.After-lose_all tie.the-claims reads.Pre reads.Post tie.handed_clauses
 at-lose-all c = search
 
-abbrev at-complete : lts.After-take-all-arg5 tie.the-claims reads.Pre reads.Post → lts.After-complete tie.the-claims reads.Pre reads.Post
+abbrev at-complete : lts.After-take-all-arg5 tie.the-claims reads.Pre reads.Post tie.handed_clauses → lts.After-complete tie.the-claims reads.Pre reads.Post tie.handed_clauses
 at-complete c = search
 
 pub take_all-requires : goal.take_all-requires
@@ -44,9 +38,9 @@ take_all-requires c = let p = c.requires in
     let fit = p.1 in
     let k = (at-lose-all c.before).lose-all.auto in
     let q = (at-complete c.before).complete.auto in
-    ((p.0.0, omega (arith, fit, k, q), omega (arith, p.0, c.put.auto.0, k, q)), (fit.0, fit.1, fit.2))
+    record { edge_words_in_bounds = (p.0.0, omega (arith, fit, k, q), omega (arith, p.0, c.put.auto.0, k, q)); relation_words_in_bounds = (fit.0, fit.1, fit.2); }
 
-abbrev returns-complete : lts.After-slice_known13 tie.the-claims reads.Pre reads.Post → lts.After-complete tie.the-claims reads.Pre reads.Post
+abbrev returns-complete : lts.After-slice_known13 tie.the-claims reads.Pre reads.Post tie.handed_clauses → lts.After-complete tie.the-claims reads.Pre reads.Post tie.handed_clauses
 returns-complete c = search
 
 pub returns : goal.returns

@@ -8,13 +8,13 @@ use Rattle.order_small_rounds.proofs.round.Lts as lts
 use Rattle.order_small_rounds.proofs.round.Reads as reads
 use Rattle.order_small_rounds.proofs.round.Tie as tie
 
-abbrev at-unite : lts.After-take_all tie.the-claims reads.Pre reads.Post → lts.After-unite tie.the-claims reads.Pre reads.Post
+abbrev at-unite : lts.After-take_all tie.the-claims reads.Pre reads.Post tie.handed_clauses → lts.After-unite tie.the-claims reads.Pre reads.Post tie.handed_clauses
 at-unite c = search
 
-abbrev at-lose-all : lts.After-take_all tie.the-claims reads.Pre reads.Post → lts.After-lose_all tie.the-claims reads.Pre reads.Post
+abbrev at-lose-all : lts.After-take_all tie.the-claims reads.Pre reads.Post tie.handed_clauses → lts.After-lose_all tie.the-claims reads.Pre reads.Post tie.handed_clauses
 at-lose-all c = search
 
-abbrev at-complete : lts.After-take_all tie.the-claims reads.Pre reads.Post → lts.After-complete tie.the-claims reads.Pre reads.Post
+abbrev at-complete : lts.After-take_all tie.the-claims reads.Pre reads.Post tie.handed_clauses → lts.After-complete tie.the-claims reads.Pre reads.Post tie.handed_clauses
 at-complete c = search
 
 pub returns : goal.returns

@@ -7,7 +7,7 @@ use Rattle.plan_links.proofs.index_links.Lts as lts
 use Rattle.plan_links.proofs.index_links.Reads as reads
 use Rattle.plan_links.proofs.index_links.Tie as tie
 
-formed : (c : lts.After-shared_slice_known2 tie.the-claims reads.Pre reads.Post) → PlanFormed c.requires.by_index.0 c.args.plan.now
+formed : (c : lts.After-shared_slice_known2 tie.the-claims reads.Pre reads.Post tie.handed_clauses) → PlanFormed c.requires.by_index.0 c.args.plan.now
 formed c = c.requires.by_index.1
 
 pub bounds-plan-0 : goal.bounds-plan-0
@@ -29,7 +29,7 @@ pub overflow_add-sources-2 : goal.overflow_add-sources-2
 overflow_add-sources-2 c = omega (arith, (formed c.before.before).sized.positions, (formed c.before.before).sized.links)
 
 pub build-requires : goal.build-requires
-build-requires c = ((link_sources (formed c.before.before.before.before), link_targets (formed c.before.before.before.before)), c.requires.plan_in_bounds)
+build-requires c = ((link_sources (formed c.before.before.before.before), link_targets (formed c.before.before.before.before)), c.requires.1)
 
 pub returns : goal.returns
 returns c = c.build.ensures

@@ -15,25 +15,25 @@ use Rattle.plan_returns.proofs.expand.Lts as lts
 use Rattle.plan_returns.proofs.expand.Reads as reads
 use Rattle.plan_returns.proofs.expand.Tie as tie
 
-abbrev start : lts.At-loop tie.the-claims reads.Pre reads.Post goal.the-invariant-loop-t goal.the-decreases-loop-t → lts.Start tie.the-claims reads.Pre reads.Post goal.the-invariant-loop-t goal.the-decreases-loop-t
+abbrev start : lts.At-loop tie.the-claims reads.Pre reads.Post goal.the-invariant-loop-t goal.the-decreases-loop-t tie.handed_clauses → lts.Start tie.the-claims reads.Pre reads.Post goal.the-invariant-loop-t goal.the-decreases-loop-t tie.handed_clauses
 start c = search
 
-within : (c : lts.Then1 tie.the-claims reads.Pre reads.Post goal.the-invariant-loop-t goal.the-decreases-loop-t) → let e = start c.before.before in c.loop-t.t < get_or e.args.starts.now (e.args.i + 1) 0
+within : (c : lts.Then1 tie.the-claims reads.Pre reads.Post goal.the-invariant-loop-t goal.the-decreases-loop-t tie.handed_clauses) → let e = start c.before.before in c.loop-t.t < get_or e.args.starts.now (e.args.i + 1) 0
 within c = rw c.run_of-run.ensures at c.loop-t-test.true
 
-turn : (c : lts.Then1 tie.the-claims reads.Pre reads.Post goal.the-invariant-loop-t goal.the-decreases-loop-t) → let e = start c.before.before in Target e.args.p e.args.targets.now c.loop-t.t
+turn : (c : lts.Then1 tie.the-claims reads.Pre reads.Post goal.the-invariant-loop-t goal.the-decreases-loop-t tie.handed_clauses) → let e = start c.before.before in Target e.args.p e.args.targets.now c.loop-t.t
 turn c =
     let e = start c.before.before in
     indexed_target e.pre.0.0.index e.args.i c.loop-t.t e.pre.0.1 c.loop-t.invariant.from (within c)
 
 -- the position of a turn has its priority and its stamp
-inside : (c : lts.Then1 tie.the-claims reads.Pre reads.Post goal.the-invariant-loop-t goal.the-decreases-loop-t) → let e = start c.before.before in let j = get_or e.args.targets.now c.loop-t.t 0 in (j < length e.args.priorities.now) × (j < length e.args.blocks.now) × (j < length c.loop-t.seen)
+inside : (c : lts.Then1 tie.the-claims reads.Pre reads.Post goal.the-invariant-loop-t goal.the-decreases-loop-t tie.handed_clauses) → let e = start c.before.before in let j = get_or e.args.targets.now c.loop-t.t 0 in (j < length e.args.priorities.now) × (j < length e.args.blocks.now) × (j < length c.loop-t.seen)
 inside c =
     let w = (start c.before.before).pre.0.0 in
     (omega (arith, (turn c).below, w.values), omega (arith, (turn c).below, w.grouped), omega (arith, (turn c).below, w.stamps, c.loop-t.invariant.stamps))
 
 -- the queue has room for one more
-room : (c : lts.At-loop tie.the-claims reads.Pre reads.Post goal.the-invariant-loop-t goal.the-decreases-loop-t) → c.loop-t.last < length c.loop-t.queue
+room : (c : lts.At-loop tie.the-claims reads.Pre reads.Post goal.the-invariant-loop-t goal.the-decreases-loop-t tie.handed_clauses) → c.loop-t.last < length c.loop-t.queue
 room c = omega (arith, queued_le _ _ _ _ _ c.loop-t.invariant.grown.queued, (start c).requires.0.0.entries, c.loop-t.invariant.entries)
 
 pub run_of-run-requires : goal.run_of-run-requires
@@ -60,7 +60,7 @@ overflow_cast-targets c = omega (arith, (turn c.before.before.before.before).bel
 pub visit-last-requires : goal.visit-last-requires
 visit-last-requires c = ((inside c.before.before.before.before).0, (inside c.before.before.before.before).1, (inside c.before.before.before.before).2, room c.before.before.before.before.before.before, omega (arith, (turn c.before.before.before.before).below, (start c.before.before.before.before.before.before).pre.0.0.few))
 
-abbrev at-then1 : lts.After-slice_known4 tie.the-claims reads.Pre reads.Post goal.the-invariant-loop-t goal.the-decreases-loop-t → lts.Then1 tie.the-claims reads.Pre reads.Post goal.the-invariant-loop-t goal.the-decreases-loop-t
+abbrev at-then1 : lts.After-slice_known4 tie.the-claims reads.Pre reads.Post goal.the-invariant-loop-t goal.the-decreases-loop-t tie.handed_clauses → lts.Then1 tie.the-claims reads.Pre reads.Post goal.the-invariant-loop-t goal.the-decreases-loop-t tie.handed_clauses
 at-then1 c = search
 
 pub overflow_add-t : goal.overflow_add-t

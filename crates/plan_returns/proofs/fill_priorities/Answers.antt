@@ -11,7 +11,7 @@ use Rattle.plan_returns.proofs.fill_priorities.Reads as reads
 use Rattle.plan_returns.proofs.fill_priorities.Tie as tie
 
 -- the vertex of a turn's position
-below : (c : lts.After-vertex_of tie.the-claims reads.Pre reads.Post goal.the-invariant-loop-j goal.the-decreases-loop-j) → c.vertex_of.result < get_or c.args.game.now 0 0
+below : (c : lts.After-vertex_of tie.the-claims reads.Pre reads.Post goal.the-invariant-loop-j goal.the-decreases-loop-j tie.handed_clauses) → c.vertex_of.result < get_or c.args.game.now 0 0
 below c = rw c.vertex_of.ensures (c.requires.well_formed.1.vertices c.loop-j.j c.loop-j-test.true)
 
 pub overflow_add-priorities : goal.overflow_add-priorities
@@ -20,7 +20,7 @@ overflow_add-priorities c = omega (arith, below c.before, c.requires.well_formed
 pub offset_bounds-game-vertex_of : goal.offset_bounds-game-vertex_of
 offset_bounds-game-vertex_of c = omega (arith, below c.before, c.requires.well_formed.0.vertices)
 
-abbrev at-start : lts.After-shared_slice_known4 tie.the-claims reads.Pre reads.Post goal.the-invariant-loop-j goal.the-decreases-loop-j → lts.Start tie.the-claims reads.Pre reads.Post goal.the-invariant-loop-j goal.the-decreases-loop-j
+abbrev at-start : lts.After-shared_slice_known4 tie.the-claims reads.Pre reads.Post goal.the-invariant-loop-j goal.the-decreases-loop-j tie.handed_clauses → lts.Start tie.the-claims reads.Pre reads.Post goal.the-invariant-loop-j goal.the-decreases-loop-j tie.handed_clauses
 at-start c = search
 
 pub bounds-game-vertex_of : goal.bounds-game-vertex_of

@@ -9,8 +9,7 @@ use Rattle.plan_returns.specs.ReturnSearchLaws.{first_return_same}
 use Rattle.plan_returns.proofs.first_return.Goals as goal
 
 pub first_returning-requires : goal.first_returning-requires
-first_returning-requires c = let f = c.requires.words_pass.formed in (
-      (
+first_returning-requires c = let f = c.requires.words_pass.formed in record { workspace = (
         record {
           index = (_, _, _, c.requires.link_index);
           few = f.sized.positions;
@@ -20,9 +19,7 @@ first_returning-requires c = let f = c.requires.words_pass.formed in (
           entries = omega (arith, f.sized.positions);
         },
         c.requires.words_pass.number,
-      ),
-      (zeros position_limit, zeros position_limit),
-    )
+      ); by_index = zeros position_limit; by_index_2 = zeros position_limit; }
 
 pub returns : goal.returns
 returns c = c.first_returning.ensures

@@ -20,20 +20,20 @@ loop-i-init c = record {
       groups = refl;
       stamps = refl;
       entries = refl;
-      latest = λ j. omega (arith, c.requires.by_index.0 j);
-      confined = confined_one _ _ _ _ _ c.requires.by_index.1;
+      latest = λ j. omega (arith, c.requires.by_index j);
+      confined = confined_one _ _ _ _ _ c.requires.by_index_2;
       rest = refl;
     }
 
 pub returns_wrong-outcome-requires : goal.returns_wrong-outcome-requires
 returns_wrong-outcome-requires c = let i = c.loop-i.invariant in
-    ((workspace_kept c.requires.workspace.0 i.groups i.stamps i.entries, c.loop-i-test.true, c.requires.workspace.1), (i.latest, i.confined))
+    record { workspace = (workspace_kept c.requires.workspace.0 i.groups i.stamps i.entries, c.loop-i-test.true, c.requires.workspace.1); no_later = i.latest; confined = i.confined; }
 
 pub returns-then-outcome : goal.returns-then-outcome
 returns-then-outcome c = sym (c.loop-i.invariant.rest ∙ first_hit _ _ _ c.loop-i-test.true (sym c.returns_wrong-outcome.ensures.found_value ∙ c.if-outcome.true))
 
 pub renew-left-requires : goal.renew-left-requires
-renew-left-requires c = ((c.requires.workspace.0.few, omega (arith, c.loop-i.invariant.groups, c.requires.workspace.0.grouped)), c.loop-i.invariant.confined)
+renew-left-requires c = record { p_le_position_limit = (c.requires.workspace.0.few, omega (arith, c.loop-i.invariant.groups, c.requires.workspace.0.grouped)); confined = c.loop-i.invariant.confined; }
 
 pub overflow_add-i : goal.overflow_add-i
 overflow_add-i c = omega (arith, c.requires.workspace.0.few, c.loop-i-test.true)

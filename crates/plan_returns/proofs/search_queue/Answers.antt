@@ -17,14 +17,14 @@ use Rattle.plan_returns.proofs.search_queue.Lts as lts
 use Rattle.plan_returns.proofs.search_queue.Reads as reads
 use Rattle.plan_returns.proofs.search_queue.Tie as tie
 
-abbrev start : lts.At-loop tie.the-claims reads.Pre reads.Post goal.the-invariant-loop-head goal.the-decreases-loop-head → lts.Start tie.the-claims reads.Pre reads.Post goal.the-invariant-loop-head goal.the-decreases-loop-head
+abbrev start : lts.At-loop tie.the-claims reads.Pre reads.Post goal.the-invariant-loop-head goal.the-decreases-loop-head tie.handed_clauses → lts.Start tie.the-claims reads.Pre reads.Post goal.the-invariant-loop-head goal.the-decreases-loop-head tie.handed_clauses
 start c = search
 
 -- the work memory keeps its lengths
-space : (c : lts.At-loop tie.the-claims reads.Pre reads.Post goal.the-invariant-loop-head goal.the-decreases-loop-head) → let e = (start c).args in Workspace e.p e.starts.now e.targets.now e.priorities.now e.blocks.now c.loop-head.seen c.loop-head.queue
+space : (c : lts.At-loop tie.the-claims reads.Pre reads.Post goal.the-invariant-loop-head goal.the-decreases-loop-head tie.handed_clauses) → let e = (start c).args in Workspace e.p e.starts.now e.targets.now e.priorities.now e.blocks.now c.loop-head.seen c.loop-head.queue
 space c = workspace_kept (start c).requires.0.0 refl c.loop-head.invariant.stamps c.loop-head.invariant.entries
 
-next : (c : lts.Else1 tie.the-claims reads.Pre reads.Post goal.the-invariant-loop-head goal.the-decreases-loop-head) → Next c.loop-head.queue (start c.before.before.before).args.p c.loop-head.head
+next : (c : lts.Else1 tie.the-claims reads.Pre reads.Post goal.the-invariant-loop-head goal.the-decreases-loop-head tie.handed_clauses) → Next c.loop-head.queue (start c.before.before.before).args.p c.loop-head.head
 next c =
     let l = c.loop-head in
     let test = c.loop-head-test in
@@ -45,7 +45,7 @@ bounds-seen-i c = omega (arith, (space c.before.before.before).stamps, (start c.
 pub returns-then-seen-i : goal.returns-then-seen-i
 unfolding stamped
 returns-then-seen-i c = let i = c.loop-head.invariant in
-    (sym (searched_found _ _ _ _ _ _ _ _ _ i.searched (eq-eqb _ _ c.if-seen-i.true)), i.searched.queued.latest)
+    record { found_value = sym (searched_found _ _ _ _ _ _ _ _ _ i.searched (eq-eqb _ _ c.if-seen-i.true)); no_later = i.searched.queued.latest; }
 
 pub offset_bounds-queue-head : goal.offset_bounds-queue-head
 offset_bounds-queue-head c = omega (arith, (next c.before).few, (space c.before.before.before.before).entries)
@@ -60,7 +60,7 @@ pub spend-left-requires : goal.spend-left-requires
 spend-left-requires c = omega (arith, indexed_size (space c.before.before.before.before.before).index, (next c.before.before).below)
 
 pub expand-tail-requires : goal.expand-tail-requires
-expand-tail-requires c = ((space c.before.before.before.before.before.before.before.before, (next c.before.before.before.before.before).below), c.loop-head.invariant.searched.queued)
+expand-tail-requires c = record { workspace = (space c.before.before.before.before.before.before.before.before, (next c.before.before.before.before.before).below); queued = c.loop-head.invariant.searched.queued; }
 
 pub overflow_add-head : goal.overflow_add-head
 overflow_add-head c = omega (arith, (next c.before.before.before.before.before.before.before.before.before.before).few, (space c.before.before.before.before.before.before.before.before.before.before.before.before.before).few)
@@ -89,4 +89,4 @@ pub returns : goal.returns
 unfolding stamped
 returns c = let i = c.loop-head.invariant in
     let e = (start c.before.before.before).args in
-    (searched_all _ _ _ _ _ _ _ _ _ i.searched (own_passes e.priorities.now e.blocks.now e.i) (omega (arith, i.order, c.loop-head-test.false)), i.searched.queued.latest)
+    record { found_value = searched_all _ _ _ _ _ _ _ _ _ i.searched (own_passes e.priorities.now e.blocks.now e.i) (omega (arith, i.order, c.loop-head-test.false)); no_later = i.searched.queued.latest; }

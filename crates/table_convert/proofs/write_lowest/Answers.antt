@@ -17,21 +17,21 @@ use Rattle.table_convert.proofs.write_lowest.Reads as reads
 use Rattle.table_convert.proofs.write_lowest.Tie as tie
 
 -- the reader accepted
-sized : (c : lts.After-known_told tie.the-claims reads.Pre reads.Post) → WellSized c.args.game.now c.reading-1.given.0.0
+sized : (c : lts.After-known_told tie.the-claims reads.Pre reads.Post tie.handed_clauses) → WellSized c.args.game.now c.reading-1.given.0.0
 sized c = reading_accepted _ _ (rw c.reading-1.given.1 at c.read_sizes-reading.ensures)
 
-abbrev game-at : lts.After-known_told tie.the-claims reads.Pre reads.Post → List ℕ
+abbrev game-at : lts.After-known_told tie.the-claims reads.Pre reads.Post tie.handed_clauses → List ℕ
 game-at c = c.args.game.now
 
 -- what was found is the highest priority, and it is a word
-most : (c : lts.After-highest tie.the-claims reads.Pre reads.Post) → c.highest-highest.result ≡ highest (game-at c.before.before)
+most : (c : lts.After-highest tie.the-claims reads.Pre reads.Post tie.handed_clauses) → c.highest-highest.result ≡ highest (game-at c.before.before)
 most c = c.highest-highest.ensures ∙ ap (λ (n : ℕ). highest_of n (priority_at (game-at c.before.before))) (sized c.before.before).vertices
 
-few : (c : lts.After-highest tie.the-claims reads.Pre reads.Post) → highest (game-at c.before.before) ≤ 65535
+few : (c : lts.After-highest tie.the-claims reads.Pre reads.Post tie.handed_clauses) → highest (game-at c.before.before) ≤ 65535
 few c = omega (arith, most c)
 
 -- no word of a priority is 36's
-none : (c : lts.Else2 tie.the-claims reads.Pre reads.Post) → 2 + c.reading-1.given.0.0.vertices ≤ first_oversize (game-at c.before.before.before.before)
+none : (c : lts.Else2 tie.the-claims reads.Pre reads.Post tie.handed_clauses) → 2 + c.reading-1.given.0.0.vertices ≤ first_oversize (game-at c.before.before.before.before)
 none c = omega (arith, c.if-oversize-n.false, c.first_oversize-oversize.ensures)
 
 pub returns-in_default : goal.returns-in_default
@@ -68,7 +68,7 @@ returns-then-oversize-n c = let s = sized c.before.before.before.before.before.b
 pub write_table-requires : goal.write_table-requires
 write_table-requires c = let s = sized c.before.before.before.before.before.before.before in
     let b = c.even_from.ensures in
-    ((s.well, s.vertices, s.edges, b ∙ ap even_from (most c.before.before.before.before.before)), (c.if-output-needed.false, room _ (few c.before.before.before.before.before) _ _ s.vertices (b ∙ ap even_from (most c.before.before.before.before.before)) (none c.before.before.before)))
+    record { well_formed = (s.well, s.vertices, s.edges, b ∙ ap even_from (most c.before.before.before.before.before)); m_in_bounds = (c.if-output-needed.false, room _ (few c.before.before.before.before.before) _ _ s.vertices (b ∙ ap even_from (most c.before.before.before.before.before)) (none c.before.before.before)); }
 
 pub returns : goal.returns
 returns c = let s = sized c.before.before.before.before.before.before.before.before.before.before in

@@ -8,14 +8,14 @@ use Rattle.carry_output.proofs.output.write_plan.Lts as lts
 use Rattle.carry_output.proofs.output.write_plan.Reads as reads
 use Rattle.carry_output.proofs.output.write_plan.Tie as tie
 
-abbrev entry2 : lts.After-copy_part2 tie.the-claims reads.Pre reads.Post → lts.Start tie.the-claims reads.Pre reads.Post
+abbrev entry2 : lts.After-copy_part2 tie.the-claims reads.Pre reads.Post tie.handed_clauses → lts.Start tie.the-claims reads.Pre reads.Post tie.handed_clauses
 entry2 c = entry1 c.before.before.before.before
 
 -- the output keeps its length
-kept1 : (c : lts.After-copy_part tie.the-claims reads.Pre reads.Post) → length c.copy_part.new.0 ≡ length c.args.output.now
+kept1 : (c : lts.After-copy_part tie.the-claims reads.Pre reads.Post tie.handed_clauses) → length c.copy_part.new.0 ≡ length c.args.output.now
 kept1 c = c.copy_part.auto.0 ∙ simp length-set
 
-kept2 : (c : lts.After-copy_part2 tie.the-claims reads.Pre reads.Post) → length c.copy_part-2.new.0 ≡ length (entry2 c).args.output.now
+kept2 : (c : lts.After-copy_part2 tie.the-claims reads.Pre reads.Post tie.handed_clauses) → length c.copy_part-2.new.0 ≡ length (entry2 c).args.output.now
 kept2 c = c.copy_part-2.auto.0 ∙ kept1 c.before.before.before.before
 
 pub bounds-output-1 : goal.bounds-output-1

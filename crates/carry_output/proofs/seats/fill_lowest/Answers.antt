@@ -15,12 +15,13 @@ use Rattle.carry_output.proofs.seats.fill_lowest.Invariants.{Inv}
 use Rattle.carry_output.proofs.seats.fill_lowest.Goals as goal
 use Rattle.carry_output.proofs.seats.fill_lowest.Lts as lts
 use Rattle.carry_output.proofs.seats.fill_lowest.Reads as reads
+use Rattle.carry_output.proofs.seats.fill_lowest.Tie as tie
 
-abbrev start : lts.At-loop reads.Pre reads.Post goal.the-invariant-loop-v goal.the-decreases-loop-v → lts.Start reads.Pre reads.Post goal.the-invariant-loop-v goal.the-decreases-loop-v
+abbrev start : lts.At-loop reads.Pre reads.Post goal.the-invariant-loop-v goal.the-decreases-loop-v tie.handed_clauses → lts.Start reads.Pre reads.Post goal.the-invariant-loop-v goal.the-decreases-loop-v tie.handed_clauses
 start c = search
 
 -- the vertex before v has its class number
-word : (c : lts.In-loop reads.Pre reads.Post goal.the-invariant-loop-v goal.the-decreases-loop-v)
+word : (c : lts.In-loop reads.Pre reads.Post goal.the-invariant-loop-v goal.the-decreases-loop-v tie.handed_clauses)
     → let a = (start c.before).args in
     let v = c.loop-v.v - 1 in
     get_or a.classes.now v 0 ≡ class_number (vertex_count a.game.now) (order (game_of a.game.now)) v
@@ -29,7 +30,7 @@ word c =
     (start c.before).pre.0.1.numbers (c.loop-v.v - 1) (omega (arith, c.loop-v.invariant.to, c.loop-v-test.true))
 
 -- and that is below n
-word_lt : (c : lts.In-loop reads.Pre reads.Post goal.the-invariant-loop-v goal.the-decreases-loop-v)
+word_lt : (c : lts.In-loop reads.Pre reads.Post goal.the-invariant-loop-v goal.the-decreases-loop-v tie.handed_clauses)
     → let a = (start c.before).args in get_or a.classes.now (c.loop-v.v - 1) 0 < vertex_count a.game.now
 unfolding game_of
 word_lt c =
@@ -42,7 +43,7 @@ word_lt c =
       class_count_le G.n (order G) (order_preorder G),
     )
 
-room : (c : lts.At-loop reads.Pre reads.Post goal.the-invariant-loop-v goal.the-decreases-loop-v) → vertex_count (start c).args.game.now ≤ length c.loop-v.reps
+room : (c : lts.At-loop reads.Pre reads.Post goal.the-invariant-loop-v goal.the-decreases-loop-v tie.handed_clauses) → vertex_count (start c).args.game.now ≤ length c.loop-v.reps
 room c = omega (arith, (start c).requires.1, c.loop-v.invariant.same)
 
 pub loop-v-init : goal.loop-v-init

@@ -11,12 +11,12 @@ use Rattle.carry_output.proofs.seats.seat_positions.Reads as reads
 use Rattle.carry_output.proofs.seats.seat_positions.Tie as tie
 
 pub seat_classes-requires : goal.seat_classes-requires
-seat_classes-requires c = (subst (λ (b : Bool). Carriable b c.args.game.now c.args.plan.now c.args.classes.now) c.if-by_class.true c.requires.carriable, c.requires.plan_in_bounds)
+seat_classes-requires c = record { carriable = subst (λ (b : Bool). Carriable b c.args.game.now c.args.plan.now c.args.classes.now) c.if-by_class.true c.requires.carriable; plan_in_bounds = c.requires.plan_in_bounds; }
 
 pub returns-then-by_class : goal.returns-then-by_class
 returns-then-by_class c = subst (λ (b : Bool). Seats b c.args.game.now c.args.plan.now c.seat_classes.new.1.1.1.0) (sym c.if-by_class.true) c.seat_classes.ensures
 
-abbrev at-start : lts.After-copy-arg2 tie.the-claims reads.Pre reads.Post → lts.Start tie.the-claims reads.Pre reads.Post
+abbrev at-start : lts.After-copy-arg2 tie.the-claims reads.Pre reads.Post tie.handed_clauses → lts.Start tie.the-claims reads.Pre reads.Post tie.handed_clauses
 at-start c = search
 
 pub copy-requires : goal.copy-requires

@@ -14,7 +14,7 @@ use Rattle.carry_search.proofs.found.visit.Reads as reads
 use Rattle.carry_search.proofs.found.visit.Tie as tie
 
 -- both words of the link are in work memory
-link_room_lem : (e : lts.Start tie.the-claims reads.Pre reads.Post) → targets_at + e.args.counts.links < length e.args.work.now
+link_room_lem : (e : lts.Start tie.the-claims reads.Pre reads.Post tie.handed_clauses) → targets_at + e.args.counts.links < length e.args.work.now
 link_room_lem e = omega (arith, ready_long _ _ _ e.requires.search_room.0, e.requires.search_room.1.few_links)
 
 pub bounds-work-links : goal.bounds-work-links

@@ -14,7 +14,7 @@ use Rattle.classes.proofs.numbering.lowest_between.Reads as reads
 use Rattle.classes.proofs.numbering.lowest_between.Tie as tie
 
 -- the marks of the row lie among all
-room : (s : lts.Start tie.the-claims reads.Pre reads.Post goal.the-invariant-loop-left goal.the-decreases-loop-left) → let a = s.args in (a.v * a.n + a.n ≤ a.n * a.n) × (a.n * a.n ≤ pair_limit)
+room : (s : lts.Start tie.the-claims reads.Pre reads.Post goal.the-invariant-loop-left goal.the-decreases-loop-left tie.handed_clauses) → let a = s.args in (a.v * a.n + a.n ≤ a.n * a.n) × (a.n * a.n ≤ pair_limit)
 room s = (row_inside s.args.n s.args.v s.requires.v_lt_n.0, mul-le-mul s.requires.v_lt_n.1 s.requires.v_lt_n.1)
 
 pub overflow_mul-v : goal.overflow_mul-v
@@ -31,7 +31,7 @@ pub loop-left-init : goal.loop-left-init
 loop-left-init c = (onward_start _, none_start _ _ _ _ _ _ c.requires.from_le_end.0 c.read_bits-left.ensures)
 
 -- the bit is that of a vertex before the end
-inside : (c : lts.After-lowest tie.the-claims reads.Pre reads.Post goal.the-invariant-loop-left goal.the-decreases-loop-left) → let a = c.args in a.from + c.lowest.result < a.end
+inside : (c : lts.After-lowest tie.the-claims reads.Pre reads.Post goal.the-invariant-loop-left goal.the-decreases-loop-left tie.handed_clauses) → let a = c.args in a.from + c.lowest.result < a.end
 inside c =
     bit_inside _ _ _ _ _ _ c.requires.from_le_end.0 c.read_bits-left.ensures _ _ c.loop-left.invariant.0 c.lowest.ensures
 

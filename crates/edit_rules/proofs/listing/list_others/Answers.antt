@@ -17,30 +17,30 @@ use Rattle.edit_rules.proofs.listing.list_others.Lts as lts
 use Rattle.edit_rules.proofs.listing.list_others.Reads as reads
 use Rattle.edit_rules.proofs.listing.list_others.Tie as tie
 
-abbrev front : lts.In-loop tie.the-claims reads.Pre reads.Post goal.the-invariant-loop-j goal.the-decreases-loop-j → lts.After-list_part tie.the-claims reads.Pre reads.Post goal.the-invariant-loop-j goal.the-decreases-loop-j
+abbrev front : lts.In-loop tie.the-claims reads.Pre reads.Post goal.the-invariant-loop-j goal.the-decreases-loop-j tie.handed_clauses → lts.After-list_part tie.the-claims reads.Pre reads.Post goal.the-invariant-loop-j goal.the-decreases-loop-j tie.handed_clauses
 front c = search
 
-abbrev start : lts.In-loop tie.the-claims reads.Pre reads.Post goal.the-invariant-loop-j goal.the-decreases-loop-j → lts.Start tie.the-claims reads.Pre reads.Post goal.the-invariant-loop-j goal.the-decreases-loop-j
+abbrev start : lts.In-loop tie.the-claims reads.Pre reads.Post goal.the-invariant-loop-j goal.the-decreases-loop-j tie.handed_clauses → lts.Start tie.the-claims reads.Pre reads.Post goal.the-invariant-loop-j goal.the-decreases-loop-j tie.handed_clauses
 start c = search
 
 -- the edges listed so far
-listed : (c : lts.In-loop tie.the-claims reads.Pre reads.Post goal.the-invariant-loop-j goal.the-decreases-loop-j)
+listed : (c : lts.In-loop tie.the-claims reads.Pre reads.Post goal.the-invariant-loop-j goal.the-decreases-loop-j tie.handed_clauses)
     → let a = (start c).args in
     let l = c.loop-j in
     Appended (others a.s a.t (edges_below a.table.now (min l.j a.m))) 0 a.sources.now l.sources a.ends.now l.ends l.e
 listed c = let p = (start c).requires.1 in c.loop-j.invariant.3 _ _ p.0 p.1 (front c).list-part.ensures
 
-few : (c : lts.In-loop tie.the-claims reads.Pre reads.Post goal.the-invariant-loop-j goal.the-decreases-loop-j) → c.loop-j.e ≤ c.loop-j.j
+few : (c : lts.In-loop tie.the-claims reads.Pre reads.Post goal.the-invariant-loop-j goal.the-decreases-loop-j tie.handed_clauses) → c.loop-j.e ≤ c.loop-j.j
 few c =
     let a = (start c).args in
     let l = c.loop-j in
     omega (arith, (listed c).count, others_few a.table.now a.s a.t (min l.j a.m))
 
-below : (c : lts.In-loop tie.the-claims reads.Pre reads.Post goal.the-invariant-loop-j goal.the-decreases-loop-j) → c.loop-j.j ≤ (start c).args.m
+below : (c : lts.In-loop tie.the-claims reads.Pre reads.Post goal.the-invariant-loop-j goal.the-decreases-loop-j tie.handed_clauses) → c.loop-j.j ≤ (start c).args.m
 below c = omega (arith, c.loop-j-test.true)
 
 -- the buffers keep their lengths
-long : (c : lts.In-loop tie.the-claims reads.Pre reads.Post goal.the-invariant-loop-j goal.the-decreases-loop-j)
+long : (c : lts.In-loop tie.the-claims reads.Pre reads.Post goal.the-invariant-loop-j goal.the-decreases-loop-j tie.handed_clauses)
     → let l = c.loop-j in ((start c).args.m ≤ length l.sources) × ((start c).args.m ≤ length l.ends)
 long c =
     let l = c.loop-j in
@@ -49,21 +49,18 @@ long c =
     (omega (arith, l.invariant.1, k, p), omega (arith, l.invariant.2, k, p))
 
 -- where the first part ends
-first_high : (s : lts.Start tie.the-claims reads.Pre reads.Post goal.the-invariant-loop-j goal.the-decreases-loop-j) → s.args.copy ≤ s.args.m
+first_high : (s : lts.Start tie.the-claims reads.Pre reads.Post goal.the-invariant-loop-j goal.the-decreases-loop-j tie.handed_clauses) → s.args.copy ≤ s.args.m
 first_high s = part_high _ _ _ _ _ (omega arith) _ s.requires.formed.1
 
 -- where a part ends
-low : (f : lts.After-find_edge tie.the-claims reads.Pre reads.Post goal.the-invariant-loop-j goal.the-decreases-loop-j) → f.loop-j.j ≤ f.find_edge-k.result
+low : (f : lts.After-find_edge tie.the-claims reads.Pre reads.Post goal.the-invariant-loop-j goal.the-decreases-loop-j tie.handed_clauses) → f.loop-j.j ≤ f.find_edge-k.result
 low f = part_low _ _ _ _ _ (below f.before) _ f.find_edge-k.ensures
 
-high : (f : lts.After-find_edge tie.the-claims reads.Pre reads.Post goal.the-invariant-loop-j goal.the-decreases-loop-j) → f.find_edge-k.result ≤ (start f.before).args.m
+high : (f : lts.After-find_edge tie.the-claims reads.Pre reads.Post goal.the-invariant-loop-j goal.the-decreases-loop-j tie.handed_clauses) → f.find_edge-k.result ≤ (start f.before).args.m
 high f = part_high _ _ _ _ _ (below f.before) _ f.find_edge-k.ensures
 
 pub list_part-e-requires : goal.list_part-e-requires
-list_part-e-requires c = let p = c.requires.m_in_bounds in (
-      (c.requires.formed.0, omega arith, first_high c.before.before.before.before.before.before),
-      (omega (arith, first_high c.before.before.before.before.before.before, p), omega (arith, first_high c.before.before.before.before.before.before, p), omega arith),
-    )
+list_part-e-requires c = let p = c.requires.m_in_bounds in record { formed = (c.requires.formed.0, omega arith, first_high c.before.before.before.before.before.before); b_in_bounds = (omega (arith, first_high c.before.before.before.before.before.before, p), omega (arith, first_high c.before.before.before.before.before.before, p), omega arith); }
 
 pub overflow_add-j : goal.overflow_add-j
 overflow_add-j c = omega (arith, first_high c.before.before.before.before.before.before.before.before.before.before.before, c.requires.formed.0.edges, c.requires.formed.0.well.edges)
@@ -84,10 +81,7 @@ pub find_edge-k-requires : goal.find_edge-k-requires
 find_edge-k-requires c = ((start c.before).requires.0.0, below c.before)
 
 pub list_part-e-requires-in-loop-j : goal.list_part-e-requires-in-loop-j
-list_part-e-requires-in-loop-j c = (
-      ((start c.before.before.before.before).requires.0.0, low c.before.before.before, high c.before.before.before),
-      (omega (arith, few c.before.before.before.before, long c.before.before.before.before, high c.before.before.before), omega (arith, few c.before.before.before.before, long c.before.before.before.before, high c.before.before.before), few c.before.before.before.before),
-    )
+list_part-e-requires-in-loop-j c = record { formed = ((start c.before.before.before.before).requires.0.0, low c.before.before.before, high c.before.before.before); b_in_bounds = (omega (arith, few c.before.before.before.before, long c.before.before.before.before, high c.before.before.before), omega (arith, few c.before.before.before.before, long c.before.before.before.before, high c.before.before.before), few c.before.before.before.before); }
 
 pub overflow_add-j-in-loop-j : goal.overflow_add-j-in-loop-j
 overflow_add-j-in-loop-j c = let p = (start c.before.before.before.before.before.before.before.before.before).pre.0.0 in

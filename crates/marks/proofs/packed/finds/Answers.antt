@@ -15,7 +15,7 @@ use Rattle.marks.proofs.packed.finds.Reads as reads
 use Rattle.marks.proofs.packed.finds.Tie as tie
 
 -- the mark of the target at k is there
-room : (c : lts.Else1 tie.the-claims reads.Pre reads.Post goal.the-invariant-loop-k goal.the-decreases-loop-k)
+room : (c : lts.Else1 tie.the-claims reads.Pre reads.Post goal.the-invariant-loop-k goal.the-decreases-loop-k tie.handed_clauses)
     → let a = c.args in InMarks a.marks.now (a.base + get_or a.targets.now c.loop-k.k 0 * a.stride)
 room c = c.requires.by_index c.loop-k.k c.loop-k.invariant.0 c.if-k-end.false
 

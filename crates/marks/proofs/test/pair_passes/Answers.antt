@@ -13,11 +13,11 @@ use Rattle.marks.proofs.test.pair_passes.Reads as reads
 use Rattle.marks.proofs.test.pair_passes.Tie as tie
 
 -- owners are 0 or 1
-owners : (c : lts.After-run_of2 tie.the-claims reads.Pre reads.Post) → let s = c.args in (owner_at s.game.now s.v ≤ 1) × (owner_at s.game.now s.w ≤ 1)
+owners : (c : lts.After-run_of2 tie.the-claims reads.Pre reads.Post tie.handed_clauses) → let s = c.args in (owner_at s.game.now s.v ≤ 1) × (owner_at s.game.now s.w ≤ 1)
 owners c = let p = c.requires in (p.game.owners _ p.row, p.game.owners _ p.column)
 
 -- what the searches over v' and w' ask
-rows : (c : lts.After-shared_slice_known7 tie.the-claims reads.Pre reads.Post)
+rows : (c : lts.After-shared_slice_known7 tie.the-claims reads.Pre reads.Post tie.handed_clauses)
     → let s = c.args in
     let vs = c.run_of-vs.result in
     let ws = c.run_of-ws.result in

@@ -18,14 +18,14 @@ unfolding bit
 bit_zero k v x = rw (zeros k v) (digit_zero x)
 
 pub fill-requires : goal.fill-requires
-fill-requires c = ((c.requires.0, c.requires.1), (omega arith, bit_zero small_edges))
+fill-requires c = record { well_formed = (c.requires.0, c.requires.1); small_edges_in_bounds = omega arith; by_index = bit_zero small_edges; }
 
-abbrev at-start : lts.After-next tie.the-claims reads.Pre reads.Post → lts.Start tie.the-claims reads.Pre reads.Post
+abbrev at-start : lts.After-next tie.the-claims reads.Pre reads.Post tie.handed_clauses → lts.Start tie.the-claims reads.Pre reads.Post tie.handed_clauses
 at-start c = search
 
 pub rounds-passes-requires : goal.rounds-passes-requires
 rounds-passes-requires c = let f = c.fill in
-    (((at-start c.before).requires.0, omega (arith, f.auto), f.ensures), (omega arith, omega arith, omega arith, omega arith))
+    record { well_formed = ((at-start c.before).requires.0, omega (arith, f.auto), f.ensures); words_fit = (omega arith, omega arith, omega arith, omega arith); }
 
 pub returns : goal.returns
 unfolding bit

@@ -9,14 +9,14 @@ use Rattle.order.proofs.wide.fill_wide.Reads as reads
 use Rattle.order.proofs.wide.fill_wide.Tie as tie
 
 pub fill-requires : goal.fill-requires
-fill-requires c = (c.requires.0, (omega arith, cell_zero edge_words))
+fill-requires c = record { well_formed = c.requires.0; edge_words_in_bounds = omega arith; by_index = cell_zero edge_words; }
 
-abbrev at-start : lts.After-next tie.the-claims reads.Pre reads.Post → lts.Start tie.the-claims reads.Pre reads.Post
+abbrev at-start : lts.After-next tie.the-claims reads.Pre reads.Post tie.handed_clauses → lts.Start tie.the-claims reads.Pre reads.Post tie.handed_clauses
 at-start c = search
 
 pub rounds-passes-requires : goal.rounds-passes-requires
 rounds-passes-requires c = let f = c.fill in
-    ((at-start c.before).requires.0, ((f.ensures, omega (arith, f.auto)), (omega arith, omega arith, omega arith, omega arith)))
+    record { well_formed = (at-start c.before).requires.0; edge_rows = (f.ensures, omega (arith, f.auto)); rows_fit = (omega arith, omega arith, omega arith, omega arith); }
 
 pub write_marks-requires : goal.write_marks-requires
 write_marks-requires c = (c.requires.0.vertices, omega (arith, c.rounds-passes.auto, c.requires.0.vertices), c.requires.1)

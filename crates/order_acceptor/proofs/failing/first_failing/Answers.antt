@@ -14,7 +14,7 @@ use Rattle.order_acceptor.proofs.failing.first_failing.Tie as tie
 pub rows-init : goal.rows-init
 rows-init c = (search rules, failing_start _ _ _)
 
-abbrev at-start : lts.In-loop tie.the-claims reads.Pre reads.Post goal.the-invariant-loop-w goal.the-decreases-loop-w goal.the-invariant-rows goal.the-decreases-rows → lts.Start tie.the-claims reads.Pre reads.Post goal.the-invariant-loop-w goal.the-decreases-loop-w goal.the-invariant-rows goal.the-decreases-rows
+abbrev at-start : lts.In-loop tie.the-claims reads.Pre reads.Post goal.the-invariant-loop-w goal.the-decreases-loop-w goal.the-invariant-rows goal.the-decreases-rows tie.handed_clauses → lts.Start tie.the-claims reads.Pre reads.Post goal.the-invariant-loop-w goal.the-decreases-loop-w goal.the-invariant-rows goal.the-decreases-rows tie.handed_clauses
 at-start c = search
 
 pub pair_fails-requires : goal.pair_fails-requires

@@ -6,10 +6,10 @@ use Rattle.order_losses.proofs.edges.fill.Lts as lts
 use Rattle.order_losses.proofs.edges.fill.Reads as reads
 use Rattle.order_losses.proofs.edges.fill.Tie as tie
 
-abbrev at-start : lts.After-slice_known3 tie.the-claims reads.Pre reads.Post → lts.Start tie.the-claims reads.Pre reads.Post
+abbrev at-start : lts.After-slice_known3 tie.the-claims reads.Pre reads.Post tie.handed_clauses → lts.Start tie.the-claims reads.Pre reads.Post tie.handed_clauses
 at-start c = search
 
-abbrev at-add-edges : lts.After-slice_known3 tie.the-claims reads.Pre reads.Post → lts.After-add_edges tie.the-claims reads.Pre reads.Post
+abbrev at-add-edges : lts.After-slice_known3 tie.the-claims reads.Pre reads.Post tie.handed_clauses → lts.After-add_edges tie.the-claims reads.Pre reads.Post tie.handed_clauses
 at-add-edges c = search
 
 pub returns : goal.returns

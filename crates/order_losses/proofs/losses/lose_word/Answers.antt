@@ -17,7 +17,7 @@ use Rattle.order_losses.proofs.losses.lose_word.Lts as lts
 use Rattle.order_losses.proofs.losses.lose_word.Reads as reads
 use Rattle.order_losses.proofs.losses.lose_word.Tie as tie
 
-abbrev start : lts.At-loop tie.the-claims reads.Pre reads.Post goal.the-invariant-loop-left goal.the-decreases-loop-left → lts.Start tie.the-claims reads.Pre reads.Post goal.the-invariant-loop-left goal.the-decreases-loop-left
+abbrev start : lts.At-loop tie.the-claims reads.Pre reads.Post goal.the-invariant-loop-left goal.the-decreases-loop-left tie.handed_clauses → lts.Start tie.the-claims reads.Pre reads.Post goal.the-invariant-loop-left goal.the-decreases-loop-left tie.handed_clauses
 start c = search
 
 pub loop-left-init : goal.loop-left-init
@@ -27,7 +27,7 @@ loop-left-init c = let near = c.args.near.now in
       onward_start (get_or near j 0),
       refl,
       refl,
-      λ G r f v. word_start row_bits _ (has near) (j * 64) (get_or near j 0) (has_at near j) _ _ (rw e at (c.requires.row_words_in_bounds.1 G r f v)),
+      λ G r f v. word_start row_bits _ (has near) (j * 64) (get_or near j 0) (has_at near j) _ _ (rw e at (c.requires.losses_to G r f v)),
     )
 
 pub loop-left-preserved : goal.loop-left-preserved

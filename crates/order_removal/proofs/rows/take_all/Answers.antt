@@ -18,7 +18,7 @@ use Rattle.order_removal.proofs.rows.take_all.Lts as lts
 use Rattle.order_removal.proofs.rows.take_all.Reads as reads
 use Rattle.order_removal.proofs.rows.take_all.Tie as tie
 
-abbrev start : lts.At-loop tie.the-claims reads.Pre reads.Post goal.the-invariant-loop-a goal.the-decreases-loop-a → lts.Start tie.the-claims reads.Pre reads.Post goal.the-invariant-loop-a goal.the-decreases-loop-a
+abbrev start : lts.At-loop tie.the-claims reads.Pre reads.Post goal.the-invariant-loop-a goal.the-decreases-loop-a tie.handed_clauses → lts.Start tie.the-claims reads.Pre reads.Post goal.the-invariant-loop-a goal.the-decreases-loop-a tie.handed_clauses
 start c = search
 
 pub loop-a-init : goal.loop-a-init
@@ -31,7 +31,7 @@ loop-a-init c = let e = c.first_from-a.ensures in
       rw e (taken_start row_bits (cell a.edges.now) (cell a.next.now) (has a.losing.now) (cell a.related.now) (cell a.lost.now) (cell a.falls.now)),
     )
 
-abbrev at-loop : lts.After-slice_known6 tie.the-claims reads.Pre reads.Post goal.the-invariant-loop-a goal.the-decreases-loop-a → lts.At-loop tie.the-claims reads.Pre reads.Post goal.the-invariant-loop-a goal.the-decreases-loop-a
+abbrev at-loop : lts.After-slice_known6 tie.the-claims reads.Pre reads.Post goal.the-invariant-loop-a goal.the-decreases-loop-a tie.handed_clauses → lts.At-loop tie.the-claims reads.Pre reads.Post goal.the-invariant-loop-a goal.the-decreases-loop-a tie.handed_clauses
 at-loop c = search
 
 pub overflow_add-cleared : goal.overflow_add-cleared
@@ -47,10 +47,10 @@ overflow_add-cleared c = let l = at-loop c.before in
       count_le row_bits (cell a.next.now l.loop.a),
     )
 
-abbrev next-loop : lts.After-first_from2 tie.the-claims reads.Pre reads.Post goal.the-invariant-loop-a goal.the-decreases-loop-a → lts.At-loop tie.the-claims reads.Pre reads.Post goal.the-invariant-loop-a goal.the-decreases-loop-a
+abbrev next-loop : lts.After-first_from2 tie.the-claims reads.Pre reads.Post goal.the-invariant-loop-a goal.the-decreases-loop-a tie.handed_clauses → lts.At-loop tie.the-claims reads.Pre reads.Post goal.the-invariant-loop-a goal.the-decreases-loop-a tie.handed_clauses
 next-loop c = search
 
-abbrev at-in-loop : lts.After-first_from2 tie.the-claims reads.Pre reads.Post goal.the-invariant-loop-a goal.the-decreases-loop-a → lts.In-loop tie.the-claims reads.Pre reads.Post goal.the-invariant-loop-a goal.the-decreases-loop-a
+abbrev at-in-loop : lts.After-first_from2 tie.the-claims reads.Pre reads.Post goal.the-invariant-loop-a goal.the-decreases-loop-a tie.handed_clauses → lts.In-loop tie.the-claims reads.Pre reads.Post goal.the-invariant-loop-a goal.the-decreases-loop-a tie.handed_clauses
 at-in-loop c = search
 
 pub loop-a-smaller : goal.loop-a-smaller

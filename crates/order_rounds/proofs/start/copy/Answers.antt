@@ -7,16 +7,16 @@ use Rattle.order_rounds.proofs.start.copy.Lts as lts
 use Rattle.order_rounds.proofs.start.copy.Reads as reads
 use Rattle.order_rounds.proofs.start.copy.Tie as tie
 
-abbrev at-put : lts.After-slice_known6 tie.the-claims reads.Pre reads.Post → lts.After-put tie.the-claims reads.Pre reads.Post
+abbrev at-put : lts.After-slice_known6 tie.the-claims reads.Pre reads.Post tie.handed_clauses → lts.After-put tie.the-claims reads.Pre reads.Post tie.handed_clauses
 at-put c = search
 
-abbrev at-put2 : lts.After-slice_known6 tie.the-claims reads.Pre reads.Post → lts.After-put2 tie.the-claims reads.Pre reads.Post
+abbrev at-put2 : lts.After-slice_known6 tie.the-claims reads.Pre reads.Post tie.handed_clauses → lts.After-put2 tie.the-claims reads.Pre reads.Post tie.handed_clauses
 at-put2 c = search
 
-abbrev at_row : lts.After-slice_known6 tie.the-claims reads.Pre reads.Post → lts.After-row tie.the-claims reads.Pre reads.Post
+abbrev at_row : lts.After-slice_known6 tie.the-claims reads.Pre reads.Post tie.handed_clauses → lts.After-row tie.the-claims reads.Pre reads.Post tie.handed_clauses
 at_row c = search
 
-abbrev at-row2 : lts.After-slice_known6 tie.the-claims reads.Pre reads.Post → lts.After-row2 tie.the-claims reads.Pre reads.Post
+abbrev at-row2 : lts.After-slice_known6 tie.the-claims reads.Pre reads.Post tie.handed_clauses → lts.After-row2 tie.the-claims reads.Pre reads.Post tie.handed_clauses
 at-row2 c = search
 
 pub returns : goal.returns

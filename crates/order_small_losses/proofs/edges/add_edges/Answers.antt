@@ -16,19 +16,19 @@ use Rattle.order_small_losses.proofs.edges.add_edges.Reads as reads
 use Rattle.order_small_losses.proofs.edges.add_edges.Tie as tie
 
 -- the ends of edge j
-ends : (c : lts.In-loop tie.the-claims reads.Pre reads.Post goal.the-invariant-loop-j goal.the-decreases-loop-j)
+ends : (c : lts.In-loop tie.the-claims reads.Pre reads.Post goal.the-invariant-loop-j goal.the-decreases-loop-j tie.handed_clauses)
     → let g = c.args.game.now in (source_at g c.loop-j.j < word_bits) × (target_at g c.loop-j.j < word_bits)
 ends c = let p = c.requires.well_formed in
     let t = c.loop-j-test.true in
     (omega (arith, p.0.sources c.loop-j.j t, p.1), omega (arith, p.0.targets c.loop-j.j t, p.1))
 
 -- the words of the edge's ends are there
-long : (c : lts.In-loop tie.the-claims reads.Pre reads.Post goal.the-invariant-loop-j goal.the-decreases-loop-j) → let g = c.args.game.now in let k = length c.loop-j.edges in
+long : (c : lts.In-loop tie.the-claims reads.Pre reads.Post goal.the-invariant-loop-j goal.the-decreases-loop-j tie.handed_clauses) → let g = c.args.game.now in let k = length c.loop-j.edges in
     (source_at g c.loop-j.j < k) × (word_bits + target_at g c.loop-j.j < k)
-long c = let p = c.requires.small_edges_in_bounds.0 in let i = c.loop-j.invariant.1 in (omega (arith, p, i, ends c), omega (arith, p, i, ends c))
+long c = let p = c.requires.small_edges_in_bounds in let i = c.loop-j.invariant.1 in (omega (arith, p, i, ends c), omega (arith, p, i, ends c))
 
 pub loop-j-init : goal.loop-j-init
-loop-j-init c = (search rules, refl, edges_start _ _ _ c.requires.small_edges_in_bounds.1)
+loop-j-init c = (search rules, refl, edges_start _ _ _ c.requires.by_index)
 
 pub overflow_cast-v : goal.overflow_cast-v
 overflow_cast-v c = omega (arith, ends c.before.before)

@@ -15,14 +15,14 @@ use Rattle.plan.proofs.answers.first_lacking_by.Lts as lts
 use Rattle.plan.proofs.answers.first_lacking_by.Reads as reads
 use Rattle.plan.proofs.answers.first_lacking_by.Tie as tie
 
-abbrev start : lts.After-shared_slice_known7 tie.the-claims reads.Pre reads.Post goal.the-invariant-loop-i goal.the-decreases-loop-i → lts.Start tie.the-claims reads.Pre reads.Post goal.the-invariant-loop-i goal.the-decreases-loop-i
+abbrev start : lts.After-shared_slice_known7 tie.the-claims reads.Pre reads.Post goal.the-invariant-loop-i goal.the-decreases-loop-i tie.handed_clauses → lts.Start tie.the-claims reads.Pre reads.Post goal.the-invariant-loop-i goal.the-decreases-loop-i tie.handed_clauses
 start c = search
 
 pub loop-i-init : goal.loop-i-init
 loop-i-init c = record { inside = omega arith; room = refl; latest = λ x. omega (arith, (start c.before).requires.1 x); rest = refl }
 
 pub lacks_link-requires : goal.lacks_link-requires
-lacks_link-requires c = (space_kept (start c.before.before.before.before).pre.0 c.loop-i.invariant.room, (c.loop-i-test.true, c.loop-i.invariant.latest))
+lacks_link-requires c = record { lack_space = space_kept (start c.before.before.before.before).pre.0 c.loop-i.invariant.room; i_bound = c.loop-i-test.true; no_later = c.loop-i.invariant.latest; }
 
 pub returns-then-lacks_link : goal.returns-then-lacks_link
 unfolding first_lacking_link

@@ -9,11 +9,11 @@ use Rattle.plan.proofs.answers.lacks_link.Lts as lts
 use Rattle.plan.proofs.answers.lacks_link.Reads as reads
 use Rattle.plan.proofs.answers.lacks_link.Tie as tie
 
-abbrev start : lts.After-shared_slice_known7 tie.the-claims reads.Pre reads.Post → lts.Start tie.the-claims reads.Pre reads.Post
+abbrev start : lts.After-shared_slice_known7 tie.the-claims reads.Pre reads.Post tie.handed_clauses → lts.Start tie.the-claims reads.Pre reads.Post tie.handed_clauses
 start c = search
 
 -- the vertex of position i
-below : (c : lts.After-vertex_of tie.the-claims reads.Pre reads.Post) → c.vertex_of-v.result < get_or (start c.before).args.game.now 0 0
+below : (c : lts.After-vertex_of tie.the-claims reads.Pre reads.Post tie.handed_clauses) → c.vertex_of-v.result < get_or (start c.before).args.game.now 0 0
 below c = let e = start c.before in rw c.vertex_of-v.ensures (e.pre.0.pass.formed.vertices e.args.i e.pre.1.0)
 
 pub overflow_add-n-2 : goal.overflow_add-n-2
@@ -29,26 +29,20 @@ pub overflow_cast-game : goal.overflow_cast-game
 overflow_cast-game c = omega (arith, c.shared_slice_known-8-1.given (2 + get_or (start c.before.before.before).args.game.now 0 0 + c.vertex_of-v.result))
 
 pub returns-then-game-n : goal.returns-then-game-n
-returns-then-game-n c = let e = start c.before.before.before.before.before.before in (
-      sym (lacks_own e.pre.0 e.args.i e.pre.1.0 (rw c.vertex_of-v.ensures at c.if-game-n.true)),
-      λ x. omega (arith, e.pre.1.1 x),
-    )
+returns-then-game-n c = let e = start c.before.before.before.before.before.before in record { value = sym (lacks_own e.pre.0 e.args.i e.pre.1.0 (rw c.vertex_of-v.ensures at c.if-game-n.true)); no_later_2 = λ x. omega (arith, e.pre.1.1 x); }
 
 pub lacks_answer-requires : goal.lacks_answer-requires
 lacks_answer-requires c = let e = start c.before.before.before.before.before in
-    let s = e.pre.0 in (
-      record {
+    let s = e.pre.0 in record { answer_space = record {
         formed = s.pass.formed;
         few = s.pass.game.vertices;
         room = omega (arith, s.pass.game.vertices, s.room);
         position = e.pre.1.0;
         links = (_, _, _, s.links);
         edges = (_, _, _, s.edges);
-      },
-      e.pre.1.1,
-    )
+      }; no_later = e.pre.1.1; }
 
 pub returns : goal.returns
 returns c = let e = start c.before.before.before.before.before.before.before.before in
     let r = c.lacks_answer.ensures in
-    (r.0 ∙ sym (lacks_other e.pre.0 e.args.i e.pre.1.0 (rw c.vertex_of-v.ensures at c.if-game-n.false)), r.1)
+    record { value = r.0 ∙ sym (lacks_other e.pre.0 e.args.i e.pre.1.0 (rw c.vertex_of-v.ensures at c.if-game-n.false)); no_later_2 = r.1; }

@@ -14,10 +14,10 @@ use Rattle.plan.proofs.answers.some_unstamped.Lts as lts
 use Rattle.plan.proofs.answers.some_unstamped.Reads as reads
 use Rattle.plan.proofs.answers.some_unstamped.Tie as tie
 
-within : (c : lts.Then1 tie.the-claims reads.Pre reads.Post goal.the-invariant-loop-t goal.the-decreases-loop-t) → c.loop-t.t < get_or c.args.starts.now (c.args.v + 1) 0
+within : (c : lts.Then1 tie.the-claims reads.Pre reads.Post goal.the-invariant-loop-t goal.the-decreases-loop-t tie.handed_clauses) → c.loop-t.t < get_or c.args.starts.now (c.args.v + 1) 0
 within c = rw c.run_of-run.ensures at c.loop-t-test.true
 
-turn : (c : lts.Then1 tie.the-claims reads.Pre reads.Post goal.the-invariant-loop-t goal.the-decreases-loop-t) → Target c.args.n c.args.targets.now c.loop-t.t
+turn : (c : lts.Then1 tie.the-claims reads.Pre reads.Post goal.the-invariant-loop-t goal.the-decreases-loop-t tie.handed_clauses) → Target c.args.n c.args.targets.now c.loop-t.t
 turn c = indexed_target c.requires.indexed c.args.v c.loop-t.t c.requires.v_lt_n.0 c.loop-t.invariant.0 (within c)
 
 pub run_of-run-requires : goal.run_of-run-requires

@@ -14,14 +14,14 @@ use Rattle.plan.proofs.answers.stamp_answers.Lts as lts
 use Rattle.plan.proofs.answers.stamp_answers.Reads as reads
 use Rattle.plan.proofs.answers.stamp_answers.Tie as tie
 
-within : (c : lts.Then1 tie.the-claims reads.Pre reads.Post goal.the-invariant-loop-t goal.the-decreases-loop-t) → c.loop-t.t < get_or c.args.starts.now (c.args.i + 1) 0
+within : (c : lts.Then1 tie.the-claims reads.Pre reads.Post goal.the-invariant-loop-t goal.the-decreases-loop-t tie.handed_clauses) → c.loop-t.t < get_or c.args.starts.now (c.args.i + 1) 0
 within c = rw c.run_of-run.ensures at c.loop-t-test.true
 
-turn : (c : lts.Then1 tie.the-claims reads.Pre reads.Post goal.the-invariant-loop-t goal.the-decreases-loop-t) → Target (get_or c.args.plan.now 0 0) c.args.targets.now c.loop-t.t
+turn : (c : lts.Then1 tie.the-claims reads.Pre reads.Post goal.the-invariant-loop-t goal.the-decreases-loop-t tie.handed_clauses) → Target (get_or c.args.plan.now 0 0) c.args.targets.now c.loop-t.t
 turn c = indexed_target c.requires.indexed c.args.i c.loop-t.t c.requires.plan_formed.1 c.loop-t.invariant.from (within c)
 
 -- the vertex that a turn stamps
-below : (c : lts.After-vertex_of tie.the-claims reads.Pre reads.Post goal.the-invariant-loop-t goal.the-decreases-loop-t) → c.vertex_of-x.result < length c.loop-t.stamps
+below : (c : lts.After-vertex_of tie.the-claims reads.Pre reads.Post goal.the-invariant-loop-t goal.the-decreases-loop-t tie.handed_clauses) → c.vertex_of-x.result < length c.loop-t.stamps
 below c =
     rw (c.loop-t.invariant.room, c.vertex_of-x.ensures) ((start c.before.before.before.before).pre.0.0.vertices _ (turn c.before.before).below)
 

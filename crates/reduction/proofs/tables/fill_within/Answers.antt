@@ -22,44 +22,44 @@ use Rattle.reduction.proofs.tables.fill_within.Lts as lts
 use Rattle.reduction.proofs.tables.fill_within.Reads as reads
 use Rattle.reduction.proofs.tables.fill_within.Tie as tie
 
-abbrev start : lts.After-number_classes tie.the-claims reads.Pre reads.Post → lts.Start tie.the-claims reads.Pre reads.Post
+abbrev start : lts.After-number_classes tie.the-claims reads.Pre reads.Post tie.handed_clauses → lts.Start tie.the-claims reads.Pre reads.Post tie.handed_clauses
 start c = search
 
-abbrev numbered-at : lts.After-list_edges tie.the-claims reads.Pre reads.Post → lts.After-number_classes tie.the-claims reads.Pre reads.Post
+abbrev numbered-at : lts.After-list_edges tie.the-claims reads.Pre reads.Post tie.handed_clauses → lts.After-number_classes tie.the-claims reads.Pre reads.Post tie.handed_clauses
 numbered-at c = search
 
 -- the class words and the representatives that were written
-abbrev words-at : lts.After-number_classes tie.the-claims reads.Pre reads.Post → List ℕ
+abbrev words-at : lts.After-number_classes tie.the-claims reads.Pre reads.Post tie.handed_clauses → List ℕ
 words-at c = c.number_classes-k.new.1.1.0
 
-abbrev reps-at : lts.After-number_classes tie.the-claims reads.Pre reads.Post → List ℕ
+abbrev reps-at : lts.After-number_classes tie.the-claims reads.Pre reads.Post tie.handed_clauses → List ℕ
 reps-at c = c.number_classes-k.new.1.1.1.0
 
 -- they are those of the order
-numbered : (c : lts.After-number_classes tie.the-claims reads.Pre reads.Post)
+numbered : (c : lts.After-number_classes tie.the-claims reads.Pre reads.Post tie.handed_clauses)
     → let G = game_of (start c).args.game.now in Numbered G.n (order G) G.n c.number_classes-k.result (words-at c) (reps-at c)
 numbered c = ordered_numbered _ (start c).requires.0.1 refl c.number_classes-k.ensures.numbered
 
-classed : (c : lts.After-number_classes tie.the-claims reads.Pre reads.Post) → let G = game_of (start c).args.game.now in Classed G.n (order G) (words-at c)
+classed : (c : lts.After-number_classes tie.the-claims reads.Pre reads.Post tie.handed_clauses) → let G = game_of (start c).args.game.now in Classed G.n (order G) (words-at c)
 unfolding game_of
 classed c = numbered_classed (numbered c) (omega (arith, c.number_classes-k.auto.1.1.0, (start c).requires.1.0.0))
 
-represented : (c : lts.After-number_classes tie.the-claims reads.Pre reads.Post) → let G = game_of (start c).args.game.now in Represented G.n (order G) (reps-at c)
+represented : (c : lts.After-number_classes tie.the-claims reads.Pre reads.Post tie.handed_clauses) → let G = game_of (start c).args.game.now in Represented G.n (order G) (reps-at c)
 unfolding game_of
 represented c =
     let s = start c in
     numbered_represented (numbered c) (order_preorder (game_of s.args.game.now)) (omega (arith, c.number_classes-k.auto.1.1.1.0, s.pre.1.1.vertices_fit))
 
-total : (c : lts.After-number_classes tie.the-claims reads.Pre reads.Post) → c.number_classes-k.result ≡ classes_in (game_of (start c).args.game.now)
+total : (c : lts.After-number_classes tie.the-claims reads.Pre reads.Post tie.handed_clauses) → c.number_classes-k.result ≡ classes_in (game_of (start c).args.game.now)
 total c = numbered_total (numbered c)
 
 -- no more classes than vertices
-few : (c : lts.After-number_classes tie.the-claims reads.Pre reads.Post) → c.number_classes-k.result ≤ vertex_count (start c).args.game.now
+few : (c : lts.After-number_classes tie.the-claims reads.Pre reads.Post tie.handed_clauses) → c.number_classes-k.result ≤ vertex_count (start c).args.game.now
 unfolding game_of
 few c = let G = game_of (start c).args.game.now in omega (arith, total c, class_count_le G.n (order G) (order_preorder G))
 
 -- as many edges as the game of classes has, and no more than the table has
-sizes : (c : lts.After-list_edges tie.the-claims reads.Pre reads.Post)
+sizes : (c : lts.After-list_edges tie.the-claims reads.Pre reads.Post tie.handed_clauses)
     → let n = numbered-at c in
     let s = start n in
     let k = n.number-classes.result in
@@ -71,7 +71,7 @@ sizes c =
     (listed_count c.list_edges-stop.ensures, edges_few s.args.game.now s.args.drop n.number-classes.result (total n))
 
 pub number_classes-k-requires : goal.number_classes-k-requires
-number_classes-k-requires c = (ordered_preorder _ c.requires.well_formed.1 refl c.requires.well_formed.0, (c.requires.game_in_bounds.0.0, c.requires.game_in_bounds.1.vertices_fit))
+number_classes-k-requires c = record { preorder_marks = ordered_preorder _ c.requires.well_formed.1 refl c.requires.well_formed.0; n_in_bounds = (c.requires.game_in_bounds.0, c.requires.workspace.vertices_fit); }
 
 pub overflow_mul-at : goal.overflow_mul-at
 overflow_mul-at c = omega (arith, few c.before.before.before.before.before, (start c.before.before.before.before.before).pre.0.0.vertices)
@@ -82,10 +82,7 @@ overflow_add-at c = omega (arith, few c.before.before.before.before.before, (sta
 pub list_edges-stop-requires : goal.list_edges-stop-requires
 list_edges-stop-requires c = let p = (start c.before.before.before.before.before.before.before.before).pre in
     let w = p.1.1 in
-    let f = few c.before.before.before.before.before.before.before.before in (
-      record { grouped = record { well = p.0.0; classed = classed c.before.before.before.before.before.before.before.before; represented = represented c.before.before.before.before.before.before.before.before }; ordered = p.0.1 },
-      (total c.before.before.before.before.before.before.before.before, ((w.rows_fit, w.zeros), (omega (arith, f, w.stops_fit), omega (arith, f, p.1.0.1), omega (arith, f, p.0.0.vertices)))),
-    )
+    let f = few c.before.before.before.before.before.before.before.before in record { prepared = record { grouped = record { well = p.0.0; classed = classed c.before.before.before.before.before.before.before.before; represented = represented c.before.before.before.before.before.before.before.before }; ordered = p.0.1 }; k_value = total c.before.before.before.before.before.before.before.before; game_in_bounds = (w.rows_fit, w.zeros); k_in_bounds = (omega (arith, f, w.stops_fit), omega (arith, f, p.1.0.1), omega (arith, f, p.0.0.vertices)); }
 
 pub overflow_sub-e : goal.overflow_sub-e
 overflow_sub-e c = omega (arith, sizes c.before.before.before.before.before.before.before)
@@ -98,14 +95,11 @@ pub write_head-requires : goal.write_head-requires
 write_head-requires c = let n = numbered-at c.before.before.before.before.before.before.before.before.before.before.before.before in
     let s = start n in
     let p = s.pre in
-    let f = few n in (
-      (p.0.0, represented n, total n),
-      (
+    let f = few n in record { well_formed = (p.0.0, represented n, total n); e_le_edge_limit = (
         omega (arith, sizes c.before.before.before.before.before.before.before.before.before.before.before.before, p.0.0.edges),
         omega (arith, f, p.1.1.stops_fit, c.list_edges-stop.kept),
         stops_ascend s.args.game.now s.args.drop (total n) c.list_edges-stop.ensures (omega (arith, f, p.1.0.1, c.list_edges-stop.kept, c.put_again.kept)),
-      ),
-    )
+      ); }
 
 pub returns : goal.returns
 returns c = let n = numbered-at c.before.before.before.before.before.before.before.before.before.before.before.before.before.before.before in

@@ -17,26 +17,26 @@ use Rattle.reduction.proofs.tables.write_head.Reads as reads
 use Rattle.reduction.proofs.tables.write_head.Tie as tie
 
 -- the entry, from behind the priorities and the owners
-abbrev entry1 : lts.After-gather tie.the-claims reads.Pre reads.Post → lts.Start tie.the-claims reads.Pre reads.Post
+abbrev entry1 : lts.After-gather tie.the-claims reads.Pre reads.Post tie.handed_clauses → lts.Start tie.the-claims reads.Pre reads.Post tie.handed_clauses
 entry1 c = search
 
-abbrev entry2 : lts.After-gather2 tie.the-claims reads.Pre reads.Post → lts.Start tie.the-claims reads.Pre reads.Post
+abbrev entry2 : lts.After-gather2 tie.the-claims reads.Pre reads.Post tie.handed_clauses → lts.Start tie.the-claims reads.Pre reads.Post tie.handed_clauses
 entry2 c = search
 
-few : (s : lts.Start tie.the-claims reads.Pre reads.Post) → s.args.k ≤ vertex_limit
+few : (s : lts.Start tie.the-claims reads.Pre reads.Post tie.handed_clauses) → s.args.k ≤ vertex_limit
 few s = omega (arith, s.requires.well_formed.2, classes_few s.args.game.now s.requires.well_formed.0)
 
 -- a representative is a vertex
-vertex : (s : lts.Start tie.the-claims reads.Pre reads.Post) (i : ℕ) → i < s.args.k → get_or s.args.reps.now i 0 < vertex_count s.args.game.now
+vertex : (s : lts.Start tie.the-claims reads.Pre reads.Post tie.handed_clauses) (i : ℕ) → i < s.args.k → get_or s.args.reps.now i 0 < vertex_count s.args.game.now
 unfolding game_of
 vertex s i h = (represented_lt (order_preorder (game_of s.args.game.now)) s.requires.well_formed.1 i (omega (arith, s.requires.well_formed.2))).1
 
 -- the output keeps its length
-kept1 : (c : lts.After-gather tie.the-claims reads.Pre reads.Post) → length c.gather.new.0 ≡ length (entry1 c).args.output.now
+kept1 : (c : lts.After-gather tie.the-claims reads.Pre reads.Post tie.handed_clauses) → length c.gather.new.0 ≡ length (entry1 c).args.output.now
 kept1 c = c.gather.auto.0 ∙ simp length-set
 
-kept2 : (c : lts.After-gather2 tie.the-claims reads.Pre reads.Post) → length c.gather-2.new.0 ≡ length (entry2 c).args.output.now
-kept2 c = let g : lts.After-gather tie.the-claims reads.Pre reads.Post = search in c.gather-2.auto.0 ∙ kept1 g
+kept2 : (c : lts.After-gather2 tie.the-claims reads.Pre reads.Post tie.handed_clauses) → length c.gather-2.new.0 ≡ length (entry2 c).args.output.now
+kept2 c = let g : lts.After-gather tie.the-claims reads.Pre reads.Post tie.handed_clauses = search in c.gather-2.auto.0 ∙ kept1 g
 
 pub overflow_cast-output : goal.overflow_cast-output
 overflow_cast-output c = omega (arith, few c.before.before.before.before.before.before)
@@ -48,7 +48,7 @@ pub bounds-output-1 : goal.bounds-output-1
 bounds-output-1 c = simp length-set (omega (arith, c.requires.e_le_edge_limit.2.start))
 
 pub gather-requires : goal.gather-requires
-gather-requires c = ((simp length-set (omega (arith, c.requires.e_le_edge_limit.2.start)), omega (arith, c.requires.well_formed.1.long, c.requires.well_formed.2)), λ i h. omega (arith, c.requires.well_formed.0.size, vertex c.before.before.before.before.before.before.before i h))
+gather-requires c = record { count_in_bounds = (simp length-set (omega (arith, c.requires.e_le_edge_limit.2.start)), omega (arith, c.requires.well_formed.1.long, c.requires.well_formed.2)); by_index = λ i h. omega (arith, c.requires.well_formed.0.size, vertex c.before.before.before.before.before.before.before i h); }
 
 pub overflow_add-k : goal.overflow_add-k
 overflow_add-k c = omega (arith, few c.before.before.before.before.before.before.before.before.before.before.before)
@@ -58,7 +58,7 @@ overflow_add-n c = omega (arith, c.requires.well_formed.0.vertices)
 
 pub gather-requires-2 : goal.gather-requires-2
 gather-requires-2 c = let s = entry1 c.before.before.before.before in
-    ((omega (arith, kept1 c.before.before.before.before, s.pre.1.2.start), omega (arith, s.pre.0.1.long, s.pre.0.2)), λ i h. omega (arith, s.pre.0.0.size, vertex s i h))
+    record { count_in_bounds = (omega (arith, kept1 c.before.before.before.before, s.pre.1.2.start), omega (arith, s.pre.0.1.long, s.pre.0.2)); by_index = λ i h. omega (arith, s.pre.0.0.size, vertex s i h); }
 
 pub overflow_mul-k : goal.overflow_mul-k
 overflow_mul-k c = omega (arith, few c.before.before.before.before.before.before.before.before.before.before.before.before.before.before.before)

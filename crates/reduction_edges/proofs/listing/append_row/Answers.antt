@@ -23,21 +23,21 @@ next_member-d-requires c = (omega arith, c.requires.n_le_vertex_limit.2, omega (
 pub loop-d-init : goal.loop-d-init
 loop-d-init c = rw c.next_member-d.ensures (reached_start _ _, refl, rw (← row_start_lem c.args.row.now c.args.dropped.now c.args.n (number_of c.args.classes.now)) (put_none _ _))
 
-abbrev start : lts.In-loop tie.the-claims reads.Pre reads.Post goal.the-invariant-loop-d goal.the-decreases-loop-d → lts.Start tie.the-claims reads.Pre reads.Post goal.the-invariant-loop-d goal.the-decreases-loop-d
+abbrev start : lts.In-loop tie.the-claims reads.Pre reads.Post goal.the-invariant-loop-d goal.the-decreases-loop-d tie.handed_clauses → lts.Start tie.the-claims reads.Pre reads.Post goal.the-invariant-loop-d goal.the-decreases-loop-d tie.handed_clauses
 start c = search
 
-here : (c : lts.In-loop tie.the-claims reads.Pre reads.Post goal.the-invariant-loop-d goal.the-decreases-loop-d) → So (has (start c).args.row.now c.loop-d.d)
+here : (c : lts.In-loop tie.the-claims reads.Pre reads.Post goal.the-invariant-loop-d goal.the-decreases-loop-d tie.handed_clauses) → So (has (start c).args.row.now c.loop-d.d)
 here c = c.loop-d.invariant.0.1 c.loop-d-test.true
 
 -- as many as are put
-count : (c : lts.In-loop tie.the-claims reads.Pre reads.Post goal.the-invariant-loop-d goal.the-decreases-loop-d) → let a = (start c).args in
+count : (c : lts.In-loop tie.the-claims reads.Pre reads.Post goal.the-invariant-loop-d goal.the-decreases-loop-d tie.handed_clauses) → let a = (start c).args in
     c.loop-d.r ≡ a.e + length (picked c.loop-d.d (keeps a.row.now a.dropped.now))
 count c =
     let a = (start c).args in
     let l = c.loop-d in
     omega (arith, l.invariant.2.count, length-map (picked l.d (keeps a.row.now a.dropped.now)) (number_of a.classes.now))
 
-kept : (c : lts.In-loop tie.the-claims reads.Pre reads.Post goal.the-invariant-loop-d goal.the-decreases-loop-d) → let a = (start c).args in
+kept : (c : lts.In-loop tie.the-claims reads.Pre reads.Post goal.the-invariant-loop-d goal.the-decreases-loop-d tie.handed_clauses) → let a = (start c).args in
     has a.dropped.now c.loop-d.d ≡ false → So (keeps a.row.now a.dropped.now c.loop-d.d)
 unfolding keeps
 kept c f = and_in (here c) (not_in f)
@@ -46,12 +46,9 @@ pub append_target-r-requires : goal.append_target-r-requires
 append_target-r-requires c = let s = start c.before.before in
     let a = s.args in
     let l = c.loop-d in
-    let t = c.loop-d-test.true in (
-      (omega (arith, s.pre.0.1, t), omega (arith, s.pre.0.3, t)),
-      λ f.
+    let t = c.loop-d-test.true in record { d_in_bounds = (omega (arith, s.pre.0.1, t), omega (arith, s.pre.0.3, t)); e_in_bounds = λ f.
           let p = picked_room (keeps a.row.now a.dropped.now) l.d a.n t (kept c.before.before f) in
-          omega (arith, p, count c.before.before, s.pre.1, l.inv.1),
-    )
+          omega (arith, p, count c.before.before, s.pre.1, l.inv.1); }
 
 pub next_member-d-requires-in-loop-d : goal.next_member-d-requires-in-loop-d
 next_member-d-requires-in-loop-d c = (omega (arith, c.loop-d-test.true), c.requires.n_le_vertex_limit.2, omega (arith, c.requires.n_le_vertex_limit.0))

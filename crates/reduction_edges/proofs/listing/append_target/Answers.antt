@@ -11,7 +11,7 @@ use Rattle.reduction_edges.proofs.listing.append_target.Lts as lts
 use Rattle.reduction_edges.proofs.listing.append_target.Reads as reads
 use Rattle.reduction_edges.proofs.listing.append_target.Tie as tie
 
-abbrev start : lts.After-is_flagged tie.the-claims reads.Pre reads.Post → lts.Start tie.the-claims reads.Pre reads.Post
+abbrev start : lts.After-is_flagged tie.the-claims reads.Pre reads.Post tie.handed_clauses → lts.Start tie.the-claims reads.Pre reads.Post tie.handed_clauses
 start c = search
 
 pub returns-then-is_flagged : goal.returns-then-is_flagged
@@ -19,12 +19,12 @@ returns-then-is_flagged c = let s = start c.before.before in
     let e : has s.args.dropped.now s.args.d ≡ true = sym c.is_flagged.ensures ∙ c.if-is_flagged.true in
     rw e (put_none _ _)
 
-kept : (c : lts.Else1 tie.the-claims reads.Pre reads.Post) → let f : lts.After-is_flagged tie.the-claims reads.Pre reads.Post = search in has (start f).args.dropped.now (start f).args.d ≡ false
-kept c = let f : lts.After-is_flagged tie.the-claims reads.Pre reads.Post = search in sym f.is-flagged.ensures ∙ c.if-is_flagged.false
+kept : (c : lts.Else1 tie.the-claims reads.Pre reads.Post tie.handed_clauses) → let f : lts.After-is_flagged tie.the-claims reads.Pre reads.Post tie.handed_clauses = search in has (start f).args.dropped.now (start f).args.d ≡ false
+kept c = let f : lts.After-is_flagged tie.the-claims reads.Pre reads.Post tie.handed_clauses = search in sym f.is-flagged.ensures ∙ c.if-is_flagged.false
 
-room : (c : lts.Else1 tie.the-claims reads.Pre reads.Post) → let f : lts.After-is_flagged tie.the-claims reads.Pre reads.Post = search in
+room : (c : lts.Else1 tie.the-claims reads.Pre reads.Post tie.handed_clauses) → let f : lts.After-is_flagged tie.the-claims reads.Pre reads.Post tie.handed_clauses = search in
     let a = (start f).args in a.e < length a.ends.now
-room c = let f : lts.After-is_flagged tie.the-claims reads.Pre reads.Post = search in (start f).pre.1 (kept c)
+room c = let f : lts.After-is_flagged tie.the-claims reads.Pre reads.Post tie.handed_clauses = search in (start f).pre.1 (kept c)
 
 pub offset_bounds-ends-e : goal.offset_bounds-ends-e
 offset_bounds-ends-e c = omega (arith, room c.before.before)

@@ -13,11 +13,11 @@ use Rattle.reduction_edges.proofs.listing.list_classes.Lts as lts
 use Rattle.reduction_edges.proofs.listing.list_classes.Reads as reads
 use Rattle.reduction_edges.proofs.listing.list_classes.Tie as tie
 
-abbrev start : lts.In-loop tie.the-claims reads.Pre reads.Post goal.the-invariant-loop-c goal.the-decreases-loop-c → lts.Start tie.the-claims reads.Pre reads.Post goal.the-invariant-loop-c goal.the-decreases-loop-c
+abbrev start : lts.In-loop tie.the-claims reads.Pre reads.Post goal.the-invariant-loop-c goal.the-decreases-loop-c tie.handed_clauses → lts.Start tie.the-claims reads.Pre reads.Post goal.the-invariant-loop-c goal.the-decreases-loop-c tie.handed_clauses
 start c = search
 
 -- this row has room
-room : (c : lts.In-loop tie.the-claims reads.Pre reads.Post goal.the-invariant-loop-c goal.the-decreases-loop-c)
+room : (c : lts.In-loop tie.the-claims reads.Pre reads.Post goal.the-invariant-loop-c goal.the-decreases-loop-c tie.handed_clauses)
     → let a = (start c).args in
     let E = (game_by a.drop (game_of a.game.now)).edge in
     (c.loop-c.e ≡ a.at + length (pairs_below a.k E (c.loop-c.c * a.k)))
@@ -37,12 +37,12 @@ pub append_class-e-requires : goal.append_class-e-requires
 append_class-e-requires c = let s = start c.before.before in
     let l = c.loop-c in
     let k = s.pre.0.1 in
-    ((s.pre.0.0, omega (arith, c.loop-c-test.true, k)), (s.pre.1.0, rw (← k) (omega (arith, room c.before.before, l.inv.2, s.pre.1.1))))
+    record { prepared = (s.pre.0.0, omega (arith, c.loop-c-test.true, k)); rows_fit = s.pre.1.0; room = rw (← k) (omega (arith, room c.before.before, l.inv.2, s.pre.1.1)); }
 
 -- the place where its targets stop
-stops_at : (a : lts.After-append_class tie.the-claims reads.Pre reads.Post goal.the-invariant-loop-c goal.the-decreases-loop-c) → let i : lts.In-loop tie.the-claims reads.Pre reads.Post goal.the-invariant-loop-c goal.the-decreases-loop-c = search in
+stops_at : (a : lts.After-append_class tie.the-claims reads.Pre reads.Post goal.the-invariant-loop-c goal.the-decreases-loop-c tie.handed_clauses) → let i : lts.In-loop tie.the-claims reads.Pre reads.Post goal.the-invariant-loop-c goal.the-decreases-loop-c tie.handed_clauses = search in
     let s = start i in a.append_class-e.result ≤ s.args.at + table_edges s.args.game.now
-stops_at a = let i : lts.In-loop tie.the-claims reads.Pre reads.Post goal.the-invariant-loop-c goal.the-decreases-loop-c = search in
+stops_at a = let i : lts.In-loop tie.the-claims reads.Pre reads.Post goal.the-invariant-loop-c goal.the-decreases-loop-c tie.handed_clauses = search in
     let s = start i in
     let p = rw (← s.pre.0.1) at a.append_class-e.ensures in
     omega (arith, room i, p.count)

@@ -16,10 +16,10 @@ bounds-game-0 c = omega (arith, c.requires.prepared.grouped.well.size)
 pub words_for-width-requires : goal.words_for-width-requires
 words_for-width-requires c = c.requires.prepared.grouped.well.vertices
 
-abbrev start : lts.After-words_for tie.the-claims reads.Pre reads.Post → lts.Start tie.the-claims reads.Pre reads.Post
+abbrev start : lts.After-words_for tie.the-claims reads.Pre reads.Post tie.handed_clauses → lts.Start tie.the-claims reads.Pre reads.Post tie.handed_clauses
 start c = search
 
-fits : (c : lts.After-words_for tie.the-claims reads.Pre reads.Post) → let a = (start c).args in RowsFit a.game.now c.words_for-width.result a.words.now
+fits : (c : lts.After-words_for tie.the-claims reads.Pre reads.Post tie.handed_clauses) → let a = (start c).args in RowsFit a.game.now c.words_for-width.result a.words.now
 fits c =
     let s = start c in
     let w = c.words_for-width.ensures in
@@ -27,9 +27,9 @@ fits c =
 
 pub reach_rows-requires : goal.reach_rows-requires
 reach_rows-requires c = let s = start c.before.before in
-    ((s.pre.0.grouped, fits c.before.before), s.pre.1.1.0.1)
+    record { grouped = (s.pre.0.grouped, fits c.before.before); by_index = s.pre.1.1.0.1; }
 
 pub list_classes-requires : goal.list_classes-requires
 list_classes-requires c = let s = start c.before.before.before.before.before.before.before in
     let f = fits c.before.before.before.before.before.before.before in
-    ((s.pre.0, s.pre.1.0), ((record { wide = f.wide; long = omega (arith, c.reach_rows.kept, f.long) }, c.reach_rows.ensures), s.pre.1.1.1))
+    record { prepared = (s.pre.0, s.pre.1.0); rows_fit = (record { wide = f.wide; long = omega (arith, c.reach_rows.kept, f.long) }, c.reach_rows.ensures); k_in_bounds = s.pre.1.1.1; }

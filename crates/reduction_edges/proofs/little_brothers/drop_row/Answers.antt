@@ -5,7 +5,7 @@ use Rattle.reduction_edges.proofs.LittleBrothersLaws.{nothing, drop_none, drop_s
 use Rattle.reduction_edges.proofs.little_brothers.drop_row.Goals as goal
 
 pub returns-then-not-drop : goal.returns-then-not-drop
-returns-then-not-drop c = λ x h. nothing _ c.requires.row_fits.1 x ∙ drop_none _ _ c.if-not-drop.true
+returns-then-not-drop c = λ x h. nothing _ c.requires.by_index x ∙ drop_none _ _ c.if-not-drop.true
 
 pub returns : goal.returns
 returns c = λ x h. c.drop_all.ensures x h ∙ drop_some _ _ c.if-not-drop.false

@@ -8,10 +8,10 @@ use Rattle.report_findings.proofs.findings.find.Reads as reads
 use Rattle.report_findings.proofs.findings.find.Tie as tie
 
 -- the entry, from where the reader has accepted, and what is known then
-abbrev start : lts.After-enum_told tie.the-claims reads.Pre reads.Post → lts.Start tie.the-claims reads.Pre reads.Post
+abbrev start : lts.After-enum_told tie.the-claims reads.Pre reads.Post tie.handed_clauses → lts.Start tie.the-claims reads.Pre reads.Post tie.handed_clauses
 start c = search
 
-well : (c : lts.After-enum_told tie.the-claims reads.Pre reads.Post) → WellFormed (start c).args.game.now
+well : (c : lts.After-enum_told tie.the-claims reads.Pre reads.Post tie.handed_clauses) → WellFormed (start c).args.game.now
 well c = (counted c.enum_told-1.given.1 c.read-verdict.ensures).0
 
 pub returns-in_default : goal.returns-in_default
@@ -21,7 +21,7 @@ returns-in_default c = let t = c.enum_told-in_default-1.given in
 pub fill_memory-filled-requires : goal.fill_memory-filled-requires
 fill_memory-filled-requires c = table_fits (start c.before.before.before.before.before).requires (well c.before.before.before.before.before)
 
-abbrev at-fill-memory : lts.After-write-totals-arg4 tie.the-claims reads.Pre reads.Post → lts.After-fill_memory tie.the-claims reads.Pre reads.Post
+abbrev at-fill-memory : lts.After-write-totals-arg4 tie.the-claims reads.Pre reads.Post tie.handed_clauses → lts.After-fill_memory tie.the-claims reads.Pre reads.Post tie.handed_clauses
 at-fill-memory c = search
 
 pub write_totals-totals-requires : goal.write_totals-totals-requires
@@ -29,9 +29,9 @@ unfolding game_by
 write_totals-totals-requires c = let f = at-fill-memory c.before in
     let w = well (told f) in
     let enough = (start (told f)).requires in
-    (tabulated f.fill-memory.ensures w, (classes_fit_lem _ w _ enough.members_fit, classes_fit_lem _ w _ enough.edges_fit))
+    record { tabulated = tabulated f.fill-memory.ensures w; game_in_bounds = (classes_fit_lem _ w _ enough.members_fit, classes_fit_lem _ w _ enough.edges_fit); }
 
-abbrev returns-fill-memory : lts.After-write_totals tie.the-claims reads.Pre reads.Post → lts.After-fill_memory tie.the-claims reads.Pre reads.Post
+abbrev returns-fill-memory : lts.After-write_totals tie.the-claims reads.Pre reads.Post tie.handed_clauses → lts.After-fill_memory tie.the-claims reads.Pre reads.Post tie.handed_clauses
 returns-fill-memory c = search
 
 pub returns : goal.returns

@@ -10,7 +10,7 @@ use Rattle.report_findings.proofs.findings.find_from_bytes.Lts as lts
 use Rattle.report_findings.proofs.findings.find_from_bytes.Reads as reads
 use Rattle.report_findings.proofs.findings.find_from_bytes.Tie as tie
 
-inside : (c : lts.After-decode tie.the-claims reads.Pre reads.Post) → c.decode-count.result ≤ length c.decode-count.new.1.0
+inside : (c : lts.After-decode tie.the-claims reads.Pre reads.Post tie.handed_clauses) → c.decode-count.result ≤ length c.decode-count.new.1.0
 inside c = decoded_inside _ _ _ _ c.decode-count.ensures.0 c.decode-count.ensures.1
 
 pub slice_bounds-find-end : goal.slice_bounds-find-end
@@ -19,10 +19,10 @@ slice_bounds-find-end c = inside c.before.before.before
 pub slice_bounds-find-end-2 : goal.slice_bounds-find-end-2
 slice_bounds-find-end-2 c = sym (length-take-le _ _ (inside c.before.before.before.before))
 
-abbrev at-find : lts.After-slice_known14 tie.the-claims reads.Pre reads.Post → lts.After-find tie.the-claims reads.Pre reads.Post
+abbrev at-find : lts.After-slice_known14 tie.the-claims reads.Pre reads.Post tie.handed_clauses → lts.After-find tie.the-claims reads.Pre reads.Post tie.handed_clauses
 at-find c = search
 
-abbrev at-decode : lts.After-find tie.the-claims reads.Pre reads.Post → lts.After-decode tie.the-claims reads.Pre reads.Post
+abbrev at-decode : lts.After-find tie.the-claims reads.Pre reads.Post tie.handed_clauses → lts.After-decode tie.the-claims reads.Pre reads.Post tie.handed_clauses
 at-decode c = search
 
 pub returns : goal.returns

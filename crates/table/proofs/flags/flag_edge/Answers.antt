@@ -9,7 +9,7 @@ use Rattle.table.proofs.flags.flag_edge.Lts as lts
 use Rattle.table.proofs.flags.flag_edge.Reads as reads
 use Rattle.table.proofs.flags.flag_edge.Tie as tie
 
-inside : (c : lts.After-edge_number tie.the-claims reads.Pre reads.Post) → c.edge_number-i.result / word_bits < length c.args.flags.now
+inside : (c : lts.After-edge_number tie.the-claims reads.Pre reads.Post tie.handed_clauses) → c.edge_number-i.result / word_bits < length c.args.flags.now
 inside c =
     let p = c.requires.sized in
     omega (arith, c.edge_number-i.ensures, c.requires.pair_words_in_bounds, edge_number_lt c.args.game.now c.args.n c.args.m p.0 p.1 c.args.j p.2)
@@ -22,4 +22,4 @@ raise-requires c = inside c.before.before.before.before
 
 pub returns : goal.returns
 returns c = let e = c.edge_number-i.ensures in
-    (rw e at c.is_flagged-old.ensures, rw e at c.raise.ensures)
+    record { value = rw e at c.is_flagged-old.ensures; raised = rw e at c.raise.ensures; }

@@ -15,7 +15,7 @@ use Rattle.table.proofs.flags.flag_edges.Reads as reads
 use Rattle.table.proofs.flags.flag_edges.Tie as tie
 
 -- an edge is counted exactly if its flag was clear
-counted : (c : lts.After-flag_edge tie.the-claims reads.Pre reads.Post goal.the-invariant-loop-j goal.the-decreases-loop-j)
+counted : (c : lts.After-flag_edge tie.the-claims reads.Pre reads.Post goal.the-invariant-loop-j goal.the-decreases-loop-j tie.handed_clauses)
     → let l = c.loop-j in
     different_below c.args.game.now (l.j + 1) ≡ l.different + bit (not c.flag_edge.result)
 counted c =
@@ -40,7 +40,4 @@ loop-j-preserved c = let l = c.loop-j in
 pub returns : goal.returns
 returns c = let l = c.loop-j in
     let e : l.j ≡ c.args.m = omega arith in
-    let z = c.requires.sized in (
-      l.invariant.3 ∙ rw e (different_all c.args.game.now c.args.n c.args.m z.0 z.1),
-      edge_flags c.args.game.now c.args.n c.args.m z.0 z.1 l.flags (omega (arith, c.requires.pair_words_in_bounds.0, l.invariant.2)) (rw e at l.invariant.4),
-    )
+    let z = c.requires.sized in record { value = l.invariant.3 ∙ rw e (different_all c.args.game.now c.args.n c.args.m z.0 z.1); edge_flags = edge_flags c.args.game.now c.args.n c.args.m z.0 z.1 l.flags (omega (arith, c.requires.pair_words_in_bounds.0, l.invariant.2)) (rw e at l.invariant.4); }

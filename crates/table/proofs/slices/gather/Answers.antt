@@ -11,9 +11,10 @@ use Rattle.std.proofs.Common.{rules}
 use Rattle.table.proofs.slices.gather.Goals as goal
 use Rattle.table.proofs.slices.gather.Lts as lts
 use Rattle.table.proofs.slices.gather.Reads as reads
+use Rattle.table.proofs.slices.gather.Tie as tie
 
 -- the picked word is there
-picked : (c : lts.In-loop reads.Pre reads.Post goal.the-invariant-loop-c goal.the-decreases-loop-c)
+picked : (c : lts.In-loop reads.Pre reads.Post goal.the-invariant-loop-c goal.the-decreases-loop-c tie.handed_clauses)
     → let a = c.args in a.start + get_or a.picks.now c.loop-c.c 0 < length a.from.now
 picked c = c.requires.by_index c.loop-c.c c.loop-c-test.true
 

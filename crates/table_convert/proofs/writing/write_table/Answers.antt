@@ -9,7 +9,7 @@ use Rattle.table_convert.proofs.writing.write_table.Reads as reads
 use Rattle.table_convert.proofs.writing.write_table.Tie as tie
 
 -- the output keeps its length
-kept : (c : lts.After-write_priorities tie.the-claims reads.Pre reads.Post) → length c.write_priorities.new.1.1.1.0 ≡ length c.args.output.now
+kept : (c : lts.After-write_priorities tie.the-claims reads.Pre reads.Post tie.handed_clauses) → length c.write_priorities.new.1.1.1.0 ≡ length c.args.output.now
 kept c = c.write_priorities.auto.1.1.1.0 ∙ simp length-set
 
 pub bounds-output-1 : goal.bounds-output-1

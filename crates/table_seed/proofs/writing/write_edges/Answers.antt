@@ -10,7 +10,7 @@ use Rattle.table_seed.proofs.writing.write_edges.Reads as reads
 use Rattle.table_seed.proofs.writing.write_edges.Tie as tie
 
 -- edge i of v
-edge : (c : lts.In-loop tie.the-claims reads.Pre reads.Post goal.the-invariant-loop-i goal.the-decreases-loop-i) → let a = c.args in a.v * a.d + c.loop-i.i < a.n * a.d
+edge : (c : lts.In-loop tie.the-claims reads.Pre reads.Post goal.the-invariant-loop-i goal.the-decreases-loop-i tie.handed_clauses) → let a = c.args in a.v * a.d + c.loop-i.i < a.n * a.d
 edge c = digits_lt c.requires.1 c.loop-i-test.true
 
 pub loop-i-init : goal.loop-i-init
