@@ -3,4 +3,5 @@
 -- bounded "each", "some", "the first", "how many", "the c-th"
 pub mod Bools
 pub mod Range
+
 -- counting, and the `pigeonhole`; sums; lists

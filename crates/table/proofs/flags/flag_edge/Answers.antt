@@ -15,11 +15,11 @@ inside c =
     omega (arith, c.edge_number-i.ensures, c.requires.pair_words_in_bounds, edge_number_lt c.args.game.now c.args.n c.args.m p.0 p.1 c.args.j p.2)
 
 pub is_flagged-old-requires : goal.is_flagged-old-requires
-is_flagged-old-requires c = inside c.before.before
+is_flagged-old-requires c = inside c.before
 
 pub raise-requires : goal.raise-requires
-raise-requires c = inside c.before.before.before.before
+raise-requires c = inside c.before.before.before
 
 pub returns : goal.returns
 returns c = let e = c.edge_number-i.ensures in
-    record { value = rw e at c.is_flagged-old.ensures; raised = rw e at c.raise.ensures; }
+    record { value = rw e at c.is_flagged-old.ensures; raised = rw e at c.raise.ensures }

@@ -10,6 +10,7 @@ use Rattle.table.specs.Flags.{Flagged, different_below}
 use Rattle.table.specs.FlagsLaws.{flagged_none, flagged_more, different_none, different_step, different_all, edge_flags}
 use Rattle.std.proofs.Common.{rules}
 use Rattle.table.proofs.flags.flag_edges.Goals as goal
+use Rattle.table.proofs.flags.flag_edges.Goals.{then-not-flag_edge, else-not-flag_edge}
 use Rattle.table.proofs.flags.flag_edges.Lts as lts
 use Rattle.table.proofs.flags.flag_edges.Reads as reads
 use Rattle.table.proofs.flags.flag_edges.Tie as tie
@@ -31,13 +32,13 @@ unfolding bit
 loop-j-preserved c = let l = c.loop-j in
     let x = counted c.before.before.before.before in (
       search rules,
-      ⊎_elim (λ w. omega arith) (λ w. omega arith) c.if-not-flag_edge.branch,
-      c.flag_edge.auto.1.1.1.0 ∙ l.invariant.2,
-      ⊎_elim (λ w. omega (arith, x, ap bit w.0.taken)) (λ w. omega (arith, x, ap bit w.0.left)) c.if-not-flag_edge.branch,
+      search rules,
+      search rules,
+      elim c.if-not-flag_edge.branch [ then-not-flag_edge w ↦ let b : bit (not c.flag_edge.result) ≡ 1 = ap (λ y. bit (not y)) w.if-not-flag_edge.true in omega (arith, x, b) | else-not-flag_edge w ↦ let b : bit (not c.flag_edge.result) ≡ 0 = ap (λ y. bit (not y)) w.if-not-flag_edge.false in omega (arith, x, b) ],
       flagged_more _ l.j l.flags _ l.invariant.4 c.flag_edge.ensures.raised,
     )
 
 pub returns : goal.returns
 returns c = let l = c.loop-j in
     let e : l.j ≡ c.args.m = omega arith in
-    let z = c.requires.sized in record { value = l.invariant.3 ∙ rw e (different_all c.args.game.now c.args.n c.args.m z.0 z.1); edge_flags = edge_flags c.args.game.now c.args.n c.args.m z.0 z.1 l.flags (omega (arith, c.requires.pair_words_in_bounds.0, l.invariant.2)) (rw e at l.invariant.4); }
+    let z = c.requires.sized in record { value = l.invariant.3 ∙ rw e (different_all c.args.game.now c.args.n c.args.m z.0 z.1); edge_flags = edge_flags c.args.game.now c.args.n c.args.m z.0 z.1 l.flags (omega (arith, c.requires.pair_words_in_bounds.0, l.invariant.2)) (rw e at l.invariant.4) }

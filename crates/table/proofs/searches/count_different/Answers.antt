@@ -11,7 +11,7 @@ pub slice_bounds-flag_edges-end : goal.slice_bounds-flag_edges-end
 slice_bounds-flag_edges-end c = sym (length-replicate {A = ℕ} pair_words 0)
 
 pub flag_edges-requires : goal.flag_edges-requires
-flag_edges-requires c = record { sized = c.requires; pair_words_in_bounds = (le_of_eq (sym (length-replicate {A = ℕ} pair_words 0)), filled pair_words 0); }
+flag_edges-requires c = record { sized = c.requires; pair_words_in_bounds = (le_of_eq (sym (length-replicate {A = ℕ} pair_words 0)), filled pair_words 0) }
 
 pub returns : goal.returns
 returns c = c.flag_edges.ensures.value

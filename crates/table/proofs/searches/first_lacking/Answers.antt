@@ -8,7 +8,7 @@ use Rattle.table.specs.FlagsLaws.{filled, lacking_first}
 use Rattle.table.proofs.searches.first_lacking.Goals as goal
 
 pub clear_sources-requires : goal.clear_sources-requires
-clear_sources-requires c = let p = c.requires in record { sized = p; n_in_bounds = (p.0.few_vertices, filled vertex_limit 1); }
+clear_sources-requires c = let p = c.requires in record { sized = p; n_in_bounds = (p.0.few_vertices, filled vertex_limit 1) }
 
 pub returns : goal.returns
 returns c = let few : vertex_count c.args.game.now ≤ vertex_limit = omega (arith, c.requires.0) in
