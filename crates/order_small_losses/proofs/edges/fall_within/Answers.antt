@@ -9,7 +9,7 @@ use Rattle.order_small_losses.proofs.edges.fall_within.Goals as goal
 pub returns : goal.returns
 unfolding bit
 returns c = let a = c.args in
-    let near = c.near-Within in
+    let near = c.near_within in
     λ G s w h.
     c.falling.ensures w h
     ∙ fall_rows word_bits G (bit a.edges.now) s (digit a.l) (digit a.x) (digit near.result) (bit a.edges.now (2 * word_bits))

@@ -12,4 +12,4 @@ returns c = let a = c.args in
     λ w h.
     digit_or _ _ w
     ∙ ap₂ ◌or◌ (digit_and _ _ w)
-    (c.Apart-of.ensures w h ∙ ap (λ b. b & apart_in word_bits (bit a.edges.now) w (digit a.x)) (c.without.ensures w h))
+    (c.apart_of.ensures w h ∙ ap (λ b. b & apart_in word_bits (bit a.edges.now) w (digit a.x)) (c.without.ensures w h))

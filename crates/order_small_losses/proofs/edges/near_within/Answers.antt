@@ -12,7 +12,7 @@ pub returns-then-size : goal.returns-then-size
 returns-then-size c = let a = c.args in
     λ G s w h.
     c.without.ensures w h
-    ∙ ap (λ b. digit a.mask w & not b) (c.Apart-of.ensures w h)
+    ∙ ap (λ b. digit a.mask w & not b) (c.apart_of.ensures w h)
     ∙ near_apart word_bits G (bit a.edges.now) s (digit a.l) (digit a.mask w) w h
 
 pub returns : goal.returns

@@ -32,7 +32,7 @@ loop-left-preserved c = let near = c.args.near in
     let v = c.lowest-v.result in
     let m = c.lowest-v.ensures in
     let e = c.rest-left.ensures in
-    let here : 0 + lowest_bit c.loop-left.false ≡ v = omega (arith, m.is) in
+    let here : 0 + lowest_bit c.loop-left.left ≡ v = omega (arith, m.is) in
     let more : v + 1 ≡ 0 + v + 1 = omega arith in
     let on = onward_here _ _ _ m e near i.0 in (
       onward_next _ _ _ m e near i.0,
@@ -44,5 +44,5 @@ loop-left-preserved c = let near = c.args.near in
     )
 
 pub returns : goal.returns
-returns c = let e : lowest_bit c.loop-left.false ≡ 64 = rw c.loop-left-test.false lowest_none in
+returns c = let e : lowest_bit c.loop-left.left ≡ 64 = rw c.loop-left-test.false lowest_none in
     rw e at c.loop-left.invariant.2

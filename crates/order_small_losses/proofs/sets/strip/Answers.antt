@@ -22,7 +22,7 @@ loop-left-init c = let a = c.args in (left_start a.which, λ x h. not_start a.wh
 less : (c : lts.After-without tie.the-claims reads.Pre reads.Post goal.the-invariant-loop-left goal.the-decreases-loop-left) → let a = c.args in
     Is word_bits (digit c.without-less.result)
     (λ x.
-    (digit a.from x & not (done a.which (λ k. bit a.words.now (0 + k) x) c.loop-left.false))
+    (digit a.from x & not (done a.which (λ k. bit a.words.now (0 + k) x) c.loop-left.left))
     & not (bit a.words.now (0 + c.lowest.result) x))
 unfolding bit
 less c x h = let a = c.args in
