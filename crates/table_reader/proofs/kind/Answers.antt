@@ -45,8 +45,5 @@ returns-in_default-2 c = none c.args.number (omega arith) (omega arith) (omega a
 pub returns-in_default-3 : goal.returns-in_default-3
 returns-in_default-3 c = none c.args.number (omega arith) (omega arith) (omega arith) (omega arith) (omega arith)
 
-abbrev at-start : lts.Else8 reads.Pre reads.Post → lts.Start reads.Pre reads.Post
-at-start c = search
-
 pub returns-in_default-4 : goal.returns-in_default-4
-returns-in_default-4 c = none (at-start c).args.number (omega arith) (omega arith) (omega arith) (omega arith) (omega arith)
+returns-in_default-4 c = none c.args.number (omega arith) (omega arith) (omega arith) (omega arith) (omega arith)

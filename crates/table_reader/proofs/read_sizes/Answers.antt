@@ -55,13 +55,13 @@ abbrev game7 : lts.Else8 tie.the-claims reads.Pre reads.Post → List ℕ
 game7 c = game6 c.before.before
 
 few : (c : lts.Else3 tie.the-claims reads.Pre reads.Post) → vertex_count (game2 c) ≤ vertex_limit
-few c = ltb-false vertex_limit (vertex_count (game2 c)) c.if-n-gt-VERTICES.false
+few c = c.if-n-gt-VERTICES.false
 
 sized : (c : lts.Else5 tie.the-claims reads.Pre reads.Post) → Sized (game4 c) (vertex_count (game4 c)) (table_edges (game4 c))
 sized c = record { vertices = refl; edges = refl; few_vertices = few c.before.before; few_edges = c.if-m-gt-EDGES.false; size = c.if-len-n.false }
 
 ends : (c : lts.Else7 tie.the-claims reads.Pre reads.Post) → EndsInside (game6 c)
-ends c = ends_inside (game6 c) (omega (arith, c.first_end_lem.ensures, c.if-end-len.false, sized c.before.before.before.before))
+ends c = ends_inside (game6 c) (omega (arith, c.first_end-end.ensures, c.if-end-len.false, sized c.before.before.before.before))
 
 clean1 : (c : lts.Else1 tie.the-claims reads.Pre reads.Post) → sizes_answer (game1 c) ≡ rest (game1 c) 1
 unfolding sizes_answer game_rows_by
@@ -69,7 +69,7 @@ clean1 c = judge_next _ _ _ (le-ltb _ _ c.if-len-lt2.false)
 
 clean2 : (c : lts.Else3 tie.the-claims reads.Pre reads.Post) → sizes_answer (game2 c) ≡ rest (game2 c) 2
 unfolding game_rows_by ◌or◌
-clean2 c = clean1 c.before.before.before.before ∙ judge_next _ _ _ (rw (ne_eqb (vertex_count (game2 c)) 0 c.then-n-eq0.false, c.if-n-gt-VERTICES.false))
+clean2 c = clean1 c.before.before.before.before ∙ judge_next _ _ _ (rw (ne_eqb (vertex_count (game2 c)) 0 c.if-n-eq0.false) (le-ltb _ _ c.if-n-gt-VERTICES.false))
 
 clean3 : (c : lts.Else4 tie.the-claims reads.Pre reads.Post) → sizes_answer (game3 c) ≡ rest (game3 c) 3
 unfolding game_rows_by
@@ -85,7 +85,7 @@ clean5 c = clean4 c.before.before ∙ judge_next _ _ _ (misses c.first_owner-own
 
 clean6 : (c : lts.Else7 tie.the-claims reads.Pre reads.Post) → sizes_answer (game6 c) ≡ rest (game6 c) 6
 unfolding game_rows_by
-clean6 c = clean5 c.before.before ∙ judge_next _ _ _ (misses c.first_end_lem.ensures (rw (sized c.before.before.before.before).size at c.if-end-len.false))
+clean6 c = clean5 c.before.before ∙ judge_next _ _ _ (misses c.first_end-end.ensures (rw (sized c.before.before.before.before).size at c.if-end-len.false))
 
 clean7 : (c : lts.Else8 tie.the-claims reads.Pre reads.Post) → sizes_answer (game7 c) ≡ rest (game7 c) 7
 unfolding game_rows_by
@@ -102,7 +102,7 @@ pub overflow_cast-m : goal.overflow_cast-m
 overflow_cast-m c = omega (arith, c.shared_slice_known-3-1.given 1)
 
 bad_count : (c : lts.Joined2 tie.the-claims reads.Pre reads.Post) → So (eqb (vertex_count (game1 c.before.before.before)) 0 or ltb vertex_limit (vertex_count (game1 c.before.before.before)))
-bad_count c = ⊎_elim (λ w. or_left _ (eq-eqb _ _ w.taken)) (λ w. or_right _ w.1.taken) c.then-n-eq0.branch
+bad_count c = ⊎_elim (λ w. or_left _ (eq-eqb _ _ w)) (λ w. or_right _ (lt-ltb _ _ w.1)) c.then-n-eq0.either
 
 pub returns-then-n-eq0 : goal.returns-then-n-eq0
 unfolding game_rows_by
@@ -144,7 +144,7 @@ first_end-end-requires c = sized c.before.before.before
 
 pub returns-then-end-len : goal.returns-then-end-len
 unfolding game_rows_by
-returns-then-end-len c = let e = c.first_end_lem.ensures in
+returns-then-end-len c = let e = c.first_end-end.ensures in
     let z = sized c.before.before.before.before.before.before in
     rw c.refused-then-end-len.ensures (ap (refused 6) e ∙ sym (clean5 c.before.before.before.before ∙ judge_hit _ _ _ (finds e (rw z.size at c.if-end-len.true))))
 
