@@ -14,12 +14,10 @@ pub loop-u-init : goal.loop-u-init
 loop-u-init c = λ k h. absurd (not-suc-le-zero h)
 
 pub loop-u-preserved : goal.loop-u-preserved
-loop-u-preserved c = let f : tie.After-fits2 invariant-loop decreases-loop = search in
-    below_more _ _ c.loop-u.invariant (sym f.fits2.ensures ∙ c.if-fits.true)
+loop-u-preserved c = below_more _ _ c.loop-u.invariant (sym c.fits.ensures ∙ c.if-fits.true)
 
 pub returns-else-fits : goal.returns-else-fits
-returns-else-fits c = let f : tie.After-fits2 invariant-loop decreases-loop = search in
-    sym (So_not (λ t. clash ((all_out t).at c.loop-u.u c.loop-u-test.true) (sym f.fits2.ensures ∙ c.if-fits.false)))
+returns-else-fits c = sym (So_not (λ t. clash ((all_out t).at c.loop-u.u c.loop-u-test.true) (sym c.fits.ensures ∙ c.if-fits.false)))
 
 pub returns : goal.returns
 returns c = sym (all_in _ _ (λ k h. c.loop-u.invariant k (omega (arith, c.loop-u-test.false))))

@@ -6,4 +6,10 @@ use Rattle.plan_blocks.specs.RefiningLaws.{split_confined, split_bounded}
 use Rattle.plan_blocks.proofs.split.Goals as goal
 
 pub remove-requires : goal.remove-requires
-remove-requires c = let fit = all_out (sym c.all_fit.ensures ∙ c.if-all_fit.true) in record { p_le_position_limit = (c.requires.p_le_position_limit.0, omega (arith, c.take_numbers.kept.0, c.requires.p_le_position_limit.1)); confined = split_confined _ _ _ _ _ _ _ _ _ fit.at c.take_numbers.ensures c.requires.confined; bounded = split_bounded _ c.args.player _ _ _ _ _ _ _ fit.at c.take_numbers.ensures; }
+remove-requires c =
+    let fit = all_out (sym c.all_fit.ensures ∙ c.if-all_fit.true) in
+    record {
+      p_le_position_limit = (c.requires.p_le_position_limit.0, omega (arith, c.requires.p_le_position_limit.1));
+      confined = split_confined _ _ _ _ _ _ _ _ _ fit.at c.take_numbers.ensures c.requires.confined;
+      bounded = split_bounded _ c.args.player _ _ _ _ _ _ _ fit.at c.take_numbers.ensures;
+    }

@@ -1,11 +1,15 @@
 -- The rest of the search equals the whole.
 use native.Mathlib.Omega.{arith}
 use Prim.Native.Nat.{◌≤◌, ◌-◌}
-use mathlib.Core.Path.{◌≡◌, sym, ◌∙◌}
+use mathlib.Core.Path.{◌≡◌, refl, sym, ◌∙◌}
 use Rattle.theory.specs.Logic.Range.{first}
 use Rattle.theory.proofs.Logic.RangeLaws.{first_step, first_hit, first_end_lem}
 use Rattle.plan_links.specs.Refusals.{strays, first_stray}
 use Rattle.plan_links.proofs.first_straying.Goals as goal
+
+pub loop-k-init : goal.loop-k-init
+unfolding first_stray
+loop-k-init c = (omega arith, refl)
 
 pub returns-then-strays : goal.returns-then-strays
 returns-then-strays c = sym (c.loop-k.invariant.1 ∙ first_hit _ _ _ c.loop-k-test.true (sym c.strays.ensures ∙ c.if-strays.true))
