@@ -14,10 +14,10 @@ loop-j-init c = (search rules, filled_start _ _ refl)
 
 pub loop-j-preserved : goal.loop-j-preserved
 loop-j-preserved c = let a = c.args in (
-      search rules,
-      filled_next c.loop-j.j _ _ _ c.loop-j-test.true c.loop-j.invariant.1
-          (λ k h. c.apart_word.ensures k h ∙ ap (λ b. b & apart a.words.now (c.loop-j.j * 64 + k) a.x) (sym (has_at a.t2 c.loop-j.j k h))),
-    )
+  search rules,
+  filled_next c.loop-j.j _ _ _ c.loop-j-test.true c.loop-j.invariant.1
+      (λ k h. c.apart_word.ensures k h ∙ ap (λ b. b & apart a.words.now (c.loop-j.j * 64 + k) a.x) (sym (has_at a.which c.loop-j.j k h))),
+)
 
 pub returns : goal.returns
 returns c = filled_end _ _ _ c.loop-j-test.false c.loop-j.invariant.1

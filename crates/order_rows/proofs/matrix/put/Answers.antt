@@ -13,10 +13,10 @@ loop-k-init c = (search rules, refl, put_start _ _ _)
 
 pub loop-k-preserved : goal.loop-k-preserved
 loop-k-preserved c = (
-      search rules,
-      search rules,
-      put_next c.loop-k.k _ _ c.args.v _ c.loop-k-test.true (omega (arith, c.loop-k.invariant.1, c.requires, c.loop-k-test.true)) c.loop-k.invariant.2,
-    )
+  search rules,
+  search rules,
+  put_next c.loop-k.k _ _ c.args.v _ c.loop-k-test.true (omega (arith, c.loop-k.invariant.1, c.requires, c.loop-k-test.true)) c.loop-k.invariant.2,
+)
 
 pub returns : goal.returns
 returns c = put_end c.loop-k.k _ _ _ _ c.loop-k-test.false c.loop-k.invariant.2

@@ -18,13 +18,13 @@ loop-j-init c = (search rules, λ x h. sym (and_true _))
 
 pub loop-j-preserved : goal.loop-j-preserved
 loop-j-preserved c = let a = c.args in (
-      search rules,
-      λ x h. c.strip_word-less.ensures x h ∙ stripped_next a.words.now a.t2 x c.loop-j.j _ (has a.from x) (c.loop-j.invariant.1 x h),
-    )
+  search rules,
+  λ x h. c.strip_word-less.ensures x h ∙ stripped_next a.words.now a.which x c.loop-j.j _ (has a.from x) (c.loop-j.invariant.1 x h),
+)
 
 pub returns : goal.returns
 returns c = let a = c.args in
     let e : c.loop-j.j ≡ row_words = omega (arith, c.loop-j-test.false, c.loop-j.invariant.0) in
     λ x h.
     c.loop-j.invariant.1 x h
-    ∙ ap (λ b. has a.from x & not b) (ap (united_to a.words.now 0 a.t2 x) e ∙ united_end a.words.now 0 a.t2 x)
+    ∙ ap (λ b. has a.from x & not b) (ap (united_to a.words.now 0 a.which x) e ∙ united_end a.words.now 0 a.which x)

@@ -15,11 +15,11 @@ loop-j-init c = (search rules, λ x h. has_zero row_words x)
 
 pub loop-j-preserved : goal.loop-j-preserved
 loop-j-preserved c = let a = c.args in (
-      search rules,
-      λ x h. c.unite_word-more.ensures x h ∙ united_next a.words.now a.base a.t3 x c.loop-j.j _ (c.loop-j.invariant.1 x h),
-    )
+  search rules,
+  λ x h. c.unite_word-more.ensures x h ∙ united_next a.words.now a.base a.which x c.loop-j.j _ (c.loop-j.invariant.1 x h),
+)
 
 pub returns : goal.returns
 returns c = let a = c.args in
     let e : c.loop-j.j ≡ row_words = omega (arith, c.loop-j-test.false, c.loop-j.invariant.0) in
-    λ x h. c.loop-j.invariant.1 x h ∙ ap (united_to a.words.now a.base a.t3 x) e ∙ united_end a.words.now a.base a.t3 x
+    λ x h. c.loop-j.invariant.1 x h ∙ ap (united_to a.words.now a.base a.which x) e ∙ united_end a.words.now a.base a.which x

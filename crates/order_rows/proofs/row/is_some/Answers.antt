@@ -20,11 +20,11 @@ loop-k-init c = (search rules, some_none)
 
 pub loop-k-preserved : goal.loop-k-preserved
 loop-k-preserved c = let a = c.args in (
-      search rules,
-      any_ext word_bits _ _ (λ j h. digit_or _ _ j) ∙ any_or word_bits _ _ ∙ ap (λ b. b or any_below word_bits (digit (get_or a.t1 c.loop-k.k 0))) c.loop-k.invariant.1
-          ∙ sym (any_words c.loop-k.k a.t1),
-    )
+  search rules,
+  any_ext word_bits _ _ (λ j h. digit_or _ _ j) ∙ any_or word_bits _ _ ∙ ap (λ b. b or any_below word_bits (digit (get_or a.a c.loop-k.k 0))) c.loop-k.invariant.1
+      ∙ sym (any_words c.loop-k.k a.a),
+)
 
 pub returns : goal.returns
 returns c = let e : c.loop-k.k ≡ row_words = omega (arith, c.loop-k-test.false, c.loop-k.invariant.0) in
-    c.is_some.ensures ∙ c.loop-k.invariant.1 ∙ ap (λ (k : ℕ). any_below (k * 64) (has c.args.t1)) e
+    c.is_some.ensures ∙ c.loop-k.invariant.1 ∙ ap (λ (k : ℕ). any_below (k * 64) (has c.args.a)) e

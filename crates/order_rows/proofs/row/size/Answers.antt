@@ -18,17 +18,17 @@ loop-k-init c = (search rules, refl)
 
 pub overflow_add-total : goal.overflow_add-total
 overflow_add-total c = omega (
-      arith,
-      c.loop-k.invariant.1,
-      c.size-total.ensures,
-      count_le (c.loop-k.k * 64) (has c.args.t1),
-      count_le word_bits (digit (get_or c.args.t1 c.loop-k.k 0)),
-      c.loop-k-test.true,
-    )
+  arith,
+  c.loop-k.invariant.1,
+  c.size-total.ensures,
+  count_le (c.loop-k.k * 64) (has c.args.a),
+  count_le word_bits (digit (get_or c.args.a c.loop-k.k 0)),
+  c.loop-k-test.true,
+)
 
 pub loop-k-preserved : goal.loop-k-preserved
-loop-k-preserved c = (search rules, ap₂ ◌+◌ c.loop-k.invariant.1 c.size-total.ensures ∙ sym (count_words c.loop-k.k c.args.t1))
+loop-k-preserved c = (search rules, ap₂ ◌+◌ c.loop-k.invariant.1 c.size-total.ensures ∙ sym (count_words c.loop-k.k c.args.a))
 
 pub returns : goal.returns
 returns c = let e : c.loop-k.k ≡ row_words = omega (arith, c.loop-k-test.false, c.loop-k.invariant.0) in
-    c.loop-k.invariant.1 ∙ ap (λ (k : ℕ). count (k * 64) (has c.args.t1)) e
+    c.loop-k.invariant.1 ∙ ap (λ (k : ℕ). count (k * 64) (has c.args.a)) e

@@ -16,10 +16,10 @@ loop-k-init c = (search rules, filled_start _ _ refl)
 
 pub loop-k-preserved : goal.loop-k-preserved
 loop-k-preserved c = let a = c.args in (
-      search rules,
-      filled_next c.loop-k.k _ _ _ c.loop-k-test.true c.loop-k.invariant.1
-          (λ j h. digit_less _ _ j ∙ ap₂ (λ x y. x & not y) (sym (has_at a.t1 c.loop-k.k j h)) (sym (has_at a.t2 c.loop-k.k j h))),
-    )
+  search rules,
+  filled_next c.loop-k.k _ _ _ c.loop-k-test.true c.loop-k.invariant.1
+      (λ j h. digit_less _ _ j ∙ ap₂ (λ x y. x & not y) (sym (has_at a.a c.loop-k.k j h)) (sym (has_at a.b c.loop-k.k j h))),
+)
 
 pub returns : goal.returns
 returns c = filled_end _ _ _ c.loop-k-test.false c.loop-k.invariant.1
