@@ -8,25 +8,25 @@ mod reading;
 mod reductions;
 mod tables;
 
-fn main() {
-    reading::games();
-    reading::bad_sizes();
-    reading::bad_words();
-    reading::limits();
-    reading::kinds();
-    orders::games();
-    orders::mixed_owners();
-    orders::chains();
-    orders::short_buffers();
-    orders::good_relations();
-    orders::bad_relations();
-    plans::games();
-    plans::bad_players();
-    plans::bad_sizes();
-    plans::limits();
-    plans::bad_words();
-    plans::bad_positions();
-    reductions::games();
-    reductions::quotients();
-    reductions::short_buffers();
+fn main(rt: HostRuntime) {
+    reading::games(&rt);
+    reading::bad_sizes(&rt);
+    reading::bad_words(&rt);
+    reading::limits(&rt);
+    reading::kinds(&rt);
+    orders::games(&rt);
+    orders::mixed_owners(&rt);
+    orders::chains(&rt);
+    orders::short_buffers(&rt);
+    orders::good_relations(&rt);
+    orders::bad_relations(&rt);
+    plans::games(&rt);
+    plans::bad_players(&rt);
+    plans::bad_sizes(&rt);
+    plans::limits(&rt);
+    plans::bad_words(&rt);
+    plans::bad_positions(&rt);
+    reductions::games(&rt);
+    reductions::quotients(&rt);
+    reductions::short_buffers(&rt);
 }

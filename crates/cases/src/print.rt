@@ -1,47 +1,47 @@
 // The lines: `NAME accepted COUNTS..` and `NAME refused NUMBER at PLACE`.
-use libc::STDOUT_FILENO;
 use table::Refusal;
 
-pub fn text(s: &[u8]) {
-    io::write_all(STDOUT_FILENO, s);
+// Output that cannot be written is lost.
+pub fn text(rt: &impl Print, s: &[u8]) {
+    let _ = rt.write_all(s);
 }
 
 // a space and a number
-pub fn number(x: u64) {
-    text(b" ");
-    io::print_decimal(STDOUT_FILENO, x);
+pub fn number(rt: &impl Print, x: u64) {
+    text(rt, b" ");
+    let _ = rt.print(x);
 }
 
-pub fn end_line() {
-    text(b"\n");
+pub fn end_line(rt: &impl Print) {
+    text(rt, b"\n");
 }
 
-pub fn refused(f: Refusal) {
-    text(b" refused");
-    number(f.number as u64);
-    text(b" at");
-    number(f.place as u64);
-    end_line();
+pub fn refused(rt: &impl Print, f: Refusal) {
+    text(rt, b" refused");
+    number(rt, f.number as u64);
+    text(rt, b" at");
+    number(rt, f.place as u64);
+    end_line(rt);
 }
 
-pub fn accepted() {
-    text(b" accepted");
+pub fn accepted(rt: &impl Print) {
+    text(rt, b" accepted");
 }
 
 // a space and a number for each byte
-pub fn bytes(bs: &[u8]) {
+pub fn bytes(rt: &impl Print, bs: &[u8]) {
     let mut i = 0;
     while i < bs.len() {
-        number(bs[i] as u64);
+        number(rt, bs[i] as u64);
         i += 1;
     }
 }
 
 // the same for words
-pub fn words(ws: &[u16]) {
+pub fn words(rt: &impl Print, ws: &[u16]) {
     let mut i = 0;
     while i < ws.len() {
-        number(ws[i] as u64);
+        number(rt, ws[i] as u64);
         i += 1;
     }
 }

@@ -8,8 +8,8 @@ ghost use Rattle.report_findings.specs.Words.{read_limit};
 ghost use Rattle.report_findings.specs.ReportMemory.{AtMost};
 ghost use Rattle.report.specs.Page.{OnPage};
 
-use libc::STDIN_FILENO;
 use report_findings::{Report, findings};
+use std::io::Read;
 use table::limits::{PAIR_BYTES, TABLE_WORDS, VERTICES};
 use table::{Reading, Sizes};
 
@@ -20,11 +20,19 @@ const READ_WORDS: usize = TABLE_WORDS + 1;
 const PAGE: usize = 4096;
 
 // The first lines of an accepted game: its sizes, passes and classes. Like those below, returns where the page goes on.
-fn print_sizes(page: &mut [u8], at: usize, sizes: Sizes, passes: u32, classes: usize) -> usize
+fn print_sizes(
+    rt: &impl Print,
+    page: &mut [u8],
+    at: usize,
+    sizes: Sizes,
+    passes: u32,
+    classes: usize,
+) -> usize
     requires { OnPage (length page.old) at }
     ensures { OnPage (length page.old) result }
 {
     let a = print::two(
+        rt,
         page,
         at,
         b"game ",
@@ -32,17 +40,18 @@ fn print_sizes(page: &mut [u8], at: usize, sizes: Sizes, passes: u32, classes: u
         b" ",
         sizes.different as u64,
     );
-    let b = print::one(page, a, b"passes ", passes as u64);
-    print::one(page, b, b"classes ", classes as u64)
+    let b = print::one(rt, page, a, b"passes ", passes as u64);
+    print::one(rt, page, b, b"classes ", classes as u64)
 }
 
 // The last lines: the sums, and the sizes of the reduced game.
-fn print_sums(page: &mut [u8], at: usize, report: Report) -> usize
+fn print_sums(rt: &impl Print, page: &mut [u8], at: usize, report: Report) -> usize
     requires { OnPage (length page.old) at }
     ensures { OnPage (length page.old) result }
 {
     let totals = report.totals;
     let a = print::two(
+        rt,
         page,
         at,
         b"total ",
@@ -51,6 +60,7 @@ fn print_sums(page: &mut [u8], at: usize, report: Report) -> usize
         totals.edges as u64,
     );
     print::two(
+        rt,
         page,
         a,
         b"reduced ",
@@ -62,6 +72,7 @@ fn print_sums(page: &mut [u8], at: usize, report: Report) -> usize
 
 // All lines of an accepted game.
 fn print_accepted(
+    rt: &impl Print,
     page: &mut [u8],
     sizes: Sizes,
     report: Report,
@@ -73,14 +84,15 @@ fn print_accepted(
     requires classes_in_bounds { (report.classes ≤ length members.now) × (report.classes ≤ length edges.now) }
     ensures { OnPage (length page.old) result }
 {
-    let a = print_sizes(page, 0, sizes, report.passes, report.classes);
-    let b = print::vertices(page, a, classes, sizes.vertices);
-    let c = print::classes(page, b, members, edges, report.classes);
-    print_sums(page, c, report)
+    let a = print_sizes(rt, page, 0, sizes, report.passes, report.classes);
+    let b = print::vertices(rt, page, a, classes, sizes.vertices);
+    let c = print::classes(rt, page, b, members, edges, report.classes);
+    print_sums(rt, page, c, report)
 }
 
 // The report's lines. A refusal is the only one.
 fn print_lines(
+    rt: &impl Print,
     page: &mut [u8],
     report: Report,
     classes: &[u16],
@@ -94,6 +106,7 @@ fn print_lines(
     let verdict = report.verdict;
     match verdict {
         Reading::Refused(refusal) => print::two(
+            rt,
             page,
             0,
             b"refused ",
@@ -101,22 +114,24 @@ fn print_lines(
             b" at ",
             refusal.place as u64,
         ),
-        Reading::Accepted(sizes) => print_accepted(page, sizes, report, classes, members, edges),
+        Reading::Accepted(sizes) => print_accepted(
+            rt, page, sizes, report, classes, members, edges,
+        ),
     }
 }
 
 // Prints them by way of a page, a local array.
-fn print_report(report: Report, classes: &[u16], members: &[u16], edges: &[u16])
+fn print_report(rt: &impl Print, report: Report, classes: &[u16], members: &[u16], edges: &[u16])
     requires at_most { AtMost (length classes.now) report.verdict }
     requires classes_in_bounds { (report.classes ≤ length members.now) × (report.classes ≤ length edges.now) }
 {
     let mut page = [0u8; PAGE];
-    let end = print_lines(&mut page, report, classes, members, edges);
-    print::flush(&page, end);
+    let end = print_lines(rt, &mut page, report, classes, members, edges);
+    print::flush(rt, &page, end);
 }
 
 // Lends the arrays: the words that are read, and memory for any game that is accepted.
-fn report_bytes(bytes: &[u8])
+fn report_bytes(rt: &impl Print, bytes: &[u8])
     requires { length bytes.now ≤ 2 * read_limit }
 {
     let mut words = [0u16; READ_WORDS];
@@ -136,11 +151,29 @@ fn report_bytes(bytes: &[u8])
         &mut members,
         &mut edges,
     );
-    print_report(report, &classes, &members, &edges);
+    print_report(rt, report, &classes, &members, &edges);
 }
 
-fn main() {
+// Reads standard input until the buffer is full, the input ends or a read fails. Returns how many bytes were read.
+fn read_full(rt: &impl Input, buffer: &mut [u8]) -> usize
+    ensures { result ≤ length buffer.new }
+{
+    let mut input = rt.reader();
+    let mut count = 0;
+    while count < buffer.len() {
+        let Ok(more) = input.read(&mut buffer[count..]) else {
+            return count;
+        };
+        if more == 0 {
+            return count;
+        }
+        count += more;
+    }
+    count
+}
+
+fn main(rt: HostRuntime) {
     let mut bytes = [0u8; 2 * READ_WORDS];
-    let count = io::read_full(STDIN_FILENO, &mut bytes);
-    report_bytes(&bytes[..count]);
+    let count = read_full(&rt, &mut bytes);
+    report_bytes(&rt, &bytes[..count]);
 }

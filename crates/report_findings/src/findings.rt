@@ -4,7 +4,7 @@ ghost use Rattle.report_findings.specs.Words.{read_limit, words_of};
 ghost use Rattle.report_findings.specs.Findings.{Reported};
 ghost use Rattle.report_findings.specs.ReportMemory.{Enough};
 
-use crate::{Report, words};
+use crate::{Report, input_words};
 use reduction::tables::fill_memory;
 use reduction_totals::{Totals, write_totals};
 use table::Reading;
@@ -65,7 +65,7 @@ pub fn find_from_bytes(
     requires enough { Enough marks.old spare.old output.old classes.old members.old edges.old }
     ensures { Reported (words_of bytes.now) classes.old members.old edges.old result classes.new members.new edges.new }
 {
-    let count = words::decode(bytes, words);
+    let count = input_words::decode(bytes, words);
     find(
         &words[..count],
         marks,

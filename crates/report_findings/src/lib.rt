@@ -2,7 +2,7 @@
 #![tactic(auto)]
 
 pub mod findings;
-mod words;
+mod input_words;
 
 use reduction_totals::Totals;
 use table::Reading;

@@ -10,7 +10,7 @@ use Rattle.theory.proofs.Logic.ListLaws.{length_tabulate}
 use Rattle.report_findings.specs.Words.{word_at, words_in, words_of}
 use Rattle.report_findings.specs.WordsLaws.{words_end}
 use Rattle.std.proofs.Common.{rules}
-use Rattle.report_findings.proofs.words.decode.Goals as goal
+use Rattle.report_findings.proofs.input_words.decode.Goals as goal
 
 pub loop-i-init : goal.loop-i-init
 loop-i-init c = (search rules, search rules, written_start _ _)

@@ -8,7 +8,7 @@ use Rattle.table.specs.AnswersLaws.{written_start, written_more}
 use Rattle.theory.proofs.Logic.ListLaws.{length_tabulate}
 use Rattle.report_findings.specs.Words.{word_at, words_in, words_of}
 use Rattle.report_findings.specs.WordsLaws.{words_end}
-use Rattle.report_findings.proofs.words.decode.Given as goal
+use Rattle.report_findings.proofs.input_words.decode.Given as goal
 
 abbrev pub invariant-loop-i : goal.invariant-loop-i
 invariant-loop-i l = (2 * l.i ≤ length l.bytes + 1) × (length l.words ≡ length l.initial.words) × (l.words ≡ written (tabulate l.i (word_at l.bytes)) l.initial.words)
