@@ -1,6 +1,6 @@
--- Laws of the crate's definitions, for its own proofs and those of the crates above.
+-- Laws of the definitions in specs.
 pub mod CarryCallLaws
-pub mod CarryMemoryLaws
 pub mod CarryRulesLaws
-pub mod SameCarryLaws
 pub mod WrittenPlanLaws
+pub mod CarryMemoryLaws
+pub mod SameCarryLaws

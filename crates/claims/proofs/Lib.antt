@@ -1,6 +1,6 @@
--- Laws of the crate's definitions, for its own proofs and those of the crates above.
+-- Laws of the definitions in specs.
 pub mod CasesLaws
-pub mod GovernedSentencesLaws
 pub mod SentencesLaws
 pub mod SmallestLaws
 pub mod WorkedGames
+pub mod GovernedSentencesLaws

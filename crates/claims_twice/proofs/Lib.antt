@@ -1,3 +1,3 @@
--- Laws of the crate's definitions, for its own proofs and those of the crates above.
+-- Laws of the definitions in specs.
 pub mod ReducedTwiceLaws
 pub mod WorkedGames

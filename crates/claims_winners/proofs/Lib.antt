@@ -1,5 +1,5 @@
--- Laws of the crate's definitions, for its own proofs and those of the crates above.
-pub mod SameVerdictLaws
-pub mod VerdictWinnersLaws
+-- Laws of the definitions in specs.
 pub mod WinnersLaws
+pub mod VerdictWinnersLaws
+pub mod SameVerdictLaws
 pub mod WorkedGames

@@ -1,5 +1,5 @@
--- Laws of the crate's definitions, for its own proofs and those of the crates above.
+-- Laws of the definitions in specs.
 pub mod CopyLaws
+pub mod PreviewRulesLaws
 pub mod PreviewCallLaws
 pub mod PreviewEditLaws
-pub mod PreviewRulesLaws

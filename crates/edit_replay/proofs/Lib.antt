@@ -1,4 +1,4 @@
--- Laws of the crate's definitions, for its own proofs and those of the crates above.
-pub mod FinalTableLaws
+-- Laws of the definitions in specs.
 pub mod ReplayCallLaws
 pub mod ReplayRulesLaws
+pub mod FinalTableLaws

@@ -1,10 +1,10 @@
--- Laws of the crate's definitions, for its own proofs and those of the crates above.
+-- Laws of the definitions in specs.
 pub mod BufferLaws
 pub mod EdgesLaws
-pub mod EdgesRulesLaws
-pub mod EditPartsLaws
-pub mod EditedLaws
-pub mod JudgeLaws
 pub mod ListedPartLaws
-pub mod ScanLaws
+pub mod EditedLaws
 pub mod SearchLaws
+pub mod ScanLaws
+pub mod EditPartsLaws
+pub mod JudgeLaws
+pub mod EdgesRulesLaws

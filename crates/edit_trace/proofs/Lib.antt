@@ -1,6 +1,6 @@
--- Laws of the crate's definitions, for its own proofs and those of the crates above.
-pub mod PaddedLaws
-pub mod ParityLaws
-pub mod RunLaws
+-- Laws of the definitions in specs.
 pub mod TraceLaws
+pub mod PaddedLaws
+pub mod RunLaws
 pub mod TraceRulesLaws
+pub mod ParityLaws

@@ -1,4 +1,4 @@
--- Laws of the crate's definitions, for its own proofs and those of the crates above.
+-- Laws of the definitions in specs.
+pub mod MovesLaws
 pub mod ChosenLaws
 pub mod ExistenceLaws
-pub mod MovesLaws

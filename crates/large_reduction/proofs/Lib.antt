@@ -1,5 +1,5 @@
--- Laws of the crate's definitions, for its own proofs and those of the crates above.
+-- Laws of the definitions in specs.
 pub mod ReductionCallLaws
-pub mod ReductionLaws
 pub mod ReductionRulesLaws
+pub mod ReductionLaws
 pub mod Worked

@@ -1,8 +1,8 @@
--- Laws of the crate's definitions, for its own proofs and those of the crates above.
-pub mod CertificateLaws
-pub mod PlaceRulesLaws
+-- Laws of the definitions in specs.
 pub mod PlacesLaws
-pub mod RefusalLaws
 pub mod RunLaws
 pub mod SolutionLaws
+pub mod CertificateLaws
+pub mod PlaceRulesLaws
 pub mod Worked
+pub mod RefusalLaws

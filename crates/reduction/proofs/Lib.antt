@@ -1,6 +1,6 @@
--- Laws of the crate's definitions, for its own proofs and those of the crates above.
-pub mod SameTableLaws
-pub mod SourcesLaws
-pub mod TableCallLaws
+-- Laws of the definitions in specs.
 pub mod TableRulesLaws
+pub mod SourcesLaws
 pub mod TablesLaws
+pub mod TableCallLaws
+pub mod SameTableLaws

@@ -1,5 +1,5 @@
--- Laws of the crate's definitions, for its own proofs and those of the crates above.
-pub mod ListingLaws
-pub mod LittleBrothersLaws
+-- Laws of the definitions in specs.
 pub mod PickedLaws
+pub mod LittleBrothersLaws
 pub mod WordsLaws
+pub mod ListingLaws

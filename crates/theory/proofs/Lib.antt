@@ -1,11 +1,11 @@
--- Laws of the crate's definitions, for its own proofs and those of the crates above.
-pub mod Carry
-pub mod Classes
-pub mod Examples
-pub mod Games
+-- The laws of the definitions in specs, a folder for each subject, and worked examples.
 pub mod Logic
-pub mod Merges
+pub mod Games
 pub mod Order
 pub mod Plans
-pub mod Solutions
 pub mod Winners
+pub mod Solutions
+pub mod Classes
+pub mod Carry
+pub mod Merges
+pub mod Examples

@@ -8,6 +8,3 @@ pub mod ClassEdges
 pub mod Totals
 -- the smallest game that represents a game: `represents_in`, `represents_out`, `reduced_represents`, `reduced_smallest`
 pub mod Minimal
-
--- the reduced game reduced again: `reduced_order`, `reduced_compares`, `reduced_antisymmetric`, `reduced_class`, `reduced_twice`;
--- `quotient_class`, `quotient_twice`

@@ -3,5 +3,3 @@
 -- bounded "each", "some", "the first", "how many", "the c-th"
 pub mod Bools
 pub mod Range
-
--- counting, and the `pigeonhole`; sums; lists

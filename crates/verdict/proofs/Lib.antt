@@ -1,5 +1,5 @@
--- Laws of the crate's definitions, for its own proofs and those of the crates above.
-pub mod ConfirmedLaws
+-- Laws of the definitions in specs.
 pub mod VerdictCallLaws
 pub mod VerdictRulesLaws
+pub mod ConfirmedLaws
 pub mod VerdictsLaws
