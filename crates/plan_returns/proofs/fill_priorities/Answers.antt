@@ -20,23 +20,19 @@ overflow_add-priorities c = omega (arith, below c.before, c.requires.well_formed
 pub offset_bounds-game-vertex_of : goal.offset_bounds-game-vertex_of
 offset_bounds-game-vertex_of c = omega (arith, below c.before, c.requires.well_formed.0.vertices)
 
-abbrev at-start : lts.After-shared_slice_known4 tie.the-claims reads.Pre reads.Post goal.the-invariant-loop-j goal.the-decreases-loop-j tie.handed_clauses → lts.Start tie.the-claims reads.Pre reads.Post goal.the-invariant-loop-j goal.the-decreases-loop-j tie.handed_clauses
-at-start c = search
-
 pub bounds-game-vertex_of : goal.bounds-game-vertex_of
-bounds-game-vertex_of c = omega (arith, below c.before.before, (at-start c.before).requires.0.0.size)
+bounds-game-vertex_of c = omega (arith, below c.before.before, c.requires.well_formed.0.size)
 
 pub loop-j-preserved : goal.loop-j-preserved
 unfolding position_priority
-loop-j-preserved c = let l = c.loop-j in
-    (
-      omega (arith, c.loop-j-test.true),
-      simp length-set l.invariant.1,
-      λ j h. after_set (λ (j x : ℕ). j < l.j + 1 → x ≡ position_priority c.args.game.now c.args.plan.now j) l.priorities l.j _
-          (omega (arith, l.invariant.1, c.requires.plan_in_bounds, c.loop-j-test.true))
-          (λ k. rw c.vertex_of.ensures)
-          (λ j d k. l.invariant.2 j (omega arith)) j h,
-    )
+loop-j-preserved c = let l = c.loop-j in (
+  omega (arith, c.loop-j-test.true),
+  simp length-set l.invariant.1,
+  λ j h. after_set (λ (j x : ℕ). j < l.j + 1 → x ≡ position_priority c.args.game.now c.args.plan.now j) l.priorities l.j _
+      (omega (arith, l.invariant.1, c.requires.plan_in_bounds, c.loop-j-test.true))
+      (λ k. rw c.vertex_of.ensures)
+      (λ j d k. l.invariant.2 j (omega arith)) j h,
+)
 
 pub returns : goal.returns
 returns c = λ i h. c.loop-j.invariant.2 i (omega (arith, c.loop-j-test.false))

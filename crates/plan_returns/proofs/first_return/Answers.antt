@@ -9,17 +9,23 @@ use Rattle.plan_returns.specs.ReturnSearchLaws.{first_return_same}
 use Rattle.plan_returns.proofs.first_return.Goals as goal
 
 pub first_returning-requires : goal.first_returning-requires
-first_returning-requires c = let f = c.requires.words_pass.formed in record { workspace = (
+first_returning-requires c =
+    let f = c.requires.words_pass.formed.sized in
+    record {
+      workspace = (
         record {
           index = (_, _, _, c.requires.link_index);
-          few = f.sized.positions;
-          values = omega (arith, c.fill_priorities.kept.1.1.0, length-replicate {A = ℕ} position_limit 0, f.sized.positions);
-          grouped = f.sized.positions;
-          stamps = f.sized.positions;
-          entries = omega (arith, f.sized.positions);
+          few = f.positions;
+          values = omega (arith, c.fill_priorities.auto.priorities, length-replicate {A = ℕ} position_limit 0, f.positions);
+          grouped = f.positions;
+          stamps = f.positions;
+          entries = omega (arith, f.positions);
         },
         c.requires.words_pass.number,
-      ); by_index = zeros position_limit; by_index_2 = zeros position_limit; }
+      );
+      by_index = zeros position_limit;
+      by_index_2 = zeros position_limit;
+    }
 
 pub returns : goal.returns
 returns c = c.first_returning.ensures

@@ -3,19 +3,19 @@ use native.Mathlib.Omega.{arith}
 use mathlib.Core.Path.{sym, ◌∙◌}
 use Rattle.plan_returns.specs.ReturnSearchLaws.{wrong_right, wrong_returns, gone_returns, reaches_returns}
 use Rattle.plan_returns.proofs.returns_wrong.Goals as goal
-use Rattle.plan_returns.proofs.returns_wrong.Lts as lts
-use Rattle.plan_returns.proofs.returns_wrong.Reads as reads
-use Rattle.plan_returns.proofs.returns_wrong.Tie as tie
 
 pub returns-then-priorities-i : goal.returns-then-priorities-i
-returns-then-priorities-i c = record { found_value = sym (wrong_right _ _ _ _ _ _ c.requires.workspace.2 c.if-priorities-i.true); no_later_2 = λ j. omega (arith, c.requires.no_later j); }
+returns-then-priorities-i c = record { found_value = sym (wrong_right _ _ _ _ _ _ c.requires.workspace.2 c.if-priorities-i.true); no_later_2 = λ j. omega (arith, c.requires.no_later j) }
 
 pub returns-then-blocks-i : goal.returns-then-blocks-i
-returns-then-blocks-i c = record { found_value = sym (wrong_returns _ _ _ _ _ _ c.requires.workspace.2 c.if-priorities-i.false ∙ gone_returns _ _ _ _ _ _ c.requires.confined _ c.requires.workspace.1 c.if-priorities-i.false c.if-blocks-i.true); no_later_2 = λ j. omega (arith, c.requires.no_later j); }
-
-abbrev at-start : lts.After-slice_known4 tie.the-claims reads.Pre reads.Post tie.handed_clauses → lts.Start tie.the-claims reads.Pre reads.Post tie.handed_clauses
-at-start c = search
+returns-then-blocks-i c = record { found_value = sym (wrong_returns _ _ _ _ _ _ c.requires.workspace.2 c.if-priorities-i.false ∙ gone_returns _ _ _ _ _ _ c.requires.confined _ c.requires.workspace.1 c.if-priorities-i.false c.if-blocks-i.true); no_later_2 = λ j. omega (arith, c.requires.no_later j) }
 
 pub returns : goal.returns
-returns c = let e = at-start c.before in
-    record { found_value = c.returns.ensures.found_value ∙ reaches_returns _ _ _ _ _ _ e.pre.1.1 _ e.pre.0.1 c.if-priorities-i.false ∙ sym (wrong_returns _ _ _ _ _ _ e.pre.0.2 c.if-priorities-i.false); no_later_2 = c.returns.ensures.no_later_2; }
+returns c =
+    let e = c.requires in
+    record {
+      found_value = c.returns.ensures.found_value
+          ∙ reaches_returns _ _ _ _ _ _ e.confined _ e.workspace.1 c.if-priorities-i.false
+          ∙ sym (wrong_returns _ _ _ _ _ _ e.workspace.2 c.if-priorities-i.false);
+      no_later_2 = c.returns.ensures.no_later_2;
+    }
