@@ -5,7 +5,7 @@ mod archives;
 mod rattle;
 
 use archives::{Archives, Needs};
-use rattle::Product;
+use rattle::{Product, Verb};
 use std::fs::{self, File};
 use std::io;
 use std::path::{Path, PathBuf};
@@ -96,7 +96,8 @@ fn proved(host: &Path) -> Result<PathBuf, String> {
     }
     let made = archives::CRATES.map(|name| Product {
         file: format!("staticlib/{}", archives::file(name)),
-        rt: ["staticlib", name],
+        verb: Verb::Lib,
+        name,
     });
     let kit = rattle::built(root, &made)?;
     println!("cargo:rustc-env=RASKJOMI_KIT={}", kit.trim());

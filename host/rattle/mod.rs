@@ -1,7 +1,8 @@
 // What the Rattle toolchain builds. The build script and the tests share this folder.
 //
-// All crates that a product needs are proved, each once and several at a time (`schedule`), by an `rt` of its own each (`job`). What is proved
-// and made already is told by the content of the sources (`sources`), and one build at a time works in a repository (`room`).
+// A product is made by runs of `rt` in its crate's folder (`job`), one product after the other, since each run has the folders of all crates
+// below to itself (`schedule`). What is made already is told by the content of the sources (`sources`), and one build at a time works in a
+// repository (`room`). What is proved already `rt` knows itself.
 
 mod job;
 pub mod room;
@@ -10,6 +11,7 @@ pub mod sources;
 
 use job::Job;
 use sources::Sources;
+use std::cmp::Reverse;
 use std::fs::{self, File};
 use std::io::{self, Write};
 use std::path::{Path, PathBuf};
@@ -19,10 +21,35 @@ use std::thread;
 /// The crates that everything is built from, below the repository's root.
 pub const SOURCES: [&str; 2] = ["crates", "crates.txt"];
 
-/// A file below the root's target folder, and the words, of which the last is a crate, for which `rt` makes it.
+/// A file below the root's target folder, and the crate and the command of `rt` that make it.
 pub struct Product<'a> {
     pub file: String,
-    pub rt: [&'a str; 2],
+    pub verb: Verb,
+    pub name: &'a str,
+}
+
+/// A command of `rt` that proves a crate and makes a file of it: a static library's archive, or a program, which is run too.
+#[derive(Clone, Copy, PartialEq)]
+pub enum Verb {
+    Lib,
+    Run,
+}
+
+impl Verb {
+    pub fn word(self) -> &'static str {
+        match self {
+            Verb::Lib => "lib",
+            Verb::Run => "run",
+        }
+    }
+
+    /// The file that it leaves in the crate's folder out.
+    pub fn file(self, name: &str) -> String {
+        match self {
+            Verb::Lib => format!("lib{name}.a"),
+            Verb::Run => name.into(),
+        }
+    }
 }
 
 /// Makes each product that is missing or made from other sources, and gives the toolchain's version; or says what is wrong, in a line.
@@ -39,11 +66,11 @@ pub fn built(root: &Path, products: &[Product]) -> Result<String, String> {
     build.version()
 }
 
-/// So many crates are proved at a time: as the user says, or one for each processor, at most 8.
+/// So many crates are proved at a time: as the user says, or one for each processor, at most 8, and fewer where memory hasn't 2 GB for each.
 pub fn workers(said: Option<&str>) -> Result<usize, String> {
     let processors = || thread::available_parallelism().map_or(1, usize::from).min(8);
     match said.map(|said| (said, said.parse())) {
-        None => Ok(processors()),
+        None => Ok(room::fitting(processors(), room::free_memory())),
         Some((_, Ok(count))) if count > 0 => Ok(count),
         Some((said, _)) => Err(format!("RT_JOBS is {said:?}; make it a number, 1 or more")),
     }
@@ -89,7 +116,7 @@ impl Build {
     /// Makes the products that aren't fresh, and tells of it.
     pub fn make(&self, products: &[Product], mut out: Box<dyn Write>) -> Result<(), String> {
         let version = self.version()?;
-        if self.jobs(&Sources::read(&self.root, &version)?, products).is_empty() {
+        if self.jobs(&Sources::read(&self.root, &version)?, products)?.is_empty() {
             return Ok(());
         }
         let target = self.root.join("target");
@@ -100,7 +127,7 @@ impl Build {
         }
         let lock = room::locked(&target.join("build.lock"), &mut *out)?;
         // Another build may have made them meanwhile.
-        let jobs = self.jobs(&Sources::read(&self.root, &version)?, products);
+        let jobs = self.jobs(&Sources::read(&self.root, &version)?, products)?;
         if jobs.is_empty() {
             return Ok(());
         }
@@ -111,10 +138,11 @@ impl Build {
             root: &self.root,
             rt: &self.rt,
             version: &version,
+            workers: self.workers,
             memory: memory.as_ref().map(room::Room::path),
             lock: &lock,
         };
-        schedule::run(&jobs, self.workers, &settings, &mut *out)
+        schedule::run(&jobs, &settings, &mut *out)
     }
 
     /// What `rt version` says.
@@ -130,26 +158,17 @@ impl Build {
         Ok(String::from_utf8_lossy(&ran.stdout).into())
     }
 
-    /// What is to be done for the products that aren't fresh: their crates, and those below that aren't known to be proved.
-    fn jobs(&self, sources: &Sources, products: &[Product]) -> Vec<Job> {
-        let target = self.root.join("target");
-        let makes = |product: &Product| {
-            let [verb, name] = product.rt;
-            Job::new(
-                sources,
-                [verb, name],
-                target.join(&product.file),
-                target.join(format!("{}.sources", product.file)),
-            )
-        };
-        let mut jobs: Vec<Job> = products.iter().map(makes).filter(|job| !job.is_fresh()).collect();
-        let proves = |name: &String| {
-            let record = target.join("build").join(format!("{name}.sources"));
-            Job::new(sources, ["check", name], target.join("stamp").join(name), record)
-        };
-        let mut below = sources.list.all_below(jobs.iter().map(|job| job.name()));
-        below.retain(|name| products.iter().all(|product| product.rt[1] != name));
-        jobs.extend(below.iter().map(proves).filter(|job| !job.is_fresh()));
-        jobs
+    /// What is to be done for the products that aren't fresh, first for those that the most is to be proved for.
+    fn jobs(&self, sources: &Sources, products: &[Product]) -> Result<Vec<Job>, String> {
+        let jobs = products.iter().map(|product| Job::new(sources, product, &self.root));
+        let mut jobs: Vec<Job> = jobs.filter(|job| !job.is_fresh()).collect();
+        jobs.sort_by_key(|job| Reverse(job.weight));
+        let crates = jobs.iter().flat_map(|job| job.crates.iter().cloned()).collect();
+        let left: Vec<String> = sources.list.without_sequence(crates).into_iter().collect();
+        if left.is_empty() {
+            return Ok(jobs);
+        }
+        let left = left.join(", ");
+        Err(format!("crates.txt: some of these crates need each other; correct it: {left}"))
     }
 }

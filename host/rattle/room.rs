@@ -22,15 +22,27 @@ pub fn locked(path: &Path, out: &mut dyn Write) -> Result<File, String> {
     Ok(file)
 }
 
-/// Removes what a killed `rt` left half written: it writes NAME.tmp-PID, a file or a folder, and renames it at the end.
+/// Removes what a killed build left half written: it writes NAME.tmp-PID, a file, and renames it at the end.
 pub fn remove_unfinished(folder: &Path) {
     for entry in fs::read_dir(folder).into_iter().flatten().flatten() {
         let name = entry.file_name();
         let process = name.to_str().and_then(|name| name.rsplit_once(".tmp-"));
         if process.is_some_and(|(_, id)| !Path::new("/proc").join(id).exists()) {
-            let _ = fs::remove_file(entry.path()).or_else(|_| fs::remove_dir_all(entry.path()));
+            let _ = fs::remove_file(entry.path());
         }
     }
+}
+
+/// The KiB of memory that are free, where the system tells it.
+pub fn free_memory() -> Option<u64> {
+    let text = fs::read_to_string("/proc/meminfo").ok()?;
+    let line = text.lines().find_map(|line| line.strip_prefix("MemAvailable:"))?;
+    line.split_whitespace().next()?.parse().ok()
+}
+
+/// So many checks as are asked for, or as so much memory in KiB has room for, at 2 GB each; one at least.
+pub fn fitting(workers: usize, memory: Option<u64>) -> usize {
+    memory.map_or(workers, |memory| workers.min((memory / 2_000_000) as usize)).max(1)
 }
 
 /// The KiB of temporary files that may be needed: 0.3 GB for each check, and 2 GiB at least.

@@ -1,146 +1,112 @@
-// Which crate is proved when: each once, as soon as all below it are proved, and several at a time.
+// Which product is made when, and what is told meanwhile.
 
 use super::job::{Job, Settings};
-use std::cmp::Reverse;
-use std::io::{self, Write};
-use std::process::ExitStatus;
-use std::sync::mpsc::{channel, Sender};
+use std::collections::BTreeSet;
+use std::fs::File;
+use std::io::{Read, Write};
+use std::process::Child;
+use std::sync::mpsc::{channel, RecvTimeoutError};
 use std::thread;
 use std::time::{Duration, Instant};
 
-/// How far a job is.
-#[derive(Clone, Copy, PartialEq)]
-enum State {
-    Waiting,
-    Running,
-    Done,
-}
-
-/// A job that ended, by its place in the list.
-type Ended = (usize, io::Result<ExitStatus>);
-
-/// Runs all jobs, so many at a time, and tells of each. After a failure none is started, and those that run are waited for.
-pub fn run(
-    jobs: &[Job],
-    workers: usize,
-    settings: &Settings,
-    out: &mut dyn Write,
-) -> Result<(), String> {
-    let began = Instant::now();
-    let _ = writeln!(
+/// Does all jobs in their sequence, and tells of each crate that is proved. After a failure none is started.
+pub fn run(jobs: &[Job], settings: &Settings, out: &mut dyn Write) -> Result<(), String> {
+    let crates: BTreeSet<&String> = jobs.iter().flat_map(|job| &job.crates).collect();
+    let mut progress = Progress {
+        began: Instant::now(),
+        count: crates.len(),
+        done: BTreeSet::new(),
         out,
-        "raskjomi: proving {}, {workers} at a time; the first time this takes about 5 minutes on two idle cores",
-        counted(jobs.len())
-    );
-    let (sender, ended) = channel();
-    let mut work = Work::new(jobs, workers, sender);
-    work.start_ready(settings);
-    while work.states.contains(&State::Running) {
-        let Ok((place, status)) = ended.recv() else { break };
-        let is_new = work.end(place, status, settings);
-        work.start_ready(settings);
-        if is_new {
-            let _ = writeln!(out, "raskjomi: {}", work.progress(place, began.elapsed()));
+        product: String::new(),
+        now: None,
+    };
+    progress.tell(&format!(
+        "proving {}, {} at a time; the first time this can take an hour or more on two idle cores",
+        counted(crates.len()),
+        settings.workers
+    ));
+    for job in jobs {
+        progress.product = job.name().into();
+        for words in job.runs(settings.workers) {
+            let child = job.start(&words, settings)?;
+            let status = progress.follow(child, job, settings);
+            job.ran(&words, status, settings)?;
         }
+        job.end(settings)?;
     }
-    work.outcome()?;
-    let _ = writeln!(out, "raskjomi: all is proved and written after {}", spoken(began.elapsed()));
+    let time = spoken(progress.began.elapsed());
+    progress.tell(&format!("all is proved and written after {time}"));
     Ok(())
 }
 
-/// The jobs, how far each is, and what went wrong.
-struct Work<'a> {
-    jobs: &'a [Job],
-    states: Vec<State>,
-    /// For each job the others that it waits for, and the longest way of work that begins with it.
-    needs: Vec<Vec<usize>>,
-    ways: Vec<u64>,
-    workers: usize,
-    sender: Sender<Ended>,
-    failures: Vec<String>,
+/// What is told, and what it is told by.
+struct Progress<'a> {
+    began: Instant,
+    /// All crates of the build.
+    count: usize,
+    /// Those that are proved.
+    done: BTreeSet<String>,
+    out: &'a mut dyn Write,
+    /// The crate of the product that is being made.
+    product: String,
+    /// The crate that `rt` has named last, and whether it has said something of it.
+    now: Option<(String, bool)>,
 }
 
-impl<'a> Work<'a> {
-    fn new(jobs: &'a [Job], workers: usize, sender: Sender<Ended>) -> Work<'a> {
-        let below = |job: &Job| {
-            (0..jobs.len()).filter(|&other| job.below.contains(jobs[other].name())).collect()
-        };
-        let needs: Vec<Vec<usize>> = jobs.iter().map(below).collect();
-        let ways = ways(jobs, &needs);
-        let states = vec![State::Waiting; jobs.len()];
-        Work { jobs, states, needs, ways, workers, sender, failures: Vec::new() }
+impl Progress<'_> {
+    fn tell(&mut self, what: &str) {
+        let _ = writeln!(self.out, "raskjomi: {what}");
     }
 
-    /// The places of the jobs in this state.
-    fn of(&self, state: State) -> impl Iterator<Item = usize> + '_ {
-        (0..self.jobs.len()).filter(move |&place| self.states[place] == state)
-    }
-
-    /// Starts jobs whose needs are done, first those with the longest way of work above them.
-    fn start_ready(&mut self, settings: &Settings) {
-        while self.failures.is_empty() && self.of(State::Running).count() < self.workers {
-            let is_done = |&need: &usize| self.states[need] == State::Done;
-            let ready = self.of(State::Waiting).filter(|&job| self.needs[job].iter().all(is_done));
-            let Some(place) = ready.max_by_key(|&place| (self.ways[place], Reverse(place))) else {
-                return;
-            };
-            match self.jobs[place].start(settings) {
-                Ok(mut child) => {
-                    self.states[place] = State::Running;
-                    let sender = self.sender.clone();
-                    thread::spawn(move || sender.send((place, child.wait())));
-                }
-                Err(what) => self.failures.push(what),
+    /// Waits for a run's end, and reads what it says meanwhile.
+    fn follow(
+        &mut self,
+        mut child: Child,
+        job: &Job,
+        settings: &Settings,
+    ) -> std::io::Result<std::process::ExitStatus> {
+        let said = File::open(job.said(settings.root));
+        let (sender, ended) = channel();
+        thread::spawn(move || sender.send(child.wait()));
+        let mut said = said.ok();
+        let mut part = String::new();
+        // Without a line for each crate, the run is about the product's alone.
+        self.now = Some((job.name().into(), true));
+        loop {
+            let status = ended.recv_timeout(Duration::from_millis(100));
+            if let Some(file) = &mut said {
+                let mut bytes = Vec::new();
+                let _ = file.read_to_end(&mut bytes);
+                part += &String::from_utf8_lossy(&bytes);
+                let end = part.rfind('\n').map_or(0, |at| at + 1);
+                let rest = part.split_off(end);
+                part.lines().for_each(|line| self.read(line));
+                part = rest;
+            }
+            match status {
+                Ok(status) => return status,
+                Err(RecvTimeoutError::Timeout) => {}
+                Err(RecvTimeoutError::Disconnected) => return Err(std::io::ErrorKind::Other.into()),
             }
         }
     }
 
-    /// A job has ended. Answers whether its crate was proved in this run.
-    fn end(&mut self, place: usize, status: io::Result<ExitStatus>, settings: &Settings) -> bool {
-        self.states[place] = State::Done;
-        self.jobs[place].end(status, settings).unwrap_or_else(|what| {
-            self.failures.push(what);
-            false
-        })
-    }
-
-    /// The line for a crate that was proved.
-    fn progress(&self, place: usize, elapsed: Duration) -> String {
-        let name = |place: usize| self.jobs[place].name();
-        let (done, count) = (self.of(State::Done).count(), self.jobs.len());
-        let now: Vec<&str> = self.of(State::Running).map(name).collect();
-        let now =
-            if now.is_empty() { String::new() } else { format!("; proving {}", now.join(", ")) };
-        format!("proved {}, {done} of {count} in {}{now}", name(place), spoken(elapsed))
-    }
-
-    /// What went wrong, if anything did.
-    fn outcome(&self) -> Result<(), String> {
-        if !self.failures.is_empty() {
-            return Err(self.failures.join("\n"));
+    /// Reads a line of `rt`: it prints `== NAME` and, below that, what it says of a crate once that has ended, and nothing where the crate was
+    /// proved before.
+    fn read(&mut self, line: &str) {
+        if let Some(name) = line.strip_prefix("== ") {
+            let earlier = self.now.replace((name.into(), name == "summary"));
+            self.done.extend(earlier.filter(|(_, is_said)| !is_said).map(|(name, _)| name));
+        } else if let Some((name, is_said)) = &mut self.now {
+            *is_said = true;
+            let name = name.clone();
+            if line.starts_with("logic=proved ") && self.done.insert(name.clone()) {
+                let (done, count) = (self.done.len(), self.count);
+                let (time, product) = (spoken(self.began.elapsed()), &self.product);
+                self.tell(&format!("proved {name}, {done} of {count} in {time}, for {product}"));
+            }
         }
-        let left: Vec<&str> =
-            self.of(State::Waiting).map(|place| self.jobs[place].name()).collect();
-        if left.is_empty() {
-            return Ok(());
-        }
-        Err(format!(
-            "crates.txt: some of these crates need each other; correct it: {}",
-            left.join(", ")
-        ))
     }
-}
-
-/// For each job the most work that is done one after another from its start on. Who is above a crate has more below it.
-fn ways(jobs: &[Job], needs: &[Vec<usize>]) -> Vec<u64> {
-    let mut places: Vec<usize> = (0..jobs.len()).collect();
-    places.sort_by_key(|&place| Reverse(jobs[place].below.len()));
-    let mut ways = vec![0; jobs.len()];
-    for place in places {
-        let above = (0..jobs.len()).filter(|&other| needs[other].contains(&place));
-        ways[place] = jobs[place].weight + above.map(|other| ways[other]).max().unwrap_or(0);
-    }
-    ways
 }
 
 fn counted(crates: usize) -> String {

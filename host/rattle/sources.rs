@@ -8,8 +8,14 @@ use std::path::Path;
 /// The folders of a crate that its proof and its code depend on.
 pub const PARTS: [&str; 3] = ["src", "specs", "proofs"];
 
-/// The crates of crates.txt, each with what its line names.
-pub struct List(BTreeMap<String, Vec<String>>);
+/// The crates of crates.txt, each with what its line says.
+pub struct List(BTreeMap<String, Line>);
+
+/// What stands behind a crate's name: the words before the colon, as `staticlib`, and the crates that it needs.
+struct Line {
+    kind: Vec<String>,
+    needs: Vec<String>,
+}
 
 impl List {
     /// The list of the repository.
@@ -18,8 +24,12 @@ impl List {
         let text = fs::read_to_string(&path)
             .map_err(|error| format!("can't read {}: {error}", path.display()))?;
         let lines = text.lines().map(|line| line.split('#').next().unwrap_or_default());
-        let crates = lines.filter_map(|line| line.split_once(':')).map(|(name, needs)| {
-            (name.trim().to_string(), needs.split_whitespace().map(String::from).collect())
+        let words = |text: &str| text.split_whitespace().map(String::from).collect();
+        let crates = lines.filter_map(|line| {
+            let (head, needs) = line.split_once(':').unwrap_or((line, ""));
+            let (name, kind) = head.trim().split_once(' ').unwrap_or((head.trim(), ""));
+            let line = Line { kind: words(kind), needs: words(needs) };
+            (!name.is_empty()).then(|| (name.to_string(), line))
         });
         Ok(List(crates.collect()))
     }
@@ -29,13 +39,29 @@ impl List {
         let mut found = BTreeSet::new();
         let mut left: Vec<String> = names.map(String::from).collect();
         while let Some(name) = left.pop() {
-            if let Some(needs) = self.0.get(&name) {
+            if let Some(line) = self.0.get(&name) {
                 if found.insert(name) {
-                    left.extend(needs.iter().cloned());
+                    left.extend(line.needs.iter().cloned());
                 }
             }
         }
         found
+    }
+
+    /// Those of the named crates that can't be proved before all that they need: some of them need each other.
+    pub fn without_sequence(&self, mut names: BTreeSet<String>) -> BTreeSet<String> {
+        loop {
+            let waits = |name: &String| {
+                self.0
+                    .get(name)
+                    .is_some_and(|line| line.needs.iter().any(|need| names.contains(need)))
+            };
+            let left: BTreeSet<String> = names.iter().filter(|name| waits(name)).cloned().collect();
+            if left.len() == names.len() {
+                return left;
+            }
+            names = left;
+        }
     }
 }
 
@@ -66,15 +92,18 @@ impl Sources {
         let mut text = format!("{}\n{name}\n", self.version);
         for below in self.list.all_below([name].into_iter()) {
             let content = self.contents.get(&below).map_or("", |content| &content.hash);
-            let needs = self.list.0.get(&below).map_or(String::new(), |needs| needs.join(" "));
-            text += &format!("{below}: {needs}\n{content}\n");
+            let [kind, needs] =
+                self.list.0.get(&below).map_or([String::new(), String::new()], |line| {
+                    [line.kind.join(" "), line.needs.join(" ")]
+                });
+            text += &format!("{below} {kind}: {needs}\n{content}\n");
         }
         hashed(text.as_bytes())
     }
 
-    /// How much there is to prove, by the bytes of the crate's sources.
-    pub fn weight(&self, name: &str) -> u64 {
-        self.contents.get(name).map_or(0, |content| content.size)
+    /// How much there is to prove, by the bytes of the sources of these crates.
+    pub fn weight(&self, names: &BTreeSet<String>) -> u64 {
+        names.iter().filter_map(|name| self.contents.get(name)).map(|content| content.size).sum()
     }
 }
 

@@ -6,7 +6,7 @@ mod archives;
 mod common;
 
 use archives::{Archives, CRATES, RECORD};
-use common::{archives_linked, build_script, root, write_program};
+use common::{archives_linked, build_script, outside, write_program};
 use std::fs;
 use std::path::{Path, PathBuf};
 use std::process::{Command, Output};
@@ -17,8 +17,7 @@ const VERSION: &str = env!("CARGO_PKG_VERSION");
 
 /// An empty folder for one test.
 fn empty(name: &str) -> PathBuf {
-    // In the repository's own target folder: elsewhere in it the real `rt` takes the sources of `repository` for lost ones.
-    let folder = root().join("target/archives").join(name);
+    let folder = outside().join("archives").join(name);
     let _ = fs::remove_dir_all(&folder);
     fs::create_dir_all(&folder).expect("a folder");
     folder
@@ -174,7 +173,7 @@ fn damaged_archives_are_refused() {
 /// A repository whose `rt` logs what it is asked for, and takes the archives that the tests are built with for those it makes.
 fn repository() -> PathBuf {
     let folder = empty("repository");
-    let lines = CRATES.map(|name| format!("{name}:\n")).concat();
+    let lines = CRATES.map(|name| format!("{name} staticlib:\n")).concat();
     fs::write(folder.join("crates.txt"), lines).expect("a list");
     for name in CRATES {
         let sources = folder.join("crates").join(name).join("src");
@@ -185,7 +184,8 @@ fn repository() -> PathBuf {
     let exports = Path::new(env!("CARGO_MANIFEST_DIR")).join("src/exports.rs");
     fs::copy(exports, folder.join("host/src/exports.rs")).expect("a copy");
     let rt = format!(
-        "#!/bin/sh\n[ \"$1\" != version ] || exec echo a kit\necho \"$*\" >>'{}/log'\ncp '{}'/lib$2.a target/staticlib/\n",
+        "#!/bin/sh\n[ \"$1\" != version ] || exec echo a kit\nname=${{PWD##*/}}\necho \"$* $name\" >>'{}/log'\n\
+         mkdir -p out && cp '{}'/lib$name.a out/\n",
         folder.display(),
         archives_linked().display()
     );
@@ -218,7 +218,7 @@ fn a_build_proves_what_has_other_content_and_records_it() {
     touched.set_modified(SystemTime::now() + Duration::from_secs(60)).expect("a later time");
     assert_eq!(proved(&folder), [""; 0]);
     fs::write(source, "other text").expect("a source");
-    assert_eq!(proved(&folder), ["staticlib abi_edit"]);
+    assert_eq!(proved(&folder), ["lib abi_edit"]);
     fs::remove_file(made.join(RECORD)).expect("no record");
     assert_eq!(proved(&folder), [""; 0]);
     assert!(built(&made).status.success(), "the record is there again");

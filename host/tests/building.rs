@@ -6,10 +6,10 @@ mod rattle;
 
 mod common;
 
-use common::{build_script, root, write_program};
-use rattle::room::Room;
+use common::{build_script, outside, write_program};
+use rattle::room::{fitting, Room};
 use rattle::sources::List;
-use rattle::{Build, Product};
+use rattle::{Build, Product, Verb};
 use std::collections::BTreeSet;
 use std::fs::{self, File};
 use std::io::{self, Write};
@@ -42,13 +42,12 @@ impl Write for Page {
 
 const CRATES: &str =
     "# crates: each with its needs\ntheory:\ntable: theory\nseed: theory table\nplan: theory\n\
-                      order: table io\nedit: order\nabi: order seed\nabi_edit: edit\n";
+                      order: table io\nedit: order\nabi staticlib: order seed\nabi_edit staticlib: edit\n";
 
-/// A folder with crates and a program `rt`, which logs its start and its end and does this between them. As `rt` does, it works behind
-/// the shell's back, where standard input and output are others.
+/// A folder with crates and a program `rt`, which logs its start and its end, and does this for each crate that it has to prove. As `rt` does, it
+/// works behind the shell's back, where standard input and output are others.
 fn repository(name: &str, script: &str) -> PathBuf {
-    // In the repository's own target folder: elsewhere in it the real `rt` takes these files for lost ones.
-    let folder = root().join("target/building").join(name);
+    let folder = outside().join(name);
     let _ = fs::remove_dir_all(&folder);
     write(&folder.join("crates.txt"), CRATES);
     for name in ["theory", "table", "seed", "plan", "order", "edit", "abi", "abi_edit"] {
@@ -61,14 +60,19 @@ fn repository(name: &str, script: &str) -> PathBuf {
     let rt = format!(
         "#!/bin/sh\nat={at}\nif [ \"$1\" = version ]; then cat $at/version; exit; fi\n\
          wait_for() {{ n=0; until [ -e $1 ]; do n=$((n + 1)); [ $n -lt 1500 ] || exit 1; sleep 0.02; done; }}\n\
-         stamp=target/stamp/$2\necho \"start $*\" >>$at/log\n\
-         (\n{script}\n\
-         case $1 in\n\
-         staticlib) cat crates/$2/src/lib.rt >target/staticlib/lib$2.a ;;\n\
-         *) [ -f $stamp ] && echo \"rt: $2 proved (unchanged since it was last proved)\" || echo \"rt: $2 proved (1 s)\"\n\
-         echo stamp >$stamp ;;\nesac\n\
-         echo \"end $*\" >>$at/log\n) >out 2>&1 &\n\
-         wait $!\nstatus=$?\ncat out\nexit $status\n"
+         below() {{ for need in $(sed -nE \"s/^$1( staticlib)?: *//p\" $at/crates.txt); do\n\
+         [ ! -d $at/crates/$need ] || {{ (below $need); echo $need; }}; done; }}\n\
+         own=${{PWD##*/}}\necho \"start $* $own\" >>$at/log\n\
+         prove() {{ out=$at/crates/$1/out; sum=$(cat $at/crates/$1/src/* $at/crates/$1/specs/* | cksum)\n\
+         if [ \"$(cat $out/stamp 2>/dev/null)\" = \"$sum\" ]; then return; fi\n\
+         echo \"prove $1\" >>$at/log\n{script}\n\
+         echo \"fn $1::f: proved\"; echo \"logic=proved functions=1\"; mkdir -p $out; echo \"$sum\" >$out/stamp; }}\n\
+         (\ncase $1 in\n\
+         all) for crate in $(below $own | awk '!seen[$0]++') $own; do echo \"== $crate\"; prove $crate; done\n\
+         echo \"== summary\" ;;\n\
+         *) prove $own; cp src/lib.rt out/lib$own.a ;;\nesac\n\
+         echo \"end $* $own\" >>$at/log\n) >$at/said.$own 2>&1 &\n\
+         wait $!\nstatus=$?\ncat $at/said.$own\nexit $status\n"
     );
     write_program(&folder.join("bin/rt"), &rt);
     folder
@@ -80,7 +84,7 @@ fn write(path: &Path, text: &str) {
 }
 
 fn archive(name: &str) -> Product<'_> {
-    Product { file: format!("staticlib/lib{name}.a"), rt: ["staticlib", name] }
+    Product { file: format!("staticlib/lib{name}.a"), verb: Verb::Lib, name }
 }
 
 fn build(folder: &Path, workers: usize) -> Build {
@@ -105,15 +109,15 @@ fn logged(folder: &Path) -> Vec<String> {
     text.lines().map(String::from).collect()
 }
 
-/// The words of the runs that were started, in sequence.
-fn starts(log: &[String]) -> Vec<&str> {
-    log.iter().filter_map(|line| line.strip_prefix("start ")).collect()
+/// What follows this word in the lines that have it first, in sequence.
+fn of<'a>(log: &'a [String], word: &str) -> Vec<&'a str> {
+    log.iter().filter_map(|line| line.strip_prefix(word)?.strip_prefix(' ')).collect()
 }
 
-/// Makes both archives, one crate at a time; the words of the runs.
+/// Makes both archives, one crate at a time; the words of the runs, each with the crate in whose folder it ran.
 fn made(folder: &Path) -> Vec<String> {
     assert_eq!(told(folder, 1, &BOTH).1, Ok(()));
-    starts(&logged(folder)).into_iter().map(String::from).collect()
+    of(&logged(folder), "start").into_iter().map(String::from).collect()
 }
 
 /// Waits until it is so.
@@ -127,27 +131,28 @@ fn wait_for(what: &str, mut is_so: impl FnMut() -> bool) {
     panic!("waited in vain for {what}");
 }
 
-/// Each run starts after those of all crates below it have ended, and at most so many run at a time.
+/// Each crate is proved once, after all crates below it, each product is made once, and one run follows the other.
 fn assert_in_sequence(folder: &Path, log: &[String], workers: usize) {
     let list = List::read(folder).expect("a list");
-    let (mut running, mut ended) = (0, BTreeSet::new());
-    for line in log {
-        let words: Vec<&str> = line.split(' ').collect();
-        if words[0] == "start" {
-            running += 1;
-            let mut below = list.all_below([words[2]].into_iter());
-            below.remove(words[2]);
-            assert!(below.is_subset(&ended), "{words:?} in {log:?}");
-        } else {
-            running -= 1;
-            ended.insert(words[2].to_string());
-        }
-        assert!(running <= workers, "{log:?}");
+    let mut proved = BTreeSet::new();
+    for name in of(log, "prove") {
+        let mut below = list.all_below([name].into_iter());
+        below.remove(name);
+        assert!(below.is_subset(&proved), "{name} in {log:?}");
+        assert!(proved.insert(name.to_string()), "{name} twice in {log:?}");
     }
-    let mut names: Vec<&str> = starts(log);
-    names.sort();
-    let each = "check edit,check order,check seed,check table,check theory,staticlib abi,staticlib abi_edit";
-    assert_eq!(names.join(","), each);
+    let all: Vec<&str> = proved.iter().map(String::as_str).collect();
+    assert_eq!(all.join(","), "abi,abi_edit,edit,order,seed,table,theory");
+    let runs: Vec<&String> = log.iter().filter(|line| !line.starts_with("prove ")).collect();
+    for pair in runs.chunks(2) {
+        let words = pair[0].strip_prefix("start ").expect("a start");
+        assert_eq!(pair[1].strip_prefix("end "), Some(words), "{log:?}");
+    }
+    let mut starts = of(log, "start");
+    starts.sort();
+    let check = format!("all check --jobs {workers}");
+    let each = [&*format!("{check} abi"), &*format!("{check} abi_edit"), "lib abi", "lib abi_edit"];
+    assert_eq!(starts, each);
 }
 
 #[test]
@@ -159,24 +164,26 @@ fn each_crate_is_proved_once_and_after_its_needs() {
     }
 }
 
+/// `rt` proves so many crates beside each other as it is told; a product without a crate below needs none of that.
 #[test]
 fn crates_are_proved_beside_each_other() {
-    // Either waits until the other runs too.
-    let script = ": >$at/runs-$2\ncase $2 in seed) wait_for $at/runs-order ;; order) wait_for $at/runs-seed ;; esac";
-    let folder = repository("building-beside", script);
-    assert_eq!(told(&folder, 2, &BOTH).1, Ok(()));
-    assert_in_sequence(&folder, &logged(&folder), 2);
+    let folder = repository("building-beside", "");
+    assert_eq!(told(&folder, 3, &["abi"]).1, Ok(()));
+    assert_eq!(of(&logged(&folder), "start"), ["all check --jobs 3 abi", "lib abi"]);
+    write(&folder.join("crates.txt"), "abi staticlib:\n");
+    assert_eq!(told(&folder, 3, &["abi"]).1, Ok(()));
+    assert_eq!(of(&logged(&folder), "start"), ["lib abi"]);
 }
 
-/// The longest way above `table` goes through `order`, unless `seed` is large.
+/// More is below `abi`, unless `edit` is large.
 #[test]
 fn the_longest_way_of_work_is_first() {
     let folder = repository("building-way", "");
-    let usual = "check theory,check table,check order,check edit,check seed,staticlib abi,staticlib abi_edit";
+    let usual = "all check --jobs 1 abi,lib abi,all check --jobs 1 abi_edit,lib abi_edit";
     assert_eq!(made(&folder).join(","), usual);
     let folder = repository("building-large", "");
-    write(&folder.join("crates/seed/specs/Large.antt"), &"more ".repeat(100));
-    let large = "check theory,check table,check seed,check order,check edit,staticlib abi,staticlib abi_edit";
+    write(&folder.join("crates/edit/specs/Large.antt"), &"more ".repeat(100));
+    let large = "all check --jobs 1 abi_edit,lib abi_edit,all check --jobs 1 abi,lib abi";
     assert_eq!(made(&folder).join(","), large);
 }
 
@@ -188,17 +195,17 @@ fn each_crate_is_told_with_what_is_being_proved() {
     // The seconds depend on the machine.
     let lines: Vec<String> = text.lines().map(without_time).collect();
     let expected = [
-        "raskjomi: proving 5 crates, 1 at a time; the first time this takes about 5 minutes on two idle cores",
-        "raskjomi: proved theory, 1 of 5 in T; proving table",
-        "raskjomi: proved table, 2 of 5 in T; proving order",
-        "raskjomi: proved order, 3 of 5 in T; proving seed",
-        "raskjomi: proved seed, 4 of 5 in T; proving abi",
-        "raskjomi: proved abi, 5 of 5 in T",
+        "raskjomi: proving 5 crates, 1 at a time; the first time this can take an hour or more on two idle cores",
+        "raskjomi: proved theory, 1 of 5 in T, for abi",
+        "raskjomi: proved table, 2 of 5 in T, for abi",
+        "raskjomi: proved order, 3 of 5 in T, for abi",
+        "raskjomi: proved seed, 4 of 5 in T, for abi",
+        "raskjomi: proved abi, 5 of 5 in T, for abi",
         "raskjomi: all is proved and written after T",
     ];
     assert_eq!(lines, expected);
     // What `rt` finds unchanged is counted and not told.
-    fs::remove_dir_all(folder.join("target/build")).expect("records");
+    fs::remove_file(folder.join("crates/abi/out/stamp")).expect("a stamp");
     fs::remove_file(folder.join("target/staticlib/libabi.a")).expect("an archive");
     let (text, _) = told(&folder, 1, &["abi"]);
     let lines: Vec<String> = text.lines().map(without_time).collect();
@@ -215,29 +222,24 @@ fn without_time(line: &str) -> String {
 
 #[test]
 fn a_failing_crate_is_told_and_nothing_above_it_starts() {
-    // `seed` runs on after `order` has failed.
-    let script = "case $2 in\n\
-                  order) wait_for $at/seed; echo \"$PWD/crates/order/a: error\"; echo 'see target/log/order.out' >&2; : >$at/failed; exit 7 ;;\n\
-                  seed) : >$at/seed; wait_for $at/failed; sleep 0.2 ;;\nesac";
+    let script =
+        "case $1 in order) echo 'src/lib.rt:1:1: error'; echo logic=not-proved; exit 7 ;; esac";
     let folder = repository("building-fails", script);
     let (text, ended) = told(&folder, 2, &BOTH);
     let what = ended.expect_err("it fails");
-    assert!(what.starts_with("`rt check order` failed; it says:\n"), "{what}");
-    let root = folder.canonicalize().expect("a folder");
-    let said = format!(
-        "{}/crates/order/a: error\nsee target/build/order/target/log/order.out\n",
-        root.display()
-    );
-    assert!(what.ends_with(&said), "{what}");
-    assert!(!text.contains("proved order") && !text.contains("all is proved"), "{text}");
+    let said = "`rt all check --jobs 2` in crates/abi failed; it says:\n== order\nsrc/lib.rt:1:1: error\nlogic=not-proved\n";
+    assert_eq!(what, said, "the crates that are proved are left out");
+    assert!(text.contains("proved table") && !text.contains("proved order"), "{text}");
+    assert!(!text.contains("all is proved"), "{text}");
     let log = logged(&folder);
-    assert_eq!(log.last().map(String::as_str), Some("end check seed"), "{log:?}");
-    assert_eq!(starts(&log).len(), 4, "{log:?}");
+    assert_eq!(of(&log, "start"), ["all check --jobs 2 abi"]);
+    assert_eq!(of(&log, "prove"), ["theory", "table", "order"]);
     // Corrected, it goes on where it was.
     let rt = fs::read_to_string(folder.join("bin/rt")).expect("rt");
     write_program(&folder.join("bin/rt"), &rt.replace("exit 7", "true"));
-    let on = ["check order", "check edit", "staticlib abi", "staticlib abi_edit"];
-    assert_eq!(made(&folder), on);
+    assert_eq!(told(&folder, 1, &BOTH).1, Ok(()));
+    let on = ["order", "seed", "abi", "edit", "abi_edit"];
+    assert_eq!(of(&logged(&folder), "prove"), on);
 }
 
 #[test]
@@ -255,8 +257,9 @@ fn failures_are_lines_and_no_panics() {
     assert!(what.starts_with("`rt version` failed; ") && what.ends_with("\nno kit\n"), "{what}");
     write_program(&folder.join("bin/rt"), "#!/bin/sh\n");
     let what = told(&folder, 1, &BOTH).1.expect_err("it makes nothing");
-    assert!(what.starts_with("`rt check theory` made no ") && what.lines().count() == 1, "{what}");
-    write(&folder.join("crates.txt"), "theory: table\ntable: theory\nabi: table\n");
+    let start = "`rt lib` in crates/abi made no ";
+    assert!(what.starts_with(start) && what.lines().count() == 1, "{what}");
+    write(&folder.join("crates.txt"), "theory: table\ntable: theory\nabi staticlib: table\n");
     let what = told(&folder, 1, &["abi"]).1.expect_err("a cycle");
     assert!(what.starts_with("crates.txt: some of these crates need each other"), "{what}");
     for said in ["", "0", "-1", "two"] {
@@ -265,13 +268,16 @@ fn failures_are_lines_and_no_panics() {
     }
     assert_eq!(rattle::workers(Some("12")), Ok(12));
     assert!(rattle::workers(None).is_ok_and(|count| (1..=8).contains(&count)));
+    let gigabytes = |count: u64| fitting(4, Some(count * 1_000_000));
+    assert_eq!([1, 2, 5, 8, 100].map(gigabytes), [1, 1, 2, 4, 4]);
+    assert_eq!(fitting(4, None), 4);
 }
 
-/// Crates that the records tell are proved aren't even handed to `rt check`.
+/// For archives that the records tell are made from the same sources, `rt` isn't even started.
 #[test]
 fn what_is_made_from_the_same_sources_is_not_made_again() {
     let folder = repository("building-fresh", "");
-    assert_eq!(made(&folder).len(), 7);
+    assert_eq!(made(&folder).len(), 4);
     assert_eq!(told(&folder, 1, &BOTH), (String::new(), Ok(())));
     let order = folder.join("crates/order");
     let source = File::options().append(true).open(order.join("src/lib.rt")).expect("a source");
@@ -291,44 +297,49 @@ fn what_is_made_from_the_same_sources_is_not_made_again() {
 fn a_change_is_proved_with_what_builds_on_it_alone() {
     let folder = repository("building-change", "");
     let all = made(&folder);
-    let sorted = |folder: &Path| {
-        let mut runs = made(folder);
+    let archives = |folder: &Path| {
+        let runs = made(folder);
+        let mut runs: Vec<&str> = runs.iter().filter_map(|run| run.strip_prefix("lib ")).collect();
         runs.sort();
         runs.join(",")
     };
-    let above_order = "check edit,check order,staticlib abi,staticlib abi_edit";
+    let both = "abi,abi_edit";
     write(&folder.join("crates/order/specs/S.antt"), "some Text");
-    assert_eq!(sorted(&folder), above_order);
+    assert_eq!(archives(&folder), both);
     write(&folder.join("crates/order/proofs/more/P.antt"), "");
-    assert_eq!(sorted(&folder), above_order);
+    assert_eq!(archives(&folder), both);
     fs::rename(folder.join("crates/order/proofs/more"), folder.join("crates/order/proofs/most"))
         .expect("renamed");
-    assert_eq!(sorted(&folder), above_order);
+    assert_eq!(archives(&folder), both);
     write(&folder.join("crates/seed/src/lib.rt"), "other text");
-    assert_eq!(sorted(&folder), "check seed,staticlib abi");
+    assert_eq!(archives(&folder), "abi");
     write(&folder.join("crates.txt"), &CRATES.replace("edit: order", "edit: order table"));
-    assert_eq!(sorted(&folder), "check edit,staticlib abi_edit");
+    assert_eq!(archives(&folder), "abi_edit");
+    write(
+        &folder.join("crates.txt"),
+        &CRATES.replace("abi staticlib:", "abi staticlib backend=x:"),
+    );
+    assert_eq!(archives(&folder), both, "each has another line now");
     write(&folder.join("version"), "another kit\n");
     assert_eq!(made(&folder).len(), all.len());
-    // An archive, or a crate, that someone else has written meanwhile.
+    // An archive that someone else has written meanwhile, or removed.
     write(&folder.join("target/staticlib/libabi.a"), "another archive");
-    assert_eq!(sorted(&folder), "staticlib abi");
+    assert_eq!(archives(&folder), "abi");
     fs::remove_file(folder.join("target/staticlib/libabi_edit.a")).expect("an archive");
-    write(&folder.join("target/stamp/order"), "another stamp");
-    assert_eq!(sorted(&folder), "check order,staticlib abi_edit");
+    assert_eq!(archives(&folder), "abi_edit");
 }
 
 /// Sources that change while they are proved may be in the archive or not, so it is made again, even where they are as before.
 #[test]
 fn what_changes_meanwhile_is_proved_again() {
-    let script = "[ $2 = order ] && echo more >>$at/crates/order/src/lib.rt";
+    let script = "[ $1 = order ] && echo more >>$at/crates/order/src/lib.rt";
     let folder = repository("building-meanwhile", script);
     made(&folder);
     write(&folder.join("crates/order/src/lib.rt"), "some text");
     let rt = fs::read_to_string(folder.join("bin/rt")).expect("rt");
     write_program(&folder.join("bin/rt"), &rt.replace(script, ""));
-    let again = ["check order", "check edit", "staticlib abi", "staticlib abi_edit"];
-    assert_eq!(made(&folder), again);
+    let again = made(&folder);
+    assert!(again.contains(&"lib abi".into()), "{again:?}");
     assert_eq!(made(&folder), [""; 0]);
 }
 
@@ -358,7 +369,7 @@ fn a_build_waits_for_another() {
     assert_eq!(logged(&folder), [""; 0]);
     drop(lock);
     assert_eq!(waiting.join().expect("it ends"), Ok(()));
-    assert_eq!(starts(&logged(&folder)).len(), 5);
+    assert_eq!(of(&logged(&folder), "prove").len(), 5);
     assert!(page
         .text()
         .starts_with(&(line.to_string() + "raskjomi: proving 5 crates, 2 at a time")));
@@ -377,7 +388,7 @@ fn started(folder: &Path, program: &Path) -> Child {
     child
 }
 
-const PROVES_UNTIL_TOLD: &str = "[ $2 = order ] && { : >$at/proving; wait_for $at/go; }";
+const PROVES_UNTIL_TOLD: &str = "[ $1 = order ] && { : >$at/proving; wait_for $at/go; }";
 
 #[test]
 fn a_killed_build_goes_on_where_it_was() {
@@ -387,21 +398,16 @@ fn a_killed_build_goes_on_where_it_was() {
     kill.args(["-c", "kill -KILL -$0"]).arg(child.id().to_string());
     assert!(kill.status().expect("a shell").success());
     child.wait().expect("it is killed");
-    assert_eq!(logged(&folder).last().map(String::as_str), Some("start check order"));
-    // What `rt` has half written when it is killed goes; what another process is writing stays.
-    let (rlib, archives) = (folder.join("target/rlib"), folder.join("target/staticlib"));
-    write(&rlib.join("order.rlib.tmp-999999999/format"), "half");
+    assert_eq!(logged(&folder).last().map(String::as_str), Some("prove order"));
+    // What the build has half written when it is killed goes; what another process is writing stays.
+    let archives = folder.join("target/staticlib");
+    let other = format!("libabi_edit.a.tmp-{}", std::process::id());
     write(&archives.join("libabi.a.tmp-999999999"), "half");
-    write(&rlib.join(format!("plan.rlib.tmp-{}/format", std::process::id())), "half");
+    write(&archives.join(&other), "half");
     write(&folder.join("go"), "");
-    let mut runs = made(&folder);
-    assert!(!archives.join("libabi.a.tmp-999999999").exists());
-    assert_eq!(fs::read_dir(&rlib).expect("libraries").count(), 1);
-    runs.sort();
-    assert_eq!(
-        runs.join(","),
-        "check edit,check order,check seed,staticlib abi,staticlib abi_edit"
-    );
+    assert_eq!(told(&folder, 1, &["abi"]).1, Ok(()));
+    assert!(!archives.join("libabi.a.tmp-999999999").exists() && archives.join(other).exists());
+    assert_eq!(of(&logged(&folder), "prove"), ["order", "seed", "abi"]);
 }
 
 /// Only the script is killed: what it started goes on, and is waited for.
@@ -411,7 +417,7 @@ fn what_a_killed_build_has_started_is_waited_for() {
     let mut child = started(&folder, &build_script(&folder));
     child.kill().expect("killed");
     child.wait().expect("it is killed");
-    assert_eq!(logged(&folder).last().map(String::as_str), Some("start check order"));
+    assert_eq!(logged(&folder).last().map(String::as_str), Some("prove order"));
     let (page, at) = (Page::default(), folder.clone());
     let out = page.clone();
     let waiting = thread::spawn(move || build(&at, 1).make(&[archive("abi")], Box::new(out)));
@@ -420,16 +426,16 @@ fn what_a_killed_build_has_started_is_waited_for() {
     write(&folder.join("go"), "");
     assert_eq!(waiting.join().expect("it ends"), Ok(()));
     let log = logged(&folder);
-    assert_eq!(log[0], "end check order");
-    assert_eq!(starts(&log), ["check order", "check seed", "staticlib abi"]);
+    let goes_on = ["prove seed", "prove abi", "end all check --jobs 1 abi"];
+    assert_eq!(log[..3], goes_on, "{log:?}");
+    assert_eq!(of(&log, "start"), ["all check --jobs 1 abi", "lib abi"]);
     assert!(!page.text().contains("proved order"), "it is unchanged: {}", page.text());
 }
 
 #[test]
 fn temporary_files_are_in_memory_and_removed() {
     let folder =
-        repository("building-memory", "echo $2 ${TMPDIR-none} >>$at/rooms; : >${TMPDIR:-.}/left");
-    write(&folder.join("crates/abi/src/main.rt"), "a program");
+        repository("building-memory", "echo $own ${TMPDIR-none} >>$at/rooms; : >${TMPDIR:-.}/left");
     let memory = folder.join("memory");
     fs::create_dir(&memory).expect("a folder");
     let root = folder.canonicalize().expect("a folder");
@@ -440,12 +446,15 @@ fn temporary_files_are_in_memory_and_removed() {
     assert!(Room::new(&memory, &root, u64::MAX).is_none() && !path.exists());
     assert!(Room::new(&folder.join("none"), &root, 0).is_none());
     let in_memory = Build { memory: Some((memory.clone(), 0)), ..build(&folder, 2) };
-    assert_eq!(in_memory.make(&[archive("abi")], Box::new(Page::default())), Ok(()));
+    let program = Product { file: "bin/plan".into(), verb: Verb::Run, name: "plan" };
+    let products = [archive("abi"), program];
+    let what = in_memory.make(&products, Box::new(Page::default())).expect_err("no program");
+    assert!(what.starts_with("`rt run` in crates/plan made no "), "{what}");
     assert_eq!(fs::read_dir(&memory).expect("a folder").count(), 0);
     let rooms = fs::read_to_string(folder.join("rooms")).expect("rooms");
     let (programs, libraries): (Vec<&str>, Vec<&str>) =
-        rooms.lines().partition(|line| line.starts_with("abi "));
-    assert_eq!((programs.len(), libraries.len()), (1, 4));
+        rooms.lines().partition(|line| line.starts_with("plan "));
+    assert_eq!((programs.len(), libraries.len()), (1, 5));
     let given = path.display().to_string();
     assert!(libraries.iter().all(|line| line.ends_with(&given)), "{rooms}");
     assert!(!programs[0].ends_with(&given), "a program is run by another user: {rooms}");

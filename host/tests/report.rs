@@ -9,7 +9,7 @@ mod common;
 use common::{root, say};
 use generator::{any_game, damaged, random, Lcg, Table, REFUSALS};
 use oracle::{Oracle, Trap};
-use rattle::Product;
+use rattle::{Product, Verb};
 use std::collections::BTreeMap;
 use std::io::Write;
 use std::path::{Path, PathBuf};
@@ -21,7 +21,7 @@ use std::thread;
 fn program() -> &'static Path {
     static PROGRAM: OnceLock<PathBuf> = OnceLock::new();
     PROGRAM.get_or_init(|| {
-        let report = Product { file: "bin/report".into(), rt: ["check", "report"] };
+        let report = Product { file: "bin/report".into(), verb: Verb::Run, name: "report" };
         rattle::built(root(), &[report]).expect("the report program");
         root().join("target/bin/report")
     })

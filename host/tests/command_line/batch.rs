@@ -1,5 +1,6 @@
 //! Several games reduced in one run, and what is told of a run.
 
+use crate::common::outside;
 use crate::large_reductions::bytes as wide_bytes;
 use crate::run::{bytes, file, run, run_on, shipped, Run};
 use generator::{large_random, LargeTable, Lcg};
@@ -10,7 +11,7 @@ use std::path::PathBuf;
 
 /// A folder that isn't there yet.
 fn folder(name: &str) -> String {
-    let path = PathBuf::from(env!("CARGO_TARGET_TMPDIR")).join(name);
+    let path = outside().join(name);
     let _ = fs::remove_dir_all(&path);
     path.to_str().expect("a plain path").into()
 }

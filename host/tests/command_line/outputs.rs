@@ -1,6 +1,6 @@
 //! Outputs that nobody takes, and the script at the root.
 
-use crate::common::root;
+use crate::common::{outside, root};
 use crate::run::{bytes, file};
 use std::fs::{self, File};
 use std::os::unix::fs::symlink;
@@ -74,7 +74,7 @@ fn script(path: &Path, folder: &Path, game: &str) -> Output {
 #[test]
 fn the_script_runs_from_anywhere() {
     let expected = program().args(["report", "games/b.txt"]).output().expect("a run").stdout;
-    let folder = PathBuf::from(env!("CARGO_TARGET_TMPDIR"));
+    let folder = outside();
     let (link, again) = (folder.join("link"), folder.join("link-of-link"));
     for (link, target) in [(&link, root().join("raskjomi")), (&again, "link".into())] {
         let _ = fs::remove_file(link);

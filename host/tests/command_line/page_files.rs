@@ -1,6 +1,6 @@
 //! The page's file, the names in it, its fingerprint and its size.
 
-use crate::common::root;
+use crate::common::{outside, root};
 use crate::page::{page, rows};
 use crate::run::{bytes, file, run, run_on};
 use std::fs;
@@ -10,7 +10,7 @@ use std::process::Command;
 
 /// A folder of a test's own, with nothing in it.
 fn folder(name: &str) -> PathBuf {
-    let folder = PathBuf::from(env!("CARGO_TARGET_TMPDIR")).join(name);
+    let folder = outside().join(name);
     let _ = fs::remove_dir_all(&folder);
     fs::create_dir(&folder).expect("a folder");
     folder

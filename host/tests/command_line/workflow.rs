@@ -1,6 +1,6 @@
 //! The pages with commands: these print what the page says.
 
-use crate::common::{commands, root};
+use crate::common::{commands, outside, root};
 use std::fs;
 use std::os::unix::fs::symlink;
 use std::path::{Path, PathBuf};
@@ -23,7 +23,7 @@ fn page(name: &str) -> String {
 
 /// Runs the commands of a page in a folder of their own, and compares what they print.
 fn hold(name: &str, least: usize) {
-    let folder = PathBuf::from(env!("CARGO_TARGET_TMPDIR")).join(name);
+    let folder = outside().join(name);
     let _ = fs::remove_dir_all(&folder);
     fs::create_dir(&folder).expect("a folder");
     symlink(root().join("games"), folder.join("games")).expect("a link");

@@ -2,7 +2,9 @@
 #![allow(dead_code)]
 
 use std::fs;
+use std::hash::{DefaultHasher, Hash, Hasher};
 use std::io::{stderr, Write};
+use std::os::unix::fs::MetadataExt;
 use std::path::{Path, PathBuf};
 use std::process::Command;
 
@@ -15,6 +17,18 @@ pub fn root() -> &'static Path {
 /// prints, and not what is written to the stream.
 pub fn say(line: String) {
     stderr().write_all((line + "\n").as_bytes()).expect("standard error is open");
+}
+
+/// A folder outside the repository, where `rt ci` takes links and files of Rattle for lost ones. It has one name for a user and a place of the
+/// repository.
+pub fn outside() -> PathBuf {
+    let mut hasher = DefaultHasher::new();
+    root().hash(&mut hasher);
+    let user = fs::metadata("/proc/self").expect("a user").uid();
+    let name = format!("raskjomi-tests-{user}-{:016x}", hasher.finish());
+    let folder = std::env::temp_dir().join(name);
+    fs::create_dir_all(&folder).expect("a folder for temporary files");
+    folder
 }
 
 /// The folder of the archives that the tests are built with.

@@ -1,6 +1,6 @@
 //! Runs ./install on folders of the tests.
 
-use crate::common::{root, write_program};
+use crate::common::{outside, root, write_program};
 use std::collections::BTreeMap;
 use std::fs;
 use std::path::{Path, PathBuf};
@@ -9,7 +9,7 @@ use std::sync::OnceLock;
 
 /// A name for a folder of one test, in which nothing is.
 pub fn fresh(name: &str) -> PathBuf {
-    let folder = Path::new(env!("CARGO_TARGET_TMPDIR")).join("install").join(name);
+    let folder = outside().join("install").join(name);
     let _ = fs::remove_dir_all(&folder).or_else(|_| fs::remove_file(&folder));
     fs::create_dir_all(folder.parent().expect("a folder")).expect("a folder");
     folder
