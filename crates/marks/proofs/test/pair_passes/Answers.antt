@@ -43,20 +43,20 @@ pub overflow_add-owners-5 : goal.overflow_add-owners-5
 overflow_add-owners-5 c = omega (arith, owners c.before.before.before)
 
 pub some_ends-requires : goal.some_ends-requires
-some_ends-requires c = rows c.before.before
+some_ends-requires c = let r = rows c.before.before in record { end_in_bounds = r.0; reaches = r.1 }
 
 pub some_ends-requires-in-1 : goal.some_ends-requires-in-1
-some_ends-requires-in-1 c = rows c.before.before
+some_ends-requires-in-1 c = let r = rows c.before.before in record { end_in_bounds = r.0; reaches = r.1 }
 
 pub some_ends-requires-in-2 : goal.some_ends-requires-in-2
-some_ends-requires-in-2 c = rows c.before.before
+some_ends-requires-in-2 c = let r = rows c.before.before in record { end_in_bounds = r.0; reaches = r.1 }
 
 pub some_ends-requires-in_default : goal.some_ends-requires-in_default
 some_ends-requires-in_default c = let p = c.requires in
-    rw (c.run_of-ws.ensures, c.run_of-vs.ensures) (
-      (group_within p.index (c.args.w + 1) (omega (arith, p.column)), group_within p.index (c.args.v + 1) (omega (arith, p.row)), omega arith),
-      reaches_columns c.args.game.now _ _ c.args.marks.now p.index _ _ p.row p.column p.game.vertices p.fits,
-    )
+    record {
+      end_in_bounds = rw (c.run_of-ws.ensures, c.run_of-vs.ensures) (group_within p.index (c.args.w + 1) (omega (arith, p.column)), group_within p.index (c.args.v + 1) (omega (arith, p.row)), omega arith);
+      reaches = rw (c.run_of-ws.ensures, c.run_of-vs.ensures) (reaches_columns c.args.game.now _ _ c.args.marks.now p.index _ _ p.row p.column p.game.vertices p.fits);
+    }
 
 pub returns-in-0 : goal.returns-in-0
 returns-in-0 c = let p = c.requires in

@@ -20,7 +20,7 @@ overflow_mul-base c = let small : get_or c.args.targets.now c.loop-i.i 0 ≤ 655
 pub finds-requires : goal.finds-requires
 finds-requires c = let p = c.requires in
     let a = c.loop-i in
-    record { end_in_bounds = p.0.1; by_index = λ k. p.1 a.i k a.invariant.0 c.if-i-end.false; }
+    record { end_in_bounds = p.end_in_bounds.1; by_index = λ k. p.reaches a.i k a.invariant.0 c.if-i-end.false }
 
 pub loop-i-preserved : goal.loop-i-preserved
 unfolding search_ends

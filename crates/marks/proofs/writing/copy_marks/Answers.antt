@@ -14,10 +14,10 @@ loop-i-init c = (search rules, refl, written_start _ _)
 
 pub loop-i-preserved : goal.loop-i-preserved
 loop-i-preserved c = let i = c.loop-i.invariant in (
-      search rules,
-      simp length-set i.1,
-      rw i.2 (written_more (λ j. get_or c.args.from.now j 0) c.loop-i.i c.args.to.now (omega (arith, c.loop-i-test.true, c.requires))),
-    )
+  search rules,
+  simp length-set i.1,
+  rw i.2 (written_more (λ j. get_or c.args.from.now j 0) c.loop-i.i c.args.to.now (omega (arith, c.loop-i-test.true, c.requires))),
+)
 
 pub returns : goal.returns
 returns c = let e : c.loop-i.i ≡ c.args.count = omega (arith, c.loop-i-test.false, c.loop-i.invariant.0) in

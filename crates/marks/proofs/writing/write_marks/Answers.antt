@@ -21,10 +21,10 @@ write_row-requires c = (c.loop-v-test.true, c.requires.0, c.requires.1, omega (a
 
 pub loop-v-preserved : goal.loop-v-preserved
 loop-v-preserved c = let i = c.loop-v.invariant in (
-      search rules,
-      c.write_row.auto.1.1.1.0 ∙ i.1,
-      rows_next c.args.n (cell c.args.rows.now) c.loop-v.v _ _ _ c.requires.2 i.2 c.write_row.ensures,
-    )
+  search rules,
+  c.write_row.auto.marks ∙ i.1,
+  rows_next c.args.n (cell c.args.rows.now) c.loop-v.v _ _ _ c.requires.2 i.2 c.write_row.ensures,
+)
 
 pub returns : goal.returns
 returns c = let e : c.loop-v.v ≡ c.args.n = omega (arith, c.loop-v-test.false, c.loop-v.invariant.0) in

@@ -43,23 +43,23 @@ pub bounds-rows-v : goal.bounds-rows-v
 bounds-rows-v c = omega (arith, c.requires, c.loop-w-test.true)
 
 pub overflow_sub-end : goal.overflow_sub-end
-overflow_sub-end c = omega (arith, c.end_of_lem.ensures, c.loop-w-test.true)
+overflow_sub-end c = omega (arith, c.end_of-end.ensures, c.loop-w-test.true)
 
 pub write_bits-requires : goal.write_bits-requires
-write_bits-requires c = let e = c.end_of_lem.ensures in
+write_bits-requires c = let e = c.end_of-end.ensures in
     let t = c.loop-w-test.true in
     (omega (arith, e, t), omega (arith, e, t, inside c.before.before.before.before.before.before.before.before), omega (arith, e, t, inside c.before.before.before.before.before.before.before.before, c.requires.3, c.loop-w.invariant.2))
 
 pub loop-w-smaller : goal.loop-w-smaller
-loop-w-smaller c = omega (arith, c.end_of_lem.ensures, c.loop-w-test.true)
+loop-w-smaller c = omega (arith, c.end_of-end.ensures, c.loop-w-test.true)
 
 pub loop-w-preserved : goal.loop-w-preserved
-loop-w-preserved c = let e = c.end_of_lem.ensures in
+loop-w-preserved c = let e = c.end_of-end.ensures in
     let t = c.loop-w-test.true in
     let i = c.loop-w.invariant in (
       omega (arith, e),
       λ h. omega (arith, e, h, i.1 t),
-      c.write_bits.auto.0 ∙ i.2,
+      c.write_bits.auto.marks ∙ i.2,
       row_next c.args.n (cell c.args.rows.now) c.args.v c.loop-w.w _ _ _ _ _ c.requires.0 (omega (arith, e, t)) (omega (arith, e))
           (λ k h. cells_are c.args.rows.now c.args.v c.loop-w.w k (i.1 t) (omega (arith, e, h))) i.3 c.write_bits.ensures,
     )

@@ -40,7 +40,7 @@ loop-v-preserved c = let i = c.loop-v.invariant in
     let t = c.loop-v-test.true in
     let w = c.write_bits in (
       search rules,
-      w.auto.0 ∙ i.1,
+      w.auto.marks ∙ i.1,
       rows_next c.args.n _ c.loop-v.v _ _ _ c.requires.2 i.2 (row_whole c.args.n _ c.loop-v.v _ _ _ t (λ k h. refl) w.ensures),
     )
 

@@ -18,11 +18,11 @@ overflow_cast-marks c = omega (arith, and_le_r c.loop-k.rest 255)
 
 pub loop-k-preserved : goal.loop-k-preserved
 loop-k-preserved c = let i = c.loop-k.invariant in (
-      search rules,
-      ap (λ (x : ℕ). x / 2 ^ 8) i.1 ∙ left_byte c.args.word c.loop-k.k,
-      simp length-set i.2,
-      rw i.1 (bits_byte c.args.word c.args.at c.loop-k.k _ _ c.requires.0 i.3),
-    )
+  search rules,
+  ap (λ (x : ℕ). x / 2 ^ 8) i.1 ∙ left_byte c.args.word c.loop-k.k,
+  simp length-set i.2,
+  rw i.1 (bits_byte c.args.word c.args.at c.loop-k.k _ _ c.requires.0 i.3),
+)
 
 pub returns : goal.returns
 returns c = let e : c.loop-k.k ≡ c.args.count = omega (arith, c.loop-k-test.false, c.loop-k.invariant.0) in
