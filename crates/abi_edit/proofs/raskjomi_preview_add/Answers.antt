@@ -1,13 +1,7 @@
 -- The new table is within the limits, so its counts fit their fields.
 use Rattle.abi_answer.specs.FieldsLaws.{previewing_small}
 use Rattle.abi_edit.proofs.raskjomi_preview_add.Goals as goal
-use Rattle.abi_edit.proofs.raskjomi_preview_add.Lts as lts
-use Rattle.abi_edit.proofs.raskjomi_preview_add.Reads as reads
-use Rattle.abi_edit.proofs.raskjomi_preview_add.Tie as tie
-
-abbrev at-preview-add : lts.After-slice_known8 tie.the-claims reads.Pre reads.Post → lts.After-preview_add tie.the-claims reads.Pre reads.Post
-at-preview-add c = search
 
 pub of_tabulation-requires : goal.of_tabulation-requires
-of_tabulation-requires c = let r = (at-preview-add c.before).preview-add in
+of_tabulation-requires c = let r = c.preview_add in
     previewing_small _ _ _ _ _ _ _ _ r.result _ _ _ _ r.ensures

@@ -10,12 +10,6 @@ use Rattle.carry.proofs.carry_class_plan.Lts as lts
 use Rattle.carry.proofs.carry_class_plan.Reads as reads
 use Rattle.carry.proofs.carry_class_plan.Tie as tie
 
-abbrev start : lts.After-read_sizes tie.the-claims reads.Pre reads.Post → lts.Start tie.the-claims reads.Pre reads.Post
-start c = search
-
-abbrev wrote : lts.After-slice_known9 tie.the-claims reads.Pre reads.Post → lts.After-tabulate_classes tie.the-claims reads.Pre reads.Post
-wrote c = search
-
 -- what is left is what the reduced-game call leaves
 table : (c : lts.After-tabulate_classes tie.the-claims reads.Pre reads.Post)
     → let a = (start c.before.before.before.before.before.before.before.before).args in
@@ -33,10 +27,10 @@ pub tabulate_classes-written-requires : goal.tabulate_classes-written-requires
 tabulate_classes-written-requires c = sized c.reading-1.given.1 c.read_sizes-reading.ensures
 
 pub carry_reduced-requires : goal.carry_reduced-requires
-carry_reduced-requires c = class_held (table (wrote c.before.before.before.before.before)) _ (ap tabulation_answer c.written-1.given.1)
+carry_reduced-requires c = class_held (table c.before.before.before.before.before.before.before.before.before.before.before.before) _ (ap tabulation_answer c.written-1.given.1)
 
 pub returns-in-Accepted-written : goal.returns-in-Accepted-written
-returns-in-Accepted-written c = class_arrived _ _ _ _ _ _ _ _ _ (table (wrote c.before.before.before.before.before.before.before.before)) _ (ap tabulation_answer c.written-1.given.1) _ _ c.carry_reduced.ensures
+returns-in-Accepted-written c = class_arrived _ _ _ _ _ _ _ _ _ (table c.before.before.before.before.before.before.before.before.before.before.before.before.before.before.before.before) _ (ap tabulation_answer c.written-1.given.1) _ _ c.carry_reduced.ensures
 
 pub returns-in-Refused : goal.returns-in-Refused
-returns-in-Refused c = class_refused _ _ _ _ _ _ _ _ _ (table (wrote c.before.before.before.before)) _ _ (ap tabulation_answer c.written-in-Refused-written-1.given.1)
+returns-in-Refused c = class_refused _ _ _ _ _ _ _ _ _ (table c.before.before.before.before.before.before.before.before.before.before.before.before) _ _ (ap tabulation_answer c.written-in-Refused-written-1.given.1)

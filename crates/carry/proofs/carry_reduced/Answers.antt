@@ -14,17 +14,14 @@ use Rattle.carry.proofs.carry_reduced.Lts as lts
 use Rattle.carry.proofs.carry_reduced.Reads as reads
 use Rattle.carry.proofs.carry_reduced.Tie as tie
 
-abbrev start : lts.After-judge_plan tie.the-claims reads.Pre reads.Post → lts.Start tie.the-claims reads.Pre reads.Post
-start c = search
-
 -- what the plan's judge said of the reduced game
 judged : (c : lts.After-judge_plan tie.the-claims reads.Pre reads.Post)
-    → let a = (start c).args in
+    → let a = c.args in
     acceptance_answer c.judge_plan-judged.result ≡ judge (plan_rows (class_table reduced a.game.now) a.player a.plan.now) []
-judged c = rw (start c).requires.table at c.judge_plan-judged.ensures
+judged c = rw c.requires.table at c.judge_plan-judged.ensures
 
 passed : (c : lts.After-enum_told tie.the-claims reads.Pre reads.Post)
-    → let a = (start c.before.before).args in accepted [] ≡ judge (plan_rows (class_table reduced a.game.now) a.player a.plan.now) []
+    → let a = c.args in accepted [] ≡ judge (plan_rows (class_table reduced a.game.now) a.player a.plan.now) []
 passed c = ap acceptance_answer (sym c.enum_told-1.given.1) ∙ judged c.before.before
 
 abbrev at-start : lts.After-judge-plan-arg tie.the-claims reads.Pre reads.Post → lts.Start tie.the-claims reads.Pre reads.Post
@@ -40,12 +37,10 @@ pub returns-in-Refused : goal.returns-in-Refused
 returns-in-Refused c = reduced_judged _ _ _ _ _ _ _ (ap acceptance_answer (sym c.judged-1.given.1) ∙ judged c.before.before.before.before)
 
 pub carry_to-carried-requires : goal.carry_to-carried-requires
-carry_to-carried-requires c = let s = start c.before.before.before.before in
-    class_can _ _ _ s.pre.well s.pre.ordered s.pre.classed (passed c.before.before)
+carry_to-carried-requires c = class_can _ _ _ c.requires.well c.requires.ordered c.requires.classed (passed c.before)
 
 pub returns-in-Accepted : goal.returns-in-Accepted
-returns-in-Accepted c = let s = start c.before.before.before.before.before.before.before.before.before.before in
-    reduced_accepted _ _ _ _ _ (passed c.before.before.before.before.before.before.before.before) _ _ _ (rw c.carried-1.given.1 at c.carry_to-carried.ensures) _ s.pre.totals
+returns-in-Accepted c = reduced_accepted _ _ _ _ _ (passed c.before.before.before.before.before.before.before.before) _ _ _ (rw c.carried-1.given.1 at c.carry_to-carried.ensures) _ c.requires.totals
 
 pub returns-in-Refused-carried : goal.returns-in-Refused-carried
 returns-in-Refused-carried c = reduced_refused _ _ _ _ _ (passed c.before.before.before.before.before.before.before.before) _ _ _ (rw c.carried-in-Refused-carried-1.given.1 at c.carry_to-carried.ensures)

@@ -15,50 +15,43 @@ use Rattle.carry_output.proofs.carry_to.Lts as lts
 use Rattle.carry_output.proofs.carry_to.Reads as reads
 use Rattle.carry_output.proofs.carry_to.Tie as tie
 
-abbrev start : lts.After-seat_positions tie.the-claims reads.Pre reads.Post tie.handed_clauses → lts.Start tie.the-claims reads.Pre reads.Post tie.handed_clauses
-start c = search
-
 seated : (c : lts.After-seat_positions tie.the-claims reads.Pre reads.Post tie.handed_clauses)
-    → let a = (start c).args in Seated a.game.now a.player a.plan.now c.seat_positions.new.1.1.1.1.0 a.marks.now
+    → let a = c.args in Seated a.game.now a.player a.plan.now c.seat_positions.new.1.1.1.1.0 a.marks.now
 seated c =
-    let s = start c in
-    seats_seated s.pre.0 s.pre.1 s.pre.2 _ c.seat_positions.ensures
-    (omega (arith, c.seat_positions.auto.1.1.1.1.0, length-replicate {A = ℕ} 4096 0, s.pre.0.formed.sized.positions))
+    seats_seated c.requires.0 c.requires.1 c.requires.2 _ c.seat_positions.ensures
+    (omega (arith, c.seat_positions.auto.1.1.1.1.0, length-replicate {A = ℕ} 4096 0, c.requires.0.formed.sized.positions))
 
 -- the seat of the start
 seat : (c : lts.After-seat_positions tie.the-claims reads.Pre reads.Post tie.handed_clauses)
-    → let a = (start c).args in
+    → let a = c.args in
     get_or c.seat_positions.new.1.1.1.1.0 0 0 ≡ seat_of a.«by-class» (game_of a.game.now) (vertex_at a.plan.now 0)
-seat c = c.seat_positions.ensures.at 0 (start c).requires.0.formed.sized.some
+seat c = c.seat_positions.ensures.at 0 c.requires.0.formed.sized.some
 
 -- what `no_better` told
 told : (c : lts.After-no_better tie.the-claims reads.Pre reads.Post tie.handed_clauses)
-    → let a = (start c.before.before).args in
+    → let a = c.args in
     c.no_better.result ≡ needed a.game.now a.player (get_or c.seat_positions.new.1.1.1.1.0 0 0) a.y
 told c =
-    let s = start c.before.before in
     let z = seated c.before.before in
     c.no_better.ensures
-    ∙ needed_is s.args.game.now s.args.player s.args.marks.now s.pre.1 _ _ (z.inside 0 s.pre.0.formed.sized.some) c.if-n-y.false
+    ∙ needed_is c.args.game.now c.args.player c.args.marks.now c.requires.1 _ _ (z.inside 0 c.requires.0.formed.sized.some) c.if-n-y.false
 
 pub returns-then-n-y : goal.returns-then-n-y
 returns-then-n-y c = arrives_beyond _ _ _ _ _ _ c.if-n-y.true
 
 pub overflow_cast-x : goal.overflow_cast-x
-overflow_cast-x c = let s = start c.before.before in
-    omega (arith, (seated c.before.before).inside 0 s.pre.0.formed.sized.some, s.pre.0.well.vertices)
+overflow_cast-x c = omega (arith, (seated c.before.before).inside 0 c.requires.0.formed.sized.some, c.requires.0.well.vertices)
 
 pub no_better-requires : goal.no_better-requires
 unfolding game_of
-no_better-requires c = let s = start c.before.before in
-    ((seated c.before.before).inside 0 s.pre.0.formed.sized.some, c.if-n-y.false, s.pre.0.well.vertices, s.pre.1.long)
+no_better-requires c = ((seated c.before).inside 0 c.requires.0.formed.sized.some, c.if-n-y.false, c.requires.0.well.vertices, c.requires.1.long)
 
 pub returns-then-not-no_better : goal.returns-then-not-no_better
 returns-then-not-no_better c = arrives_not _ _ _ _ _ _ _ (seat c.before.before.before.before) c.if-n-y.false (sym (told c.before.before) ∙ not-true c.no_better.result c.if-not-no_better.true)
 
 pub carry_seated-requires : goal.carry_seated-requires
-carry_seated-requires c = record { seated = seated c.before.before.before.before.before.before; y_bound = c.if-n-y.false; }
+carry_seated-requires c = record { seated = seated c.before.before.before.before.before; y_bound = c.if-n-y.false; }
 
 pub returns : goal.returns
-returns c = arrives _ _ _ _ _ _ _ (start c.before.before.before.before.before.before.before.before.before).requires.0.well c.seat_positions.ensures c.if-n-y.false (rw (seat c.before.before.before.before.before.before.before.before.before) at (sym (told c.before.before.before.before.before.before.before) ∙ not-false c.no_better.result c.if-not-no_better.false)) _ _
+returns c = arrives _ _ _ _ _ _ _ c.requires.0.well c.seat_positions.ensures c.if-n-y.false (rw (seat c.before.before.before.before.before.before.before.before.before) at (sym (told c.before.before.before.before.before.before.before) ∙ not-false c.no_better.result c.if-not-no_better.false)) _ _
     c.carry_seated.ensures

@@ -10,16 +10,13 @@ use Rattle.carry_output.proofs.search.Lts as lts
 use Rattle.carry_output.proofs.search.Reads as reads
 use Rattle.carry_output.proofs.search.Tie as tie
 
-abbrev start : lts.After-flag_edges tie.the-claims reads.Pre reads.Post tie.handed_clauses → lts.Start tie.the-claims reads.Pre reads.Post tie.handed_clauses
-start c = search
-
 -- all that the search reads
 readable : (c : lts.After-chain_links tie.the-claims reads.Pre reads.Post tie.handed_clauses)
     → let a = (start c.before.before.before.before).args in
     Readable a.game.now a.player a.plan.now a.seats.now a.marks.now
     c.flag_edges.new.1.1.1.0 c.chain_links.new.1.0 c.chain_links.new.1.1.0
 readable c =
-    let b = (start c.before.before.before.before).pre.0 in
+    let b = c.requires.seated in
     let z = b.formed.sized in record {
       links = record {
         board = b;
@@ -30,14 +27,9 @@ readable c =
       flags = c.flag_edges.ensures.edge_flags;
     }
 
-abbrev at-start : lts.After-edges tie.the-claims reads.Pre reads.Post tie.handed_clauses → lts.Start tie.the-claims reads.Pre reads.Post tie.handed_clauses
-at-start c = search
-
 pub flag_edges-requires : goal.flag_edges-requires
-flag_edges-requires c = let s = at-start c.before in
-    let w = s.pre.0.well in
+flag_edges-requires c = let w = c.requires.seated.well in
     record { sized = (well_sized w, well_inside w); pair_words_in_bounds = (omega (arith, length-replicate {A = ℕ} pair_words 0), filled pair_words 0); }
 
 pub find_pairs-requires : goal.find_pairs-requires
-find_pairs-requires c = let s = start c.before.before.before.before.before.before.before.before.before.before.before in
-    record { readable = readable c.before.before.before.before.before.before.before; w_bound = (s.pre.1.0, s.pre.1.1); }
+find_pairs-requires c = record { readable = readable c.before.before.before.before.before.before; w_bound = (c.requires.y_bound.0, c.requires.y_bound.1); }

@@ -14,40 +14,33 @@ use Rattle.carry_replies.proofs.answer.Lts as lts
 use Rattle.carry_replies.proofs.answer.Reads as reads
 use Rattle.carry_replies.proofs.answer.Tie as tie
 
-abbrev before-owns : lts.After-shared_slice_known8 tie.the-claims reads.Pre reads.Post goal.the-invariant-loop-k goal.the-decreases-loop-k tie.handed_clauses → lts.Start tie.the-claims reads.Pre reads.Post goal.the-invariant-loop-k goal.the-decreases-loop-k tie.handed_clauses
-before-owns c = search
-
-abbrev start : lts.After-owns tie.the-claims reads.Pre reads.Post goal.the-invariant-loop-k goal.the-decreases-loop-k tie.handed_clauses → lts.Start tie.the-claims reads.Pre reads.Post goal.the-invariant-loop-k goal.the-decreases-loop-k tie.handed_clauses
-start c = before-owns c.before
-
 -- the vertex as which i compares
 seat_lt : (e : lts.Start tie.the-claims reads.Pre reads.Post goal.the-invariant-loop-k goal.the-decreases-loop-k tie.handed_clauses) → get_or e.args.seats.now e.args.i 0 < vertex_count e.args.game.now
 seat_lt e = e.requires.linked.board.inside e.args.i e.requires.i_bound.0
 
 -- the link that the walk looks for
-followed : (c : lts.After-owns tie.the-claims reads.Pre reads.Post goal.the-invariant-loop-k goal.the-decreases-loop-k tie.handed_clauses) → let e = (start c).args in
+followed : (c : lts.After-owns tie.the-claims reads.Pre reads.Post goal.the-invariant-loop-k goal.the-decreases-loop-k tie.handed_clauses) → let e = c.args in
     let l = link_count e.plan.now in
     let keeps = link_keeps e.game.now e.player e.plan.now e.seats.now e.w in
     first (good (link_source e.plan.now) l c.owns-lone.result keeps e.i) 0 l
     ≡ link_to e.game.now e.player e.plan.now e.seats.now e.i e.w
 followed c =
-    let e = start c in
-    link_to_is _ _ _ _ e.pre.0.board.formed e.args.i e.args.w e.pre.1.0 _ c.owns-lone.ensures
+    link_to_is _ _ _ _ c.requires.linked.board.formed c.args.i c.args.w c.requires.i_bound.0 _ c.owns-lone.ensures
 
 pub overflow_cast-seats : goal.overflow_cast-seats
-overflow_cast-seats c = let e = before-owns c.before in omega (arith, seat_lt e, e.pre.0.board.well.vertices)
+overflow_cast-seats c = omega (arith, seat_lt c.before.before.before.before.before.before.before.before.before, c.requires.linked.board.well.vertices)
 
 pub owns-lone-requires : goal.owns-lone-requires
-owns-lone-requires c = let e = before-owns c.before in (e.pre.0.board.well, e.pre.0.board.number, seat_lt e)
+owns-lone-requires c = (c.requires.linked.board.well, c.requires.linked.board.number, seat_lt c.before.before.before.before.before.before.before.before)
 
 pub overflow_cast-k : goal.overflow_cast-k
-overflow_cast-k c = omega (arith, c.shared_slice_known-9-1.given (start c.before.before).args.i)
+overflow_cast-k c = omega (arith, c.shared_slice_known-9-1.given c.args.i)
 
 pub loop-k-init : goal.loop-k-init
-loop-k-init c = let e = start c.before.before in pass_start _ _ _ _ _ _ _ _ e.pre.0.chains e.pre.1.0
+loop-k-init c = pass_start _ _ _ _ _ _ _ _ c.requires.linked.chains c.requires.i_bound.0
 
 pub link_keeps-requires : goal.link_keeps-requires
-link_keeps-requires c = let e = start c.before.before.before.before in record { seated = e.pre.0.board; k_bound = (c.loop-k-test.true, e.pre.1.1); }
+link_keeps-requires c = record { seated = c.requires.linked.board; k_bound = (c.loop-k-test.true, c.requires.i_bound.1); }
 
 pub returns-then-link_keeps : goal.returns-then-link_keeps
 returns-then-link_keeps c = pass_hit _ _ _ _ _ c.loop-k.k c.loop-k-test.true c.loop-k.invariant (sym c.link_keeps.ensures ∙ c.if-link_keeps.true)

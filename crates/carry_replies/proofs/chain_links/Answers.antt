@@ -12,19 +12,16 @@ use Rattle.carry_replies.proofs.chain_links.Lts as lts
 use Rattle.carry_replies.proofs.chain_links.Reads as reads
 use Rattle.carry_replies.proofs.chain_links.Tie as tie
 
-abbrev start : lts.At-loop tie.the-claims reads.Pre reads.Post goal.the-invariant-loop-k goal.the-decreases-loop-k tie.handed_clauses → lts.Start tie.the-claims reads.Pre reads.Post goal.the-invariant-loop-k goal.the-decreases-loop-k tie.handed_clauses
-start c = search
-
 -- the source of the link before k is a position
-source_lt : (c : lts.In-loop tie.the-claims reads.Pre reads.Post goal.the-invariant-loop-k goal.the-decreases-loop-k tie.handed_clauses) → let e = (start c.before).args in
+source_lt : (c : lts.In-loop tie.the-claims reads.Pre reads.Post goal.the-invariant-loop-k goal.the-decreases-loop-k tie.handed_clauses) → let e = c.args in
     link_source e.plan.now (c.loop-k.k - 1) < position_count e.plan.now
-source_lt c = (start c.before).pre.1.0 (c.loop-k.k - 1) (omega (arith, c.loop-k.invariant.to, c.loop-k-test.true))
+source_lt c = c.requires.by_index (c.loop-k.k - 1) (omega (arith, c.loop-k.invariant.to, c.loop-k-test.true))
 
-room_firsts : (c : lts.At-loop tie.the-claims reads.Pre reads.Post goal.the-invariant-loop-k goal.the-decreases-loop-k tie.handed_clauses) → position_count (start c).args.plan.now ≤ length c.loop-k.firsts
-room_firsts c = omega (arith, (start c).requires.1.1.0, c.fill.auto, c.loop-k.invariant.same-firsts)
+room_firsts : (c : lts.At-loop tie.the-claims reads.Pre reads.Post goal.the-invariant-loop-k goal.the-decreases-loop-k tie.handed_clauses) → position_count c.args.plan.now ≤ length c.loop-k.firsts
+room_firsts c = omega (arith, c.requires.plan_in_bounds.0, c.fill.auto, c.loop-k.invariant.same-firsts)
 
-room_follow : (c : lts.At-loop tie.the-claims reads.Pre reads.Post goal.the-invariant-loop-k goal.the-decreases-loop-k tie.handed_clauses) → link_count (start c).args.plan.now ≤ length c.loop-k.follow
-room_follow c = omega (arith, (start c).requires.1.1.1, c.loop-k.invariant.same-follow)
+room_follow : (c : lts.At-loop tie.the-claims reads.Pre reads.Post goal.the-invariant-loop-k goal.the-decreases-loop-k tie.handed_clauses) → link_count c.args.plan.now ≤ length c.loop-k.follow
+room_follow c = omega (arith, c.requires.plan_in_bounds.1, c.loop-k.invariant.same-follow)
 
 pub fill-requires : goal.fill-requires
 fill-requires c = omega (arith, c.requires.plan_in_bounds.0)
@@ -38,34 +35,34 @@ loop-k-init c = record {
 }
 
 pub overflow_add-i-in-loop-k : goal.overflow_add-i-in-loop-k
-overflow_add-i-in-loop-k c = let s = (start c.before.before).requires.0 in omega (arith, c.loop-k.invariant.to, s.positions, s.links)
+overflow_add-i-in-loop-k c = let s = c.requires.plan_sized in omega (arith, c.loop-k.invariant.to, s.positions, s.links)
 
 pub offset_bounds-plan-p : goal.offset_bounds-plan-p
-offset_bounds-plan-p c = let s = (start c.before.before).requires.0 in omega (arith, c.loop-k.invariant.to, s.positions, s.links)
+offset_bounds-plan-p c = let s = c.requires.plan_sized in omega (arith, c.loop-k.invariant.to, s.positions, s.links)
 
 pub bounds-plan-p : goal.bounds-plan-p
-bounds-plan-p c = omega (arith, c.loop-k.invariant.to, (start c.before.before.before).requires.0.size, c.loop-k-test.true)
+bounds-plan-p c = omega (arith, c.loop-k.invariant.to, c.requires.plan_sized.size, c.loop-k-test.true)
 
 pub overflow_cast-i : goal.overflow_cast-i
-overflow_cast-i c = omega (arith, source_lt c.before.before, (start c.before.before.before).pre.0.positions)
+overflow_cast-i c = omega (arith, source_lt c.before.before, c.requires.plan_sized.positions)
 
 pub offset_bounds-firsts-i : goal.offset_bounds-firsts-i
-offset_bounds-firsts-i c = omega (arith, source_lt c.before.before, (start c.before.before.before).pre.0.positions)
+offset_bounds-firsts-i c = omega (arith, source_lt c.before.before, c.requires.plan_sized.positions)
 
 pub bounds-firsts-i : goal.bounds-firsts-i
 bounds-firsts-i c = omega (arith, source_lt c.before.before.before, room_firsts c.before.before.before.before)
 
 pub offset_bounds-follow-k : goal.offset_bounds-follow-k
-offset_bounds-follow-k c = omega (arith, c.loop-k.invariant.to, (start c.before.before.before.before).requires.0.links)
+offset_bounds-follow-k c = omega (arith, c.loop-k.invariant.to, c.requires.plan_sized.links)
 
 pub bounds-follow-k : goal.bounds-follow-k
 bounds-follow-k c = omega (arith, c.loop-k.invariant.to, room_follow c.before.before.before.before, c.loop-k-test.true)
 
 pub overflow_cast-firsts : goal.overflow_cast-firsts
-overflow_cast-firsts c = omega (arith, c.loop-k.invariant.to, (start c.before.before.before.before).requires.0.links)
+overflow_cast-firsts c = omega (arith, c.loop-k.invariant.to, c.requires.plan_sized.links)
 
 pub offset_bounds-firsts-i-in-loop-k : goal.offset_bounds-firsts-i-in-loop-k
-offset_bounds-firsts-i-in-loop-k c = omega (arith, source_lt c.before.before.before, (start c.before.before.before.before).pre.0.positions)
+offset_bounds-firsts-i-in-loop-k c = omega (arith, source_lt c.before.before.before, c.requires.plan_sized.positions)
 
 pub bounds-firsts-i-in-loop-k : goal.bounds-firsts-i-in-loop-k
 bounds-firsts-i-in-loop-k c = omega (arith, source_lt c.before.before.before, room_firsts c.before.before.before.before)

@@ -11,12 +11,6 @@ use Rattle.carry_replies.proofs.link_keeps.Lts as lts
 use Rattle.carry_replies.proofs.link_keeps.Reads as reads
 use Rattle.carry_replies.proofs.link_keeps.Tie as tie
 
-abbrev read-start : lts.After-shared_slice_known8 tie.the-claims reads.Pre reads.Post tie.handed_clauses → lts.Start tie.the-claims reads.Pre reads.Post tie.handed_clauses
-read-start c = search
-
-abbrev start : lts.After-shared_slice_known9 tie.the-claims reads.Pre reads.Post tie.handed_clauses → lts.Start tie.the-claims reads.Pre reads.Post tie.handed_clauses
-start c = read-start c.before
-
 target_lt : (e : lts.Start tie.the-claims reads.Pre reads.Post tie.handed_clauses) → link_target e.args.plan.now e.args.k < position_count e.args.plan.now
 target_lt e = e.requires.seated.formed.targets e.args.k e.requires.k_bound.0
 
@@ -24,20 +18,20 @@ seat_lt : (e : lts.Start tie.the-claims reads.Pre reads.Post tie.handed_clauses)
 seat_lt e = e.requires.seated.inside _ (target_lt e)
 
 pub overflow_cast-j : goal.overflow_cast-j
-overflow_cast-j c = let e = read-start c.before in omega (arith, target_lt e, e.pre.0.formed.sized.positions)
+overflow_cast-j c = omega (arith, target_lt c.before.before.before.before.before.before.before.before.before, c.requires.seated.formed.sized.positions)
 
 pub offset_bounds-seats-j : goal.offset_bounds-seats-j
-offset_bounds-seats-j c = let e = read-start c.before in omega (arith, target_lt e, e.pre.0.formed.sized.positions)
+offset_bounds-seats-j c = omega (arith, target_lt c.before.before.before.before.before.before.before.before.before, c.requires.seated.formed.sized.positions)
 
 pub bounds-seats-j : goal.bounds-seats-j
-bounds-seats-j c = let e = start c.before in omega (arith, target_lt e, e.pre.0.long)
+bounds-seats-j c = omega (arith, target_lt c.before.before.before.before.before.before.before.before.before.before, c.requires.seated.long)
 
 pub overflow_cast-seats : goal.overflow_cast-seats
-overflow_cast-seats c = let e = start c.before in omega (arith, seat_lt e, e.pre.0.well.vertices)
+overflow_cast-seats c = omega (arith, seat_lt c.before.before.before.before.before.before.before.before.before.before, c.requires.seated.well.vertices)
 
 pub no_better-requires : goal.no_better-requires
 unfolding game_of
-no_better-requires c = let e = start c.before in (seat_lt e, e.pre.1.1, e.pre.0.well.vertices, e.pre.0.ordered.long)
+no_better-requires c = (seat_lt c.before.before.before.before.before.before.before.before.before, c.requires.k_bound.1, c.requires.seated.well.vertices, c.requires.seated.ordered.long)
 
 pub returns : goal.returns
-returns c = let e = start c.before.before in c.no_better.ensures ∙ needed_is _ _ _ e.pre.0.ordered _ _ (seat_lt e) e.pre.1.1
+returns c = c.no_better.ensures ∙ needed_is _ _ _ c.requires.seated.ordered _ _ (seat_lt c.before.before.before.before.before.before.before.before.before.before.before) c.requires.k_bound.1

@@ -8,17 +8,11 @@ use Rattle.carry_replies.proofs.reply.Lts as lts
 use Rattle.carry_replies.proofs.reply.Reads as reads
 use Rattle.carry_replies.proofs.reply.Tie as tie
 
-abbrev before-flags : lts.After-shared_slice_known9 tie.the-claims reads.Pre reads.Post tie.handed_clauses → lts.Start tie.the-claims reads.Pre reads.Post tie.handed_clauses
-before-flags c = search
-
-abbrev start : lts.After-is_edge tie.the-claims reads.Pre reads.Post tie.handed_clauses → lts.Start tie.the-claims reads.Pre reads.Post tie.handed_clauses
-start c = before-flags c.before
-
-edge_is : (c : lts.After-is_edge tie.the-claims reads.Pre reads.Post tie.handed_clauses) → let e = (start c).args in c.is_edge.result ≡ (game_of e.game.now).edge e.u e.w
-edge_is c = let e = start c in c.is_edge.ensures ∙ e.pre.0.flags.edge e.args.u e.args.w e.pre.1.1 e.pre.1.2
+edge_is : (c : lts.After-is_edge tie.the-claims reads.Pre reads.Post tie.handed_clauses) → let e = c.args in c.is_edge.result ≡ (game_of e.game.now).edge e.u e.w
+edge_is c = c.is_edge.ensures ∙ c.requires.readable.flags.edge c.args.u c.args.w c.requires.i_bound.1 c.requires.i_bound.2
 
 pub is_edge-requires : goal.is_edge-requires
-is_edge-requires c = let e = before-flags c.before in (e.pre.1.1, e.pre.1.2, e.pre.0.links.board.well.vertices, e.pre.0.flags.long)
+is_edge-requires c = (c.requires.i_bound.1, c.requires.i_bound.2, c.requires.readable.links.board.well.vertices, c.requires.readable.flags.long)
 
 pub returns-then-is_edge : goal.returns-then-is_edge
 returns-then-is_edge c = c.reply_along.ensures _ (sym (edge_is c.before.before.before) ∙ c.if-is_edge.true)

@@ -2,15 +2,9 @@
 use native.Mathlib.Omega.{arith}
 use Rattle.carry_replies.specs.RepliesLaws.{reply_yes, reply_none}
 use Rattle.carry_replies.proofs.reply_along.Goals as goal
-use Rattle.carry_replies.proofs.reply_along.Lts as lts
-use Rattle.carry_replies.proofs.reply_along.Reads as reads
-use Rattle.carry_replies.proofs.reply_along.Tie as tie
-
-abbrev start : lts.After-answer tie.the-claims reads.Pre reads.Post tie.handed_clauses → lts.Start tie.the-claims reads.Pre reads.Post tie.handed_clauses
-start c = search
 
 pub overflow_cast-result : goal.overflow_cast-result
-overflow_cast-result c = let f = (start c.before.before.before).requires.0.board.formed in
+overflow_cast-result c = let f = c.requires.linked.board.formed in
     omega (arith, f.targets c.answer-k.result c.if-k-l.true, f.sized.positions)
 
 pub returns-then-k-l : goal.returns-then-k-l

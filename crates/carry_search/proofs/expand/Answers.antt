@@ -13,37 +13,27 @@ use Rattle.carry_search.specs.SearchMemoryLaws.{moved_none}
 use Rattle.carry_search.specs.Work.{memory_in, stored_pair}
 use Rattle.carry_search.specs.Search.{table_moves_below, most_links}
 use Rattle.carry_search.specs.ExpandLaws.{expandable_long, moved_on, moved_more, most_within, moved_few, expanded_pair}
-use Rattle.carry_search.proofs.expand.Invariants.{before-search, most, start}
+use Rattle.carry_search.proofs.expand.Invariants.{most}
 use Rattle.carry_search.proofs.expand.Goals as goal
-use Rattle.carry_search.proofs.expand.Lts as lts
-use Rattle.carry_search.proofs.expand.Reads as reads
-use Rattle.carry_search.proofs.expand.Tie as tie
-
-abbrev at-start : lts.After-slice_known2 tie.the-claims reads.Pre reads.Post goal.the-invariant-loop-w goal.the-decreases-loop-w tie.handed_clauses → lts.Start tie.the-claims reads.Pre reads.Post goal.the-invariant-loop-w goal.the-decreases-loop-w tie.handed_clauses
-at-start c = search
 
 pub bounds-work-k : goal.bounds-work-k
-bounds-work-k c = omega (arith, expandable_long (at-start c.before).requires.1)
-
-abbrev vertex-start : lts.After-slice_known3 tie.the-claims reads.Pre reads.Post goal.the-invariant-loop-w goal.the-decreases-loop-w tie.handed_clauses → lts.Start tie.the-claims reads.Pre reads.Post goal.the-invariant-loop-w goal.the-decreases-loop-w tie.handed_clauses
-vertex-start c = search
+bounds-work-k c = omega (arith, expandable_long c.requires.expandable)
 
 pub bounds-work-k-2 : goal.bounds-work-k-2
-bounds-work-k-2 c = expandable_long (vertex-start c.before).requires.1
+bounds-work-k-2 c = expandable_long c.requires.expandable
 
 pub next_successor-w-requires : goal.next_successor-w-requires
 next_successor-w-requires c = (c.requires.expandable.inside.new_lt, omega arith, c.requires.readable.links.board.well.vertices, c.requires.readable.flags.long)
 
 pub loop-w-init : goal.loop-w-init
 unfolding moves_below
-loop-w-init c = let e = before-search c.before in
-    let flags = e.pre.0.flags in
-    let hu = e.pre.1.inside.new_lt in
+loop-w-init c = let flags = c.requires.readable.flags in
+    let hu = c.requires.expandable.inside.new_lt in
     let f = c.next-Successor.ensures in (
       successor_le _ _ flags _ 0 _ hu (omega arith) f,
       refl,
-      moved_on _ _ _ _ _ _ _ _ _ _ _ flags 0 _ hu (omega arith) f (moved_none _ _ _ e.pre.1.ready),
-      omega (arith, most_within _ _ _ _ _ c.most_links-most.ensures e.pre.1.within.few_links),
+      moved_on _ _ _ _ _ _ _ _ _ _ _ flags 0 _ hu (omega arith) f (moved_none _ _ _ c.requires.expandable.ready),
+      omega (arith, most_within _ _ _ _ _ c.most_links-most.ensures c.requires.expandable.within.few_links),
     )
 
 pub returns-then-pairs-gt-POSITIONS : goal.returns-then-pairs-gt-POSITIONS
@@ -55,29 +45,25 @@ returns-then-most-links c = let l = c.loop-w in
     expanded_pair _ _ _ _ _ _ _ _ _ _ l.w l.invariant.0 l.invariant.2 _ (most c.before.before.before.before) l.invariant.3 (inr (inr c.if-most-links.true))
 
 pub step-more-requires : goal.step-more-requires
-step-more-requires c = let e = start c.before.before.before.before.before in
-    let x = e.pre.1 in
-    let b = most_within _ _ _ _ _ (most c.before.before.before.before.before) x.within.few_links in
-    let within : Within c.loop-w.pairs c.loop-w.links = record { few_pairs = c.if-pairs-gt-POSITIONS.false; few_links = omega (arith, c.if-most-links.false, b) } in record { readable = e.pre.0; search_room = (c.loop-w.invariant.2.ready, within, omega (arith, x.within.few_pairs, x.found)); i_bound = (x.inside.old_lt, x.inside.new_lt, c.loop-w-test.true); }
+step-more-requires c = let x = c.requires.expandable in
+    let b = most_within _ _ _ _ _ (most c.before.before.before.before) x.within.few_links in
+    let within : Within c.loop-w.pairs c.loop-w.links = record { few_pairs = c.if-pairs-gt-POSITIONS.false; few_links = omega (arith, c.if-most-links.false, b) } in record { readable = c.requires.readable; search_room = (c.loop-w.invariant.2.ready, within, omega (arith, x.within.few_pairs, x.found)); i_bound = (x.inside.old_lt, x.inside.new_lt, c.loop-w-test.true); }
 
 pub overflow_add-w : goal.overflow_add-w
-overflow_add-w c = omega (arith, c.loop-w-test.true, (start c.before.before.before.before.before.before.before.before).pre.0.links.board.well.vertices)
+overflow_add-w c = omega (arith, c.loop-w-test.true, c.requires.readable.links.board.well.vertices)
 
 pub next_successor-w-requires-in-loop-w : goal.next_successor-w-requires-in-loop-w
-next_successor-w-requires-in-loop-w c = let e = start c.before.before.before.before.before.before.before.before in
-    (e.pre.1.inside.new_lt, omega (arith, c.loop-w-test.true), e.pre.0.links.board.well.vertices, e.pre.0.flags.long)
+next_successor-w-requires-in-loop-w c = (c.requires.expandable.inside.new_lt, omega (arith, c.loop-w-test.true), c.requires.readable.links.board.well.vertices, c.requires.readable.flags.long)
 
 pub loop-w-smaller : goal.loop-w-smaller
-loop-w-smaller c = let e = start c.before.before.before.before.before.before.before.before.before in
-    let h = c.loop-w-test.true in
-    omega (arith, h, successor_ge _ _ e.pre.0.flags _ (c.loop-w.w + 1) _ e.pre.1.inside.new_lt (omega (arith, h)) c.next_successor-w-in-loop-w.ensures)
+loop-w-smaller c = let h = c.loop-w-test.true in
+    omega (arith, h, successor_ge _ _ c.requires.readable.flags _ (c.loop-w.w + 1) _ c.requires.expandable.inside.new_lt (omega (arith, h)) c.next_successor-w-in-loop-w.ensures)
 
 pub loop-w-preserved : goal.loop-w-preserved
-loop-w-preserved c = let e = start c.before.before.before.before.before.before.before.before.before in
-    let l = c.loop-w in
-    let flags = e.pre.0.flags in
-    let hu = e.pre.1.inside.new_lt in
-    let h : l.w + 1 ≤ vertex_count e.args.game.now = omega (arith, c.loop-w-test.true) in
+loop-w-preserved c = let l = c.loop-w in
+    let flags = c.requires.readable.flags in
+    let hu = c.requires.expandable.inside.new_lt in
+    let h : l.w + 1 ≤ vertex_count c.args.game.now = omega (arith, c.loop-w-test.true) in
     let f = c.next_successor-w-in-loop-w.ensures in
     let s = c.step-more in (
       successor_le _ _ flags _ (l.w + 1) _ hu h f,

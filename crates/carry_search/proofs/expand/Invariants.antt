@@ -14,12 +14,6 @@ use Rattle.carry_search.specs.Search.{table_moves_below, most_links}
 use Rattle.carry_search.specs.ExpandLaws.{expandable_long, moved_on, moved_more, most_within, moved_few, expanded_pair}
 use Rattle.carry_search.proofs.expand.Given as goal
 
-abbrev pub before-search : tie.After-next-successor invariant-loop decreases-loop → tie.Start invariant-loop decreases-loop
-before-search c = search
-
-abbrev pub start : tie.At-loop invariant-loop decreases-loop → tie.Start invariant-loop decreases-loop
-start c = before-search c.before
-
 pub most : (a : tie.At-loop invariant-loop decreases-loop)
     → let e = (start a).args in
     a.before.before.most-links.result ≡ most_links e.game.now e.player (stored_pair e.work.now e.k).1 e.counts.links

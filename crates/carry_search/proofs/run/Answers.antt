@@ -7,16 +7,9 @@ use lib.ListN.{length}
 use Rattle.table.specs.Limits.{position_limit}
 use Rattle.carry_search.specs.RunLaws.{Runs, runs_start, runs_expandable, runs_next, runs_over, runs_end}
 use Rattle.carry_search.proofs.run.Goals as goal
-use Rattle.carry_search.proofs.run.Lts as lts
-use Rattle.carry_search.proofs.run.Reads as reads
-use Rattle.carry_search.proofs.run.Tie as tie
-
-abbrev at-start : lts.After-slice_known tie.the-claims reads.Pre reads.Post goal.the-invariant-loop-k goal.the-decreases-loop-k tie.handed_clauses → lts.Start tie.the-claims reads.Pre reads.Post goal.the-invariant-loop-k goal.the-decreases-loop-k tie.handed_clauses
-at-start c = search
 
 pub loop-k-init : goal.loop-k-init
-loop-k-init c = let e = at-start c.before in
-    (refl, runs_start _ _ _ _ _ _ _ _ e.pre.0 _ e.pre.1.0 _ e.pre.1.1)
+loop-k-init c = (refl, runs_start _ _ _ _ _ _ _ _ c.requires.readable _ c.requires.w_bound.0 _ c.requires.w_bound.1)
 
 pub expand-more-requires : goal.expand-more-requires
 expand-more-requires c = let r = c.loop-k.invariant.1 in

@@ -9,19 +9,13 @@ use Rattle.claims_twice.proofs.reduces_twice.Lts as lts
 use Rattle.claims_twice.proofs.reduces_twice.Reads as reads
 use Rattle.claims_twice.proofs.reduces_twice.Tie as tie
 
-abbrev wrote : lts.After-known_told tie.the-claims reads.Pre reads.Post → lts.After-write_reduced tie.the-claims reads.Pre reads.Post
-wrote c = search
-
 -- the table that the first call wrote
 table : (c : lts.After-known_told tie.the-claims reads.Pre reads.Post)
-    → let p = c.first-1.given.0.0 in Held p.vertices p.edges (wrote c).write-reduced.new.1.1.1.1.0
-table c = held (wrote c).write-reduced.ensures _ _ _ (ap tabulation_answer c.first-1.given.1)
-
-abbrev at-write-reduced : lts.After-enum_told tie.the-claims reads.Pre reads.Post → lts.After-write_reduced tie.the-claims reads.Pre reads.Post
-at-write-reduced c = search
+    → let p = c.first-1.given.0.0 in Held p.vertices p.edges c.write_reduced-first.new.1.1.1.1.0
+table c = held c.write_reduced-first.ensures _ _ _ (ap tabulation_answer c.first-1.given.1)
 
 pub returns-in_default : goal.returns-in_default
-returns-in_default c = let w = (at-write-reduced c.before).write-reduced in
+returns-in_default c = let w = c.write_reduced-first in
     twice_refused w.result w.ensures _ c.enum_told-1.given.1
 
 pub overflow_mul-size : goal.overflow_mul-size
@@ -42,13 +36,6 @@ slice_bounds-write_reduced-end c = let h = table c.before.before.before in omega
 pub slice_bounds-write_reduced-end-2 : goal.slice_bounds-write_reduced-end-2
 slice_bounds-write_reduced-end-2 c = sym (length-take-le _ _ (table c.before.before.before.before).long)
 
-abbrev at-write-reduced2 : lts.After-slice_known16 tie.the-claims reads.Pre reads.Post → lts.After-write_reduced2 tie.the-claims reads.Pre reads.Post
-at-write-reduced2 c = search
-
-abbrev at-known-told : lts.After-slice_known16 tie.the-claims reads.Pre reads.Post → lts.After-known_told tie.the-claims reads.Pre reads.Post
-at-known-told c = search
-
 pub returns : goal.returns
-returns c = let v = (at-write-reduced2 c.before).write-reduced2 in
-    let t = at-known-told c.before in
-    twice_accepted (wrote t).write-reduced.result (wrote t).write-reduced.ensures t.before.first.given.0.0 v.result t.before.first.given.1 v.ensures
+returns c = let v = c.write_reduced-second in
+    twice_accepted c.write_reduced-first.result c.write_reduced-first.ensures c.first-1.given.0.0 v.result c.first-1.given.1 v.ensures

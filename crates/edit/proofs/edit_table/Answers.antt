@@ -20,12 +20,9 @@ use Rattle.edit.proofs.edit_table.Lts as lts
 use Rattle.edit.proofs.edit_table.Reads as reads
 use Rattle.edit.proofs.edit_table.Tie as tie
 
-abbrev entry : lts.After-enum_told tie.the-claims reads.Pre reads.Post tie.handed_clauses → lts.Start tie.the-claims reads.Pre reads.Post tie.handed_clauses
-entry c = start c.before.before
-
 -- the memory is long enough
 enough : (c : lts.After-enum_told tie.the-claims reads.Pre reads.Post tie.handed_clauses)
-    → let a = (entry c).args in memory_answer Enough ≡ judge (memory_rows a.n (length a.marks.now) (length a.spare.now) (length a.classes.now)) []
+    → let a = c.args in memory_answer Enough ≡ judge (memory_rows a.n (length a.marks.now) (length a.spare.now) (length a.classes.now)) []
 enough c = ap memory_answer (sym c.enum_told-1.given.1) ∙ c.judge_memory-memory.ensures
 
 -- the table is there whole, and is the part that is lent
@@ -35,24 +32,20 @@ room s = let a = s.args in formed_room a.buffer.now a.n a.m s.requires
 part : (s : lts.Start tie.the-claims reads.Pre reads.Post tie.handed_clauses) → let a = s.args in take (table_length a.n a.m) a.buffer.now ≡ table_in a.buffer.now
 part s = let a = s.args in formed_part a.buffer.now a.n a.m s.requires
 
-abbrev told_at : lts.After-judge_edit tie.the-claims reads.Pre reads.Post tie.handed_clauses → lts.After-enum_told tie.the-claims reads.Pre reads.Post tie.handed_clauses
-told_at c = search
-
 -- what the scan found, in the table that begins the buffer
 scanned : (c : lts.After-scan_edges tie.the-claims reads.Pre reads.Post tie.handed_clauses)
-    → let a = (entry c.before.before).args in Scanned (table_in a.buffer.now) a.m a.source a.target c.scan_edges-scan.result
-scanned c = rw (part (entry c.before.before)) at c.scan_edges-scan.ensures
+    → let a = c.args in Scanned (table_in a.buffer.now) a.m a.source a.target c.scan_edges-scan.result
+scanned c = rw (part c.before.before.before.before.before.before.before.before.before) at c.scan_edges-scan.ensures
 
 -- what the judge said of the edit
 judged : (c : lts.After-judge_edit tie.the-claims reads.Pre reads.Post tie.handed_clauses)
-    → let a = (entry (told_at c)).args in
+    → let a = (entry c.before.before).args in
     acceptance_answer c.judge_edit-judged.result ≡ judge (edit_rows a.edit (table_in a.buffer.now) (length a.buffer.now) a.source a.target) []
 judged c =
-    let s = entry c.before.before.before in
-    c.judge_edit-judged.ensures ∙ ap (λ (rs : List Row). judge rs []) (scanned_rows s.pre _ _ (scanned c.before) (length s.args.buffer.now) s.args.edit)
+    c.judge_edit-judged.ensures ∙ ap (λ (rs : List Row). judge rs []) (scanned_rows c.requires _ _ (scanned c.before) (length c.args.buffer.now) c.args.edit)
 
 passed : (c : lts.After-enum_told2 tie.the-claims reads.Pre reads.Post tie.handed_clauses)
-    → let a = (entry (told_at c.before.before)).args in
+    → let a = (entry c.before.before.before.before).args in
     accepted [] ≡ judge (edit_rows a.edit (table_in a.buffer.now) (length a.buffer.now) a.source a.target) []
 passed c = ap acceptance_answer (sym c.enum_told-in_default-judged-1.given.1) ∙ judged c.before.before
 
@@ -63,35 +56,25 @@ pub returns-in-Short : goal.returns-in-Short
 returns-in-Short c = call_short _ _ _ _ _ _ _ _ _ c.requires _ (ap memory_answer (sym c.memory-1.given.1) ∙ c.judge_memory-memory.ensures)
 
 pub slice_bounds-scan_edges-end : goal.slice_bounds-scan_edges-end
-slice_bounds-scan_edges-end c = omega (arith, room (entry c.before))
+slice_bounds-scan_edges-end c = omega (arith, room c.before.before.before.before.before.before.before.before)
 
 pub slice_bounds-scan_edges-end-2 : goal.slice_bounds-scan_edges-end-2
-slice_bounds-scan_edges-end-2 c = sym (length-take-le _ _ (room (entry c.before.before)))
+slice_bounds-scan_edges-end-2 c = sym (length-take-le _ _ (room c.before.before.before.before.before.before.before.before.before))
 
 pub scan_edges-scan-requires : goal.scan_edges-scan-requires
-scan_edges-scan-requires c = let s = entry c.before.before in
-    let a = s.args in
-    subst (λ (g : List ℕ). Formed g a.n a.m) (sym (part s)) s.pre
+scan_edges-scan-requires c = let a = c.args in
+    subst (λ (g : List ℕ). Formed g a.n a.m) (sym (part c.before.before.before.before.before.before.before.before)) c.requires
 
 pub judge_edit-judged-requires : goal.judge_edit-judged-requires
-judge_edit-judged-requires c = let p = (entry c.before.before.before).requires in
+judge_edit-judged-requires c = let p = c.requires in
     (omega (arith, p.vertices, p.well.vertices), omega (arith, p.edges, p.well.edges))
 
 pub returns-in-Refused : goal.returns-in-Refused
-returns-in-Refused c = let t = told_at c.before.before.before.before in
-    call_judged _ _ _ _ _ _ _ _ _ (entry t).pre (enough t) _ (ap acceptance_answer (sym c.judged-1.given.1) ∙ judged c.before.before.before.before)
+returns-in-Refused c = call_judged _ _ _ _ _ _ _ _ _ c.requires (enough c.before.before.before.before.before.before) _ (ap acceptance_answer (sym c.judged-1.given.1) ∙ judged c.before.before.before.before)
 
 pub apply_edit-counts-requires : goal.apply_edit-counts-requires
-apply_edit-counts-requires c = let t = told_at c.before.before.before.before.before.before in
-    let s = entry t in
-    let a = s.args in
-    record { formed = (s.pre, call_fits (table_in a.buffer.now) _ _ _ s.pre (enough t)); copy_value = (scanned c.before.before.before.before.before.before.before).found; clean = passed_clean _ (passed c.before.before.before.before); }
-
-abbrev at-apply-edit : lts.After-slice_known8 tie.the-claims reads.Pre reads.Post tie.handed_clauses → lts.After-apply_edit tie.the-claims reads.Pre reads.Post tie.handed_clauses
-at-apply-edit c = search
+apply_edit-counts-requires c = let a = c.args in
+    record { formed = (c.requires, call_fits (table_in a.buffer.now) _ _ _ c.requires (enough c.before.before.before.before.before.before.before.before)); copy_value = (scanned c.before.before.before.before.before.before.before).found; clean = passed_clean _ (passed c.before.before.before.before); }
 
 pub returns : goal.returns
-returns c = let x = at-apply-edit c.before in
-    let u = x.before.before.before.before.before in
-    let t = told_at u.before.before in
-    call_done _ _ _ _ _ _ _ _ _ (entry t).pre (enough t) (passed_clean _ (passed u)) _ refl refl _ _ _ _ _ x.apply-edit.ensures
+returns c = call_done _ _ _ _ _ _ _ _ _ c.requires (enough c.before.before.before.before.before.before.before.before.before.before.before.before.before.before.before.before.before.before) (passed_clean _ (passed c.before.before.before.before.before.before.before.before.before.before.before.before.before.before)) _ refl refl _ _ _ _ _ c.apply_edit-counts.ensures

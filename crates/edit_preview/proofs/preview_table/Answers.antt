@@ -23,12 +23,9 @@ use Rattle.edit_preview.proofs.preview_table.Lts as lts
 use Rattle.edit_preview.proofs.preview_table.Reads as reads
 use Rattle.edit_preview.proofs.preview_table.Tie as tie
 
-abbrev entry : lts.After-enum_told tie.the-claims reads.Pre reads.Post tie.handed_clauses → lts.Start tie.the-claims reads.Pre reads.Post tie.handed_clauses
-entry c = start c.before.before
-
 -- the memory is long enough
 enough : (c : lts.After-enum_told tie.the-claims reads.Pre reads.Post tie.handed_clauses)
-    → let a = (entry c).args in memory_answer Enough ≡ judge (memory_rows a.n (length a.marks.now) (length a.spare.now) (length a.classes.now)) []
+    → let a = c.args in memory_answer Enough ≡ judge (memory_rows a.n (length a.marks.now) (length a.spare.now) (length a.classes.now)) []
 enough c = ap memory_answer (sym c.enum_told-1.given.1) ∙ c.judge_memory-memory.ensures
 
 -- the first table is there whole, and is the part that is judged
@@ -39,11 +36,8 @@ part : (s : lts.Start tie.the-claims reads.Pre reads.Post tie.handed_clauses) �
 part s = let a = s.args in formed_part a.game.now a.n a.m s.requires
 
 -- the second is long enough for it
-long : (c : lts.Else1 tie.the-claims reads.Pre reads.Post tie.handed_clauses) → let a = (entry c.before).args in table_length a.n a.m ≤ length a.table.now
+long : (c : lts.Else1 tie.the-claims reads.Pre reads.Post tie.handed_clauses) → let a = c.args in table_length a.n a.m ≤ length a.table.now
 long c = search rules
-
-abbrev else-at : lts.After-judge_edit tie.the-claims reads.Pre reads.Post tie.handed_clauses → lts.Else1 tie.the-claims reads.Pre reads.Post tie.handed_clauses
-else-at c = scan-at c.before
 
 -- what the scan found, in the table that begins the first buffer
 scanned : (c : lts.After-scan_edges tie.the-claims reads.Pre reads.Post tie.handed_clauses)
@@ -52,31 +46,24 @@ scanned c = rw (part (entry c.before.before.before)) at c.scan_edges-scan.ensure
 
 -- what the judge said of the edit
 judged : (c : lts.After-judge_edit tie.the-claims reads.Pre reads.Post tie.handed_clauses)
-    → let a = (entry (else-at c).before).args in
+    → let a = (entry c.before.before.before).args in
     acceptance_answer c.judge_edit-judged.result ≡ judge (edit_rows a.edit (table_in a.game.now) (length a.table.now) a.source a.target) []
 judged c =
-    let s = entry (else-at c).before in
-    let a = s.args in
+    let a = c.args in
     c.judge_edit-judged.ensures
-    ∙ ap (λ (rs : List Row). judge rs []) (scanned_rows s.pre _ _ (scanned c.before) (length a.table.now) a.edit)
+    ∙ ap (λ (rs : List Row). judge rs []) (scanned_rows c.requires _ _ (scanned c.before) (length a.table.now) a.edit)
 
 clean : (c : lts.After-enum_told2 tie.the-claims reads.Pre reads.Post tie.handed_clauses)
-    → let a = (entry (else-at c.before.before).before).args in
+    → let a = (entry c.before.before.before.before.before).args in
     Clean (edit_rows a.edit (table_in a.game.now) (length a.table.now) a.source a.target)
 clean c = passed_clean _ (ap acceptance_answer (sym c.enum_told-in_default-judged-1.given.1) ∙ judged c.before.before)
 
-abbrev long-at : lts.After-copy tie.the-claims reads.Pre reads.Post tie.handed_clauses → lts.Else1 tie.the-claims reads.Pre reads.Post tie.handed_clauses
-long-at c = else-at c.before.before.before.before
-
-abbrev begin : lts.After-copy tie.the-claims reads.Pre reads.Post tie.handed_clauses → lts.Start tie.the-claims reads.Pre reads.Post tie.handed_clauses
-begin c = entry (long-at c).before
-
 -- the first table begins the second
-same : (c : lts.After-copy tie.the-claims reads.Pre reads.Post tie.handed_clauses) → table_in c.copy.new.0 ≡ table_in (begin c).args.game.now
-same c = let s = begin c in copied_in s.args.game.now s.args.table.now s.pre c.copy.ensures
+same : (c : lts.After-copy tie.the-claims reads.Pre reads.Post tie.handed_clauses) → table_in c.copy.new.0 ≡ table_in c.args.game.now
+same c = copied_in c.args.game.now c.args.table.now c.requires c.copy.ensures
 
-same_size : (c : lts.After-copy tie.the-claims reads.Pre reads.Post tie.handed_clauses) → length c.copy.new.0 ≡ length (begin c).args.table.now
-same_size c = let s = begin c in copied_length s.args.game.now s.args.table.now s.pre c.copy.ensures (long (long-at c))
+same_size : (c : lts.After-copy tie.the-claims reads.Pre reads.Post tie.handed_clauses) → length c.copy.new.0 ≡ length c.args.table.now
+same_size c = copied_length c.args.game.now c.args.table.now c.requires c.copy.ensures (long c.before.before.before.before.before.before)
 
 pub judge_memory-memory-requires : goal.judge_memory-memory-requires
 judge_memory-memory-requires c = let p = c.requires in omega (arith, p.vertices, p.well.vertices)
@@ -85,50 +72,37 @@ pub returns-in-Short : goal.returns-in-Short
 returns-in-Short c = call_short _ _ _ _ _ _ _ _ _ c.requires _ (ap memory_answer (sym c.memory-1.given.1) ∙ c.judge_memory-memory.ensures)
 
 pub returns-then-len-size : goal.returns-then-len-size
-returns-then-len-size c = let s = entry c.before.before in
-    let a = s.args in
-    call_judged _ a.edit _ _ _ _ _ _ _ s.pre (enough c.before.before) (record { number = 24; place = table_length a.n a.m })
-    (table_short a.game.now a.table.now s.pre _ (search rules))
+returns-then-len-size c = let a = c.args in
+    call_judged _ a.edit _ _ _ _ _ _ _ c.requires (enough c.before.before) (record { number = 24; place = table_length a.n a.m })
+    (table_short a.game.now a.table.now c.requires _ (search rules))
 
 pub slice_bounds-scan_edges-end : goal.slice_bounds-scan_edges-end
-slice_bounds-scan_edges-end c = sym (length-take-le _ _ (room (entry c.before.before.before)))
+slice_bounds-scan_edges-end c = sym (length-take-le _ _ (room c.before.before.before.before.before.before.before.before.before.before.before))
 
 pub scan_edges-scan-requires : goal.scan_edges-scan-requires
-scan_edges-scan-requires c = let s = entry c.before.before.before in
-    let a = s.args in
-    subst (λ (g : List ℕ). Formed g a.n a.m) (sym (part s)) s.pre
+scan_edges-scan-requires c = let a = c.args in
+    subst (λ (g : List ℕ). Formed g a.n a.m) (sym (part c.before.before.before.before.before.before.before.before.before.before)) c.requires
 
 pub judge_edit-judged-requires : goal.judge_edit-judged-requires
-judge_edit-judged-requires c = let p = (entry c.before.before.before.before).requires in
+judge_edit-judged-requires c = let p = (entry c.before.before.before).requires in
     (omega (arith, p.vertices, p.well.vertices), omega (arith, p.edges, p.well.edges))
 
 pub returns-in-Refused : goal.returns-in-Refused
-returns-in-Refused c = let t = (else-at c.before.before.before.before).before in
-    let s = entry t in
-    let a = s.args in
-    call_judged _ a.edit _ _ _ _ _ _ _ s.pre (enough t) _
+returns-in-Refused c = let a = c.args in
+    call_judged _ a.edit _ _ _ _ _ _ _ c.requires (enough c.before.before.before.before.before.before.before) _
     (ap acceptance_answer (sym c.judged-1.given.1) ∙ judged c.before.before.before.before
-    ∙ sym (table_long a.game.now a.table.now s.pre _ (long (else-at c.before.before.before.before))))
+    ∙ sym (table_long a.game.now a.table.now c.requires _ (long c.before.before.before.before.before.before)))
 
 pub copy-requires : goal.copy-requires
-copy-requires c = let e = else-at c.before.before.before.before in
-    (omega (arith, long e), omega (arith, room (entry e.before)))
+copy-requires c = (omega (arith, long c.before.before.before.before.before), omega (arith, room c.before.before.before.before.before.before.before.before.before.before.before.before.before.before))
 
 pub apply_edit-counts-requires : goal.apply_edit-counts-requires
-apply_edit-counts-requires c = let s = begin c.before.before.before.before.before.before.before in
-    let a = s.args in
-    let fits = call_fits (table_in a.game.now) a.marks.now a.spare.now a.classes.now s.pre (enough (long-at c.before.before.before.before.before.before.before).before) in record { formed = subst (λ (g : List ℕ). Formed g a.n a.m × ClassesFit g a.marks.now a.spare.now a.classes.now) (sym (same c.before.before.before.before.before.before.before)) (s.pre, fits); copy_value = rw (same c.before.before.before.before.before.before.before) (scanned c.before.before.before.before.before.before.before.before.before.before.before.before).found; clean = rw (same c.before.before.before.before.before.before.before, same_size c.before.before.before.before.before.before.before) (clean c.before.before.before.before.before.before.before.before.before); }
-
-abbrev at-apply-edit : lts.After-slice_known9 tie.the-claims reads.Pre reads.Post tie.handed_clauses → lts.After-apply_edit tie.the-claims reads.Pre reads.Post tie.handed_clauses
-at-apply-edit c = search
+apply_edit-counts-requires c = let a = c.args in
+    let fits = call_fits (table_in a.game.now) a.marks.now a.spare.now a.classes.now c.requires (enough c.before.before.before.before.before.before.before.before.before.before.before.before.before) in record { formed = subst (λ (g : List ℕ). Formed g a.n a.m × ClassesFit g a.marks.now a.spare.now a.classes.now) (sym (same c.before.before.before.before.before.before)) (c.requires, fits); copy_value = rw (same c.before.before.before.before.before.before) (scanned c.before.before.before.before.before.before.before.before.before.before.before).found; clean = rw (same c.before.before.before.before.before.before, same_size c.before.before.before.before.before.before) (clean c.before.before.before.before.before.before.before.before); }
 
 pub returns : goal.returns
-returns c = let y = at-apply-edit c.before in
-    let x = y.before.before.before.before.before.before.before in
-    let s = begin x in
-    let a = s.args in
-    let t = (long-at x).before in
-    call_done _ a.edit _ _ _ _ _ _ _ s.pre (enough t)
-    (table_clean a.game.now a.table.now s.pre (edit_rows a.edit (table_in a.game.now) (length a.table.now) a.source a.target) (long (long-at x)) (clean (told_at x)))
-    x.copy.last.0 (same x) (copied_over a.game.now a.table.now s.pre x.copy.ensures a.edit a.source a.target)
-    _ _ _ _ _ y.apply-edit.ensures
+returns c = let a = c.args in
+    call_done _ a.edit _ _ _ _ _ _ _ c.requires (enough c.before.before.before.before.before.before.before.before.before.before.before.before.before.before.before.before.before.before.before.before.before.before.before)
+    (table_clean a.game.now a.table.now c.requires (edit_rows a.edit (table_in a.game.now) (length a.table.now) a.source a.target) (long c.before.before.before.before.before.before.before.before.before.before.before.before.before.before.before.before.before.before.before.before.before.before) (clean c.before.before.before.before.before.before.before.before.before.before.before.before.before.before.before.before.before.before))
+    c.copy.last.0 (same c.before.before.before.before.before.before.before.before.before.before.before.before.before.before.before.before) (copied_over a.game.now a.table.now c.requires c.copy.ensures a.edit a.source a.target)
+    _ _ _ _ _ c.apply_edit-counts.ensures

@@ -14,12 +14,9 @@ use Rattle.edit_replay.proofs.replay_table.Lts as lts
 use Rattle.edit_replay.proofs.replay_table.Reads as reads
 use Rattle.edit_replay.proofs.replay_table.Tie as tie
 
-abbrev entry : lts.After-enum_told tie.the-claims reads.Pre reads.Post tie.handed_clauses → lts.Start tie.the-claims reads.Pre reads.Post tie.handed_clauses
-entry c = start c.before.before
-
 -- the memory is long enough
 enough : (c : lts.After-enum_told tie.the-claims reads.Pre reads.Post tie.handed_clauses)
-    → let a = (entry c).args in memory_answer Enough ≡ judge (memory_rows a.n (length a.marks.now) (length a.spare.now) (length a.classes.now)) []
+    → let a = c.args in memory_answer Enough ≡ judge (memory_rows a.n (length a.marks.now) (length a.spare.now) (length a.classes.now)) []
 enough c = ap memory_answer (sym c.enum_told-1.given.1) ∙ c.judge_memory-memory.ensures
 
 -- the trace is as it should be
@@ -33,16 +30,10 @@ pub returns-in-Short : goal.returns-in-Short
 returns-in-Short c = start_short _ _ _ _ _ c.requires _ (ap memory_answer (sym c.memory-1.given.1) ∙ c.judge_memory-memory.ensures)
 
 pub returns-in-Refused : goal.returns-in-Refused
-returns-in-Refused c = start_unfit _ _ _ _ _ (entry c.before.before.before.before.before).requires (enough c.before.before.before.before.before) _ (ap acceptance_answer (sym c.judged-1.given.1) ∙ c.judge_trace-judged.ensures)
+returns-in-Refused c = start_unfit _ _ _ _ _ c.requires (enough c.before.before.before.before.before) _ (ap acceptance_answer (sym c.judged-1.given.1) ∙ c.judge_trace-judged.ensures)
 
 pub apply_trace-requires : goal.apply_trace-requires
-apply_trace-requires c = let s = entry c.before.before.before.before.before.before.before.before in
-    let a = s.args in record { formed = (s.pre, start_fits a.buffer.now a.trace.now _ _ _ s.pre (enough c.before.before.before.before.before.before.before.before)); clean = trace_passed a.buffer.now a.trace.now a.marks.now a.spare.now a.classes.now s.pre (enough c.before.before.before.before.before.before.before.before) (passed c.before.before.before.before.before); }
-
-abbrev at-apply-trace : lts.After-slice_known8 tie.the-claims reads.Pre reads.Post tie.handed_clauses → lts.After-apply_trace tie.the-claims reads.Pre reads.Post tie.handed_clauses
-at-apply-trace c = search
+apply_trace-requires c = let a = c.args in record { formed = (c.requires, start_fits a.buffer.now a.trace.now _ _ _ c.requires (enough c.before.before.before.before.before.before.before)); clean = trace_passed a.buffer.now a.trace.now a.marks.now a.spare.now a.classes.now c.requires (enough c.before.before.before.before.before.before.before) (passed c.before.before.before.before); }
 
 pub returns : goal.returns
-returns c = let x = at-apply-trace c.before in
-    let u = x.before.before.before.before.before in
-    start_done _ _ _ _ _ (entry (told_at u)).requires (enough (told_at u)) (passed u) x.apply-trace.ensures
+returns c = start_done _ _ _ _ _ (entry c.before.before.before.before.before.before.before.before.before.before.before.before.before.before.before.before.before).requires (enough c.before.before.before.before.before.before.before.before.before.before.before.before.before.before.before.before.before) (passed c.before.before.before.before.before.before.before.before.before.before.before.before.before.before) c.apply_trace.ensures

@@ -81,7 +81,7 @@ pub bounds-copies-next : goal.bounds-copies-next
 bounds-copies-next c = omega (arith, next_few c.before.before.before.before.before.before.before.before.before.before.before.before.before.before.before.before, c.requires.n_le_vertex_limit.3)
 
 pub step-requires : goal.step-requires
-step-requires c = ((few c.before.before.before.before.before.before.before.before.before.before.before.before.before.before.before.before).0, omega (arith, few c.before.before.before.before.before.before.before.before.before.before.before.before.before.before.before.before, c.requires.n_le_vertex_limit))
+step-requires c = ((few c.before.before.before.before.before.before.before.before.before.before.before.before.before.before.before).0, omega (arith, few c.before.before.before.before.before.before.before.before.before.before.before.before.before.before.before, c.requires.n_le_vertex_limit))
 
 pub overflow_cast-degrees : goal.overflow_cast-degrees
 overflow_cast-degrees c = let a = c.args in
@@ -96,7 +96,7 @@ pub bounds-degrees-s-2 : goal.bounds-degrees-s-2
 bounds-degrees-s-2 c = wide c.before.before.before.before.before.before.before.before.before.before.before.before.before.before.before.before.before
 
 pub step-requires-2 : goal.step-requires-2
-step-requires-2 c = (omega (arith, few c.before.before.before.before.before.before.before.before.before.before.before.before.before.before.before.before.before), c.requires.n_le_vertex_limit.1)
+step-requires-2 c = (omega (arith, few c.before.before.before.before.before.before.before.before.before.before.before.before.before.before.before.before), c.requires.n_le_vertex_limit.1)
 
 pub returns : goal.returns
 returns c = let p = c.requires in (

@@ -32,7 +32,7 @@ overflow_cast-links c = omega (arith, c.shared_slice_known-in-loop-x-2-1.given c
 pub put_pair-e-requires : goal.put_pair-e-requires
 put_pair-e-requires c = let l = c.loop-x in
     let p = c.requires in
-    (omega (arith, few c.before.before.before.before.before.before.before.before, l.inv.1, p.1, c.loop-x-test.true), omega (arith, few c.before.before.before.before.before.before.before.before, l.inv.2, p.1, c.loop-x-test.true), omega (arith, few c.before.before.before.before.before.before.before.before, p.0, c.loop-x-test.true))
+    (omega (arith, few c.before.before.before.before.before.before.before, l.inv.1, p.1, c.loop-x-test.true), omega (arith, few c.before.before.before.before.before.before.before, l.inv.2, p.1, c.loop-x-test.true), omega (arith, few c.before.before.before.before.before.before.before, p.0, c.loop-x-test.true))
 
 pub loop-x-preserved : goal.loop-x-preserved
 loop-x-preserved c = let l = c.loop-x in

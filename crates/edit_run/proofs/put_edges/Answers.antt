@@ -19,10 +19,10 @@ pub copy-requires : goal.copy-requires
 copy-requires c = (simp length-set (omega (arith, c.requires.n_value, c.requires.top_in_bounds)), c.requires.top_in_bounds.1)
 
 pub copy-requires-2 : goal.copy-requires-2
-copy-requires-2 c = (omega (arith, kept1 c.before.before.before.before, c.requires.n_value, c.requires.top_in_bounds), c.requires.top_in_bounds.2)
+copy-requires-2 c = (omega (arith, kept1 c.before.before.before, c.requires.n_value, c.requires.top_in_bounds), c.requires.top_in_bounds.2)
 
 pub fill-requires : goal.fill-requires
-fill-requires c = omega (arith, kept2 c.before.before.before.before, c.requires.n_value, c.requires.top_in_bounds)
+fill-requires c = omega (arith, kept2 c.before.before.before, c.requires.n_value, c.requires.top_in_bounds)
 
 pub shape_of-buffer : goal.shape_of-buffer
 shape_of-buffer c = c.fill.kept.0 ∙ kept2 c.before.before.before.before.before.before.before

@@ -17,12 +17,6 @@ use Rattle.edit_run.proofs.run_first.Lts as lts
 use Rattle.edit_run.proofs.run_first.Reads as reads
 use Rattle.edit_run.proofs.run_first.Tie as tie
 
-abbrev start : lts.After-gather_pairs tie.the-claims reads.Pre reads.Post tie.handed_clauses → lts.Start tie.the-claims reads.Pre reads.Post tie.handed_clauses
-start c = search
-
-abbrev gathered-at : lts.After-link_all tie.the-claims reads.Pre reads.Post tie.handed_clauses → lts.After-gather_pairs tie.the-claims reads.Pre reads.Post tie.handed_clauses
-gathered-at c = search
-
 -- the trace is as long as its count tells
 size : (s : lts.Start tie.the-claims reads.Pre reads.Post tie.handed_clauses) → length s.args.trace.now ≡ 1 + 2 * entry_count s.args.trace.now
 size s = trace_length s.args.trace.now s.requires.formed.1
@@ -42,33 +36,29 @@ small s = let f = s.requires.formed.0 in (omega (arith, f.vertices, f.well.verti
 
 -- the pairs that are gathered
 pairs : (c : lts.After-gather_pairs tie.the-claims reads.Pre reads.Post tie.handed_clauses)
-    → let a = (start c).args in
+    → let a = c.args in
     Pairs c.gather_pairs.new.1.1.1.1.1.0 c.gather_pairs.new.1.1.1.1.1.1.0 (a.m + a.k) a.n
 pairs c =
-    let s = start c in
     let r = length-replicate {A = ℕ} 8192 0 in
-    gathered_pairs s.pre.0.0 (omega (arith, high s, few s)) s.pre.1.0 c.gather_pairs.ensures
-    (omega (arith, r, c.gather_pairs.auto, high s, few s, small s)) (omega (arith, r, c.gather_pairs.auto, high s, few s, small s))
+    gathered_pairs c.requires.formed.0 (omega (arith, high c.before.before.before.before.before, few c.before.before.before.before.before)) c.requires.k_value.0 c.gather_pairs.ensures
+    (omega (arith, r, c.gather_pairs.auto, high c.before.before.before.before.before, few c.before.before.before.before.before, small c.before.before.before.before.before)) (omega (arith, r, c.gather_pairs.auto, high c.before.before.before.before.before, few c.before.before.before.before.before, small c.before.before.before.before.before))
 
 pub gather_pairs-requires : goal.gather_pairs-requires
-gather_pairs-requires c = let r = length-replicate {A = ℕ} 8192 0 in record { formed = (c.requires.formed.0, formed_room c.args.buffer.now c.args.n c.args.m c.requires.formed.0, high c.before.before.before.before.before); trace_len = (size c.before.before.before.before.before, few c.before.before.before.before.before, (small c.before.before.before.before.before).0, (small c.before.before.before.before.before).1); k_in_bounds = (omega (arith, r, high c.before.before.before.before.before, few c.before.before.before.before.before, small c.before.before.before.before.before), omega (arith, r, high c.before.before.before.before.before, few c.before.before.before.before.before, small c.before.before.before.before.before)); }
+gather_pairs-requires c = let r = length-replicate {A = ℕ} 8192 0 in record { formed = (c.requires.formed.0, formed_room c.args.buffer.now c.args.n c.args.m c.requires.formed.0, high c.before.before.before.before); trace_len = (size c.before.before.before.before, few c.before.before.before.before, (small c.before.before.before.before).0, (small c.before.before.before.before).1); k_in_bounds = (omega (arith, r, high c.before.before.before.before, few c.before.before.before.before, small c.before.before.before.before), omega (arith, r, high c.before.before.before.before, few c.before.before.before.before, small c.before.before.before.before)); }
 
 pub overflow_add-m : goal.overflow_add-m
 overflow_add-m c = omega (arith, high c.before.before.before.before.before.before.before.before.before.before, few c.before.before.before.before.before.before.before.before.before.before, small c.before.before.before.before.before.before.before.before.before.before)
 
 pub link_all-requires : goal.link_all-requires
-link_all-requires c = let s = start c.before.before.before.before.before.before.before.before in
-    let r = length-replicate {A = ℕ} 8192 0 in
+link_all-requires c = let r = length-replicate {A = ℕ} 8192 0 in
     let q = length-replicate {A = ℕ} 8193 0 in
-    let u = length-replicate {A = ℕ} 512 0 in record { pairs = (pairs c.before.before.before.before.before.before.before.before, omega arith, (small s).1, (small s).0); count_in_bounds = (omega (arith, r, high s, few s, small s), omega (arith, q, high s, few s, small s), omega (arith, u, small s)); by_index = (zeros 8193, zeros 512); }
+    let u = length-replicate {A = ℕ} 512 0 in record { pairs = (pairs c.before.before.before.before.before.before.before, omega arith, (small c.before.before.before.before.before.before.before.before.before.before.before.before).1, (small c.before.before.before.before.before.before.before.before.before.before.before.before).0); count_in_bounds = (omega (arith, r, high c.before.before.before.before.before.before.before.before.before.before.before.before, few c.before.before.before.before.before.before.before.before.before.before.before.before, small c.before.before.before.before.before.before.before.before.before.before.before.before), omega (arith, q, high c.before.before.before.before.before.before.before.before.before.before.before.before, few c.before.before.before.before.before.before.before.before.before.before.before.before, small c.before.before.before.before.before.before.before.before.before.before.before.before), omega (arith, u, small c.before.before.before.before.before.before.before.before.before.before.before.before)); by_index = (zeros 8193, zeros 512); }
 
 pub settle-requires : goal.settle-requires
-settle-requires c = let y = gathered-at c.before.before.before.before.before.before.before.before.before.before in
-    let s = start y in
-    let r = length-replicate {A = ℕ} 8192 0 in
+settle-requires c = let r = length-replicate {A = ℕ} 8192 0 in
     let q = length-replicate {A = ℕ} 8193 0 in
-    let u = length-replicate {A = ℕ} 512 0 in record { formed = (s.pre.0.0, s.pre.1.0, s.pre.1.1); trace_len = (size s, y.gather_pairs.ensures); pairs = (pairs y, c.link_all.ensures); k_in_bounds = (
-            omega (arith, r, c.link_all.kept, high s, few s, small s),
-            omega (arith, q, c.link_all.kept, high s, few s, small s),
-            omega (arith, u, c.link_all.kept, small s),
+    let u = length-replicate {A = ℕ} 512 0 in record { formed = (c.requires.formed.0, c.requires.k_value.0, c.requires.k_value.1); trace_len = (size c.before.before.before.before.before.before.before.before.before.before.before.before.before.before.before.before.before.before.before.before.before.before, c.gather_pairs.ensures); pairs = (pairs c.before.before.before.before.before.before.before.before.before.before.before.before.before.before.before.before.before, c.link_all.ensures); k_in_bounds = (
+            omega (arith, r, c.link_all.kept, high c.before.before.before.before.before.before.before.before.before.before.before.before.before.before.before.before.before.before.before.before.before.before, few c.before.before.before.before.before.before.before.before.before.before.before.before.before.before.before.before.before.before.before.before.before.before, small c.before.before.before.before.before.before.before.before.before.before.before.before.before.before.before.before.before.before.before.before.before.before),
+            omega (arith, q, c.link_all.kept, high c.before.before.before.before.before.before.before.before.before.before.before.before.before.before.before.before.before.before.before.before.before.before, few c.before.before.before.before.before.before.before.before.before.before.before.before.before.before.before.before.before.before.before.before.before.before, small c.before.before.before.before.before.before.before.before.before.before.before.before.before.before.before.before.before.before.before.before.before.before),
+            omega (arith, u, c.link_all.kept, small c.before.before.before.before.before.before.before.before.before.before.before.before.before.before.before.before.before.before.before.before.before.before),
           ); }

@@ -53,11 +53,7 @@ all_fits c =
     record { classes_fit = fits c.before.before.before; output_fit = omega (arith, p.vertices, p.edges, c.if-output-needed.false) }
 
 pub fill_memory-filled-requires : goal.fill_memory-filled-requires
-fill_memory-filled-requires c = all_fits c.before.before.before.before.before
-
-abbrev at-fill-memory : lts.After-counts tie.the-claims reads.Pre reads.Post → lts.After-fill_memory tie.the-claims reads.Pre reads.Post
-at-fill-memory c = search
+fill_memory-filled-requires c = all_fits c.before.before.before.before
 
 pub returns : goal.returns
-returns c = let x = at-fill-memory c.before in
-    table_written _ _ _ _ _ _ (all_fits x.before.before.before.before.before) _ _ _ _ _ _ x.fill-memory.ensures
+returns c = table_written _ _ _ _ _ _ (all_fits c.before.before.before.before.before.before.before.before.before.before.before.before.before.before.before) _ _ _ _ _ _ c.fill_memory-filled.ensures

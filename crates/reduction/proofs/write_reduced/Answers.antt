@@ -2,9 +2,6 @@
 use Rattle.reduction_edges.specs.Rows.{game_by}
 use Rattle.reduction.proofs.TableCallLaws.{sized, table_handed}
 use Rattle.reduction.proofs.write_reduced.Goals as goal
-use Rattle.reduction.proofs.write_reduced.Lts as lts
-use Rattle.reduction.proofs.write_reduced.Reads as reads
-use Rattle.reduction.proofs.write_reduced.Tie as tie
 
 pub returns-in_default : goal.returns-in_default
 returns-in_default c = let t = c.enum_told-1.given in
@@ -13,9 +10,6 @@ returns-in_default c = let t = c.enum_told-1.given in
 pub tabulate_classes-requires : goal.tabulate_classes-requires
 tabulate_classes-requires c = sized c.reading-1.given.1 c.read_sizes-reading.ensures
 
-abbrev at-tabulate-classes : lts.After-slice_known8 tie.the-claims reads.Pre reads.Post → lts.After-tabulate_classes tie.the-claims reads.Pre reads.Post
-at-tabulate-classes c = search
-
 pub returns : goal.returns
 unfolding game_by
-returns c = (at-tabulate-classes c.before).tabulate-classes.ensures
+returns c = c.tabulate_classes.ensures

@@ -2,9 +2,6 @@
 use native.Mathlib.Omega.{arith}
 use Rattle.reduction_totals.specs.CountingLaws.{table_vertices, table_long, classes_few, class_column_read, edge_column_read, totalled}
 use Rattle.reduction_totals.proofs.write_totals.Goals as goal
-use Rattle.reduction_totals.proofs.write_totals.Lts as lts
-use Rattle.reduction_totals.proofs.write_totals.Reads as reads
-use Rattle.reduction_totals.proofs.write_totals.Tie as tie
 
 pub bounds-reduced-0 : goal.bounds-reduced-0
 bounds-reduced-0 c = omega (arith, table_long c.requires.tabulated)
@@ -12,36 +9,24 @@ bounds-reduced-0 c = omega (arith, table_long c.requires.tabulated)
 pub overflow_cast-k : goal.overflow_cast-k
 overflow_cast-k c = omega (arith, classes_few c.requires.tabulated)
 
-abbrev at-start : lts.After-shared_slice_known6 tie.the-claims reads.Pre reads.Post tie.handed_clauses → lts.Start tie.the-claims reads.Pre reads.Post tie.handed_clauses
-at-start c = search
-
 pub bounds-reduced-1 : goal.bounds-reduced-1
-bounds-reduced-1 c = omega (arith, table_long (at-start c.before).requires.0)
+bounds-reduced-1 c = omega (arith, table_long c.requires.tabulated)
 
 pub overflow_cast-e : goal.overflow_cast-e
 overflow_cast-e c = omega (arith, c.shared_slice_known-6-1.given 1)
 
-abbrev at-start-from-tally-arg : lts.After-tally-arg tie.the-claims reads.Pre reads.Post tie.handed_clauses → lts.Start tie.the-claims reads.Pre reads.Post tie.handed_clauses
-at-start-from-tally-arg c = search
-
 pub tally-requires : goal.tally-requires
-tally-requires c = let p = (at-start-from-tally-arg c.before).requires in
+tally-requires c = let p = c.requires in
     record { column = class_column_read p.0; k_le_vertex_limit = (classes_few p.0, omega (arith, table_vertices p.0, p.1.0)); }
 
-abbrev at-start-from-slice-known3 : lts.After-slice_known3 tie.the-claims reads.Pre reads.Post tie.handed_clauses → lts.Start tie.the-claims reads.Pre reads.Post tie.handed_clauses
-at-start-from-slice-known3 c = search
-
 pub overflow_mul-k : goal.overflow_mul-k
-overflow_mul-k c = omega (arith, classes_few (at-start-from-slice-known3 c.before).requires.0)
+overflow_mul-k c = omega (arith, classes_few c.requires.tabulated)
 
 pub overflow_add-k : goal.overflow_add-k
-overflow_add-k c = omega (arith, classes_few (at-start-from-slice-known3 c.before).requires.0)
-
-abbrev at-start-from-tally-arg2 : lts.After-tally-arg2 tie.the-claims reads.Pre reads.Post tie.handed_clauses → lts.Start tie.the-claims reads.Pre reads.Post tie.handed_clauses
-at-start-from-tally-arg2 c = search
+overflow_add-k c = omega (arith, classes_few c.requires.tabulated)
 
 pub tally-requires-2 : goal.tally-requires-2
-tally-requires-2 c = let p = (at-start-from-tally-arg2 c.before).requires in
+tally-requires-2 c = let p = c.requires in
     record { column = edge_column_read p.0; k_le_vertex_limit = (classes_few p.0, omega (arith, table_vertices p.0, p.1.1)); }
 
 pub sum_of-requires : goal.sum_of-requires

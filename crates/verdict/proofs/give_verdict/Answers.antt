@@ -16,13 +16,6 @@ use Rattle.verdict.proofs.give_verdict.Lts as lts
 use Rattle.verdict.proofs.give_verdict.Reads as reads
 use Rattle.verdict.proofs.give_verdict.Tie as tie
 
-abbrev wrote : lts.After-slice_known8 tie.the-claims reads.Pre reads.Post → lts.After-tabulate_classes tie.the-claims reads.Pre reads.Post
-wrote c = search
-
--- where the reduction accepted
-abbrev there : lts.After-written tie.the-claims reads.Pre reads.Post → lts.After-tabulate_classes tie.the-claims reads.Pre reads.Post
-there c = wrote c.before.before
-
 -- what the reduction leaves
 table : (c : lts.After-tabulate_classes tie.the-claims reads.Pre reads.Post)
     → let a = (start (reader c.before.before.before.before.before.before.before.before)).args in
@@ -46,7 +39,7 @@ below c =
 
 -- the reduced game is within the limits
 small : (c : lts.After-written tie.the-claims reads.Pre reads.Post) → let k = c.written-1.given.0.0 in (k.vertices ≤ vertex_limit) × (k.edges ≤ edge_limit)
-small c = reduced_small (table (there c)) _ _ _ (ap tabulation_answer c.written-1.given.1)
+small c = reduced_small (table c.before.before.before.before.before.before.before.before.before.before) _ _ _ (ap tabulation_answer c.written-1.given.1)
 
 pub returns-in_default : goal.returns-in_default
 returns-in_default c = verdict_handed _ _ _ _ _ _ _ _ _ _ _ c.enum_told-1.given.1 c.read_sizes-reading.ensures c.refusal_of.ensures
@@ -56,7 +49,7 @@ returns-then-sizes-v c = verdict_beyond _ _ _ _ _ _ _ _ (well_clean _ (well c.be
     (omega (arith, c.if-sizes-v.true, (sizes c.before.before.before.before).vertices))
 
 pub tabulate_classes-written-requires : goal.tabulate_classes-written-requires
-tabulate_classes-written-requires c = sizes c.before.before.before.before.before.before.before.before
+tabulate_classes-written-requires c = sizes c.before.before.before.before.before.before.before
 
 pub overflow_mul-size : goal.overflow_mul-size
 overflow_mul-size c = omega (arith, small c.before.before.before)
@@ -71,30 +64,24 @@ pub overflow_add-size-in-Accepted-written : goal.overflow_add-size-in-Accepted-w
 overflow_add-size-in-Accepted-written c = omega (arith, small c.before.before.before.before)
 
 pub slice_bounds-judge_reduced-end : goal.slice_bounds-judge_reduced-end
-slice_bounds-judge_reduced-end c = reduced_long (table (there c.before.before.before.before)) _ _ _ (ap tabulation_answer c.written-1.given.1)
+slice_bounds-judge_reduced-end c = reduced_long (table c.before.before.before.before.before.before.before.before.before.before.before.before.before.before) _ _ _ (ap tabulation_answer c.written-1.given.1)
 
 pub slice_bounds-judge_reduced-end-in-Accepted-written : goal.slice_bounds-judge_reduced-end-in-Accepted-written
 slice_bounds-judge_reduced-end-in-Accepted-written c = sym (length-take-le _ _ (slice-reshare-prefix-judge-reduced c.before.before))
 
 pub offset_bounds-classes-v : goal.offset_bounds-classes-v
-offset_bounds-classes-v c = let e = else (there (known c.before.before)) in
-    omega (arith, below e, (well e.before.before.before).vertices)
+offset_bounds-classes-v c = omega (arith, below c.before.before.before.before.before.before.before.before.before.before.before.before.before.before.before.before.before.before.before.before, (well c.before.before.before.before.before.before.before.before.before.before.before.before.before.before.before.before.before.before.before.before.before.before.before).vertices)
 
 pub bounds-classes-v : goal.bounds-classes-v
-bounds-classes-v c = let w = there c.before.before.before.before.before.before in
-    omega (arith, below (else w), classes_long (table w) _ _ _ (ap tabulation_answer c.written-1.given.1))
+bounds-classes-v c = omega (arith, below c.before.before.before.before.before.before.before.before.before.before.before.before.before.before.before.before.before.before.before.before.before, classes_long (table c.before.before.before.before.before.before.before.before.before.before.before.before.before.before.before.before) _ _ _ (ap tabulation_answer c.written-1.given.1))
 
 pub judge_reduced-requires : goal.judge_reduced-requires
-judge_reduced-requires c = written_well (table (there c.before.before.before.before.before.before)) _ _ _ (ap tabulation_answer c.written-1.given.1)
+judge_reduced-requires c = written_well (table c.before.before.before.before.before.before.before.before.before.before.before.before.before.before.before) _ _ _ (ap tabulation_answer c.written-1.given.1)
 
 pub returns-in-Accepted-written : goal.returns-in-Accepted-written
-returns-in-Accepted-written c = let w = there c.before.before.before.before.before.before.before in
-    let e = else w in
-    verdict_judged _ _ _ _ _ _ _ _ (well_clean _ (well e.before.before.before)) (below e) (table w) _
+returns-in-Accepted-written c = verdict_judged _ _ _ _ _ _ _ _ (well_clean _ (well c.before.before.before.before.before.before.before.before.before.before.before.before.before.before.before.before.before.before.before.before.before.before.before.before.before)) (below c.before.before.before.before.before.before.before.before.before.before.before.before.before.before.before.before.before.before.before.before.before.before) (table c.before.before.before.before.before.before.before.before.before.before.before.before.before.before.before.before.before) _
     (ap tabulation_answer c.written-1.given.1) _ c.judge_reduced.ensures
 
 pub returns-in-Refused : goal.returns-in-Refused
-returns-in-Refused c = let w = wrote c.before.before.before.before in
-    let e = else w in
-    verdict_short _ _ _ _ _ _ _ _ (well_clean _ (well e.before.before.before)) (below e) (table w) _ _
+returns-in-Refused c = verdict_short _ _ _ _ _ _ _ _ (well_clean _ (well c.before.before.before.before.before.before.before.before.before.before.before.before.before.before.before.before.before.before.before.before)) (below c.before.before.before.before.before.before.before.before.before.before.before.before.before.before.before.before.before) (table c.before.before.before.before.before.before.before.before.before.before.before.before) _ _
     (ap tabulation_answer c.written-in-Refused-written-1.given.1)

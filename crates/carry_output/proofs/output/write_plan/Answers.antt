@@ -8,14 +8,11 @@ use Rattle.carry_output.proofs.output.write_plan.Lts as lts
 use Rattle.carry_output.proofs.output.write_plan.Reads as reads
 use Rattle.carry_output.proofs.output.write_plan.Tie as tie
 
-abbrev entry2 : lts.After-copy_part2 tie.the-claims reads.Pre reads.Post tie.handed_clauses → lts.Start tie.the-claims reads.Pre reads.Post tie.handed_clauses
-entry2 c = entry1 c.before.before.before.before
-
 -- the output keeps its length
 kept1 : (c : lts.After-copy_part tie.the-claims reads.Pre reads.Post tie.handed_clauses) → length c.copy_part.new.0 ≡ length c.args.output.now
 kept1 c = c.copy_part.auto.0 ∙ simp length-set
 
-kept2 : (c : lts.After-copy_part2 tie.the-claims reads.Pre reads.Post tie.handed_clauses) → length c.copy_part-2.new.0 ≡ length (entry2 c).args.output.now
+kept2 : (c : lts.After-copy_part2 tie.the-claims reads.Pre reads.Post tie.handed_clauses) → length c.copy_part-2.new.0 ≡ length c.args.output.now
 kept2 c = c.copy_part-2.auto.0 ∙ kept1 c.before.before.before.before
 
 pub bounds-output-1 : goal.bounds-output-1
@@ -25,11 +22,10 @@ pub copy_part-requires : goal.copy_part-requires
 copy_part-requires c = (simp length-set (omega (arith, c.requires.l_in_bounds)), omega (arith, c.requires.p_le_position_limit.0), omega (arith, c.requires.p_le_position_limit.2))
 
 pub copy_part-requires-2 : goal.copy_part-requires-2
-copy_part-requires-2 c = (omega (arith, kept1 c.before.before.before.before, c.requires.l_in_bounds), omega (arith, c.requires.p_le_position_limit.1), omega (arith, c.requires.p_le_position_limit.2))
+copy_part-requires-2 c = (omega (arith, kept1 c.before.before.before, c.requires.l_in_bounds), omega (arith, c.requires.p_le_position_limit.1), omega (arith, c.requires.p_le_position_limit.2))
 
 pub copy_part-requires-3 : goal.copy_part-requires-3
-copy_part-requires-3 c = let s = entry2 c.before.before.before.before in
-    (omega (arith, kept2 c.before.before.before.before, s.pre.1), omega (arith, s.pre.0.1), omega (arith, s.pre.0.2))
+copy_part-requires-3 c = (omega (arith, kept2 c.before.before.before, c.requires.l_in_bounds), omega (arith, c.requires.p_le_position_limit.1), omega (arith, c.requires.p_le_position_limit.2))
 
 pub shape_of-output : goal.shape_of-output
 shape_of-output c = c.copy_part-3.auto.0 ∙ kept2 c.before.before.before.before.before.before.before

@@ -17,24 +17,21 @@ use Rattle.carry_output.proofs.seats.fill_lowest.Lts as lts
 use Rattle.carry_output.proofs.seats.fill_lowest.Reads as reads
 use Rattle.carry_output.proofs.seats.fill_lowest.Tie as tie
 
-abbrev start : lts.At-loop reads.Pre reads.Post goal.the-invariant-loop-v goal.the-decreases-loop-v tie.handed_clauses → lts.Start reads.Pre reads.Post goal.the-invariant-loop-v goal.the-decreases-loop-v tie.handed_clauses
-start c = search
-
 -- the vertex before v has its class number
 word : (c : lts.In-loop reads.Pre reads.Post goal.the-invariant-loop-v goal.the-decreases-loop-v tie.handed_clauses)
-    → let a = (start c.before).args in
+    → let a = c.args in
     let v = c.loop-v.v - 1 in
     get_or a.classes.now v 0 ≡ class_number (vertex_count a.game.now) (order (game_of a.game.now)) v
 unfolding game_of
 word c =
-    (start c.before).pre.0.1.numbers (c.loop-v.v - 1) (omega (arith, c.loop-v.invariant.to, c.loop-v-test.true))
+    c.requires.well_formed.1.numbers (c.loop-v.v - 1) (omega (arith, c.loop-v.invariant.to, c.loop-v-test.true))
 
 -- and that is below n
 word_lt : (c : lts.In-loop reads.Pre reads.Post goal.the-invariant-loop-v goal.the-decreases-loop-v tie.handed_clauses)
-    → let a = (start c.before).args in get_or a.classes.now (c.loop-v.v - 1) 0 < vertex_count a.game.now
+    → let a = c.args in get_or a.classes.now (c.loop-v.v - 1) 0 < vertex_count a.game.now
 unfolding game_of
 word_lt c =
-    let G = game_of (start c.before).args.game.now in
+    let G = game_of c.args.game.now in
     let v = c.loop-v.v - 1 in
     omega (
       arith,
@@ -43,29 +40,29 @@ word_lt c =
       class_count_le G.n (order G) (order_preorder G),
     )
 
-room : (c : lts.At-loop reads.Pre reads.Post goal.the-invariant-loop-v goal.the-decreases-loop-v tie.handed_clauses) → vertex_count (start c).args.game.now ≤ length c.loop-v.reps
-room c = omega (arith, (start c).requires.1, c.loop-v.invariant.same)
+room : (c : lts.At-loop reads.Pre reads.Post goal.the-invariant-loop-v goal.the-decreases-loop-v tie.handed_clauses) → vertex_count c.args.game.now ≤ length c.loop-v.reps
+room c = omega (arith, c.requires.game_in_bounds, c.loop-v.invariant.same)
 
 pub loop-v-init : goal.loop-v-init
 unfolding game_of
 loop-v-init c = record { to = omega arith; same = refl; lowest = lowest_none _ _ (order_preorder (game_of c.args.game.now)) _ }
 
 pub offset_bounds-classes-v : goal.offset_bounds-classes-v
-offset_bounds-classes-v c = omega (arith, c.loop-v.invariant.to, (start c.before.before).requires.0.0.vertices)
+offset_bounds-classes-v c = omega (arith, c.loop-v.invariant.to, c.requires.well_formed.0.vertices)
 
 pub bounds-classes-v : goal.bounds-classes-v
 unfolding game_of
-bounds-classes-v c = let l : vertex_count (start c.before.before.before).args.game.now ≤ length (start c.before.before.before).args.classes.now = (start c.before.before.before).requires.0.1.long in
+bounds-classes-v c = let l : vertex_count c.args.game.now ≤ length c.args.classes.now = c.requires.well_formed.1.long in
     omega (arith, c.loop-v.invariant.to, l, c.loop-v-test.true)
 
 pub overflow_cast-c : goal.overflow_cast-c
-overflow_cast-c c = omega (arith, word_lt c.before.before, (start c.before.before.before).pre.0.0.vertices)
+overflow_cast-c c = omega (arith, word_lt c.before.before, c.requires.well_formed.0.vertices)
 
 pub overflow_cast-reps : goal.overflow_cast-reps
-overflow_cast-reps c = omega (arith, c.loop-v.invariant.to, (start c.before.before.before).requires.0.0.vertices)
+overflow_cast-reps c = omega (arith, c.loop-v.invariant.to, c.requires.well_formed.0.vertices)
 
 pub offset_bounds-reps-c : goal.offset_bounds-reps-c
-offset_bounds-reps-c c = omega (arith, word_lt c.before.before, (start c.before.before.before).pre.0.0.vertices)
+offset_bounds-reps-c c = omega (arith, word_lt c.before.before, c.requires.well_formed.0.vertices)
 
 pub bounds-reps-c : goal.bounds-reps-c
 bounds-reps-c c = omega (arith, word_lt c.before.before, room c.before.before.before)
@@ -74,7 +71,7 @@ pub loop-v-preserved : goal.loop-v-preserved
 unfolding game_of
 loop-v-preserved c = let i = c.loop-v.invariant in
     let h = c.loop-v-test.true in
-    let game = (start c.before.before.before).args.game.now in
+    let game = c.args.game.now in
     let le = order (game_of game) in
     let n = vertex_count game in
     let v : ℕ = c.loop-v.v - 1 in
@@ -93,4 +90,4 @@ shape_of-reps c = c.loop-v.invariant.same
 pub returns : goal.returns
 unfolding game_of
 returns c = let z : c.loop-v.v ≡ 0 = omega (arith, c.loop-v-test.false) in
-    lowest_all _ _ (order_preorder (game_of (start c.before.before).args.game.now)) _ (room c.before.before) (rw z at c.loop-v.invariant.lowest)
+    lowest_all _ _ (order_preorder (game_of c.args.game.now)) _ (room c.before.before) (rw z at c.loop-v.invariant.lowest)

@@ -6,9 +6,6 @@ use Rattle.plan_links.specs.PlanTable.{position_count}
 use Rattle.carry_output.specs.CarryParts.{Seats, Carriable}
 use Rattle.carry_output.specs.CarryPartsLaws.{length_part, seats_copied}
 use Rattle.carry_output.proofs.seats.seat_positions.Goals as goal
-use Rattle.carry_output.proofs.seats.seat_positions.Lts as lts
-use Rattle.carry_output.proofs.seats.seat_positions.Reads as reads
-use Rattle.carry_output.proofs.seats.seat_positions.Tie as tie
 
 pub seat_classes-requires : goal.seat_classes-requires
 seat_classes-requires c = record { carriable = subst (λ (b : Bool). Carriable b c.args.game.now c.args.plan.now c.args.classes.now) c.if-by_class.true c.requires.carriable; plan_in_bounds = c.requires.plan_in_bounds; }
@@ -16,14 +13,10 @@ seat_classes-requires c = record { carriable = subst (λ (b : Bool). Carriable b
 pub returns-then-by_class : goal.returns-then-by_class
 returns-then-by_class c = subst (λ (b : Bool). Seats b c.args.game.now c.args.plan.now c.seat_classes.new.1.1.1.0) (sym c.if-by_class.true) c.seat_classes.ensures
 
-abbrev at-start : lts.After-copy-arg2 tie.the-claims reads.Pre reads.Post tie.handed_clauses → lts.Start tie.the-claims reads.Pre reads.Post tie.handed_clauses
-at-start c = search
-
 pub copy-requires : goal.copy-requires
-copy-requires c = let s = at-start c.before in
-    let p = position_count s.args.plan.now in
-    let z = s.pre.0.formed.sized.size in
-    (omega (arith, s.pre.1), omega (arith, length_part s.args.plan.now p (omega (arith, z))))
+copy-requires c = let p = position_count c.args.plan.now in
+    let z = c.requires.carriable.formed.sized.size in
+    (omega (arith, c.requires.plan_in_bounds), omega (arith, length_part c.args.plan.now p (omega (arith, z))))
 
 pub returns : goal.returns
 returns c = subst (λ (b : Bool). Seats b c.args.game.now c.args.plan.now c.copy.new.0) (sym c.if-by_class.false) (seats_copied _ _ _ _ c.copy.ensures)

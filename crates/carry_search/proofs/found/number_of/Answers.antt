@@ -5,37 +5,30 @@ use Rattle.carry_search.specs.Work.{heads_at, nexts_at}
 use Rattle.carry_search.specs.WorkLaws.{ready_long}
 use Rattle.carry_search.specs.WalkLaws.{Along, along_start, along_room, along_hit, along_less, along_next, along_end}
 use Rattle.carry_search.proofs.found.number_of.Goals as goal
-use Rattle.carry_search.proofs.found.number_of.Lts as lts
-use Rattle.carry_search.proofs.found.number_of.Reads as reads
-use Rattle.carry_search.proofs.found.number_of.Tie as tie
-
-abbrev start : lts.After-chain_of tie.the-claims reads.Pre reads.Post goal.the-invariant-loop-c goal.the-decreases-loop-c → lts.Start tie.the-claims reads.Pre reads.Post goal.the-invariant-loop-c goal.the-decreases-loop-c
-start c = search
 
 pub chain_of-requires : goal.chain_of-requires
 chain_of-requires c = omega (arith, c.requires.0.few, c.requires.1)
 
 pub bounds-work-chain_of : goal.bounds-work-chain_of
-bounds-work-chain_of c = omega (arith, ready_long _ _ _ (start c.before.before).pre.0, c.chain_of.ensures.1)
+bounds-work-chain_of c = omega (arith, ready_long _ _ _ c.requires.0, c.chain_of.ensures.1)
 
 pub overflow_cast-c : goal.overflow_cast-c
 overflow_cast-c c = omega (arith, c.shared_slice_known-2-1.given (heads_at + c.chain_of.result))
 
 pub loop-c-init : goal.loop-c-init
-loop-c-init c = rw c.chain_of.ensures.0 (along_start _ _ _ (start c.before.before).pre.0 _ _)
+loop-c-init c = rw c.chain_of.ensures.0 (along_start _ _ _ c.requires.0 _ _)
 
 pub bounds-work-k : goal.bounds-work-k
-bounds-work-k c = let ready = (start c.before.before.before.before.before).pre.0 in
+bounds-work-k c = let ready = c.requires.0 in
     let l = c.loop-c in
     omega (arith, ready_long _ _ _ ready, along_room _ _ _ ready _ _ l.c c.loop-c-test.true l.invariant)
 
 pub returns-then-work-k : goal.returns-then-work-k
-returns-then-work-k c = let e = start c.before.before.before.before.before.before in
-    let l = c.loop-c in
-    along_hit _ _ _ e.pre.0 _ _ l.c c.loop-c-test.true l.invariant e.pre.1 c.if-work-k.true
+returns-then-work-k c = let l = c.loop-c in
+    along_hit _ _ _ c.requires.0 _ _ l.c c.loop-c-test.true l.invariant c.requires.1 c.if-work-k.true
 
 pub bounds-work-k-in-loop-c : goal.bounds-work-k-in-loop-c
-bounds-work-k-in-loop-c c = let ready = (start c.before.before.before.before.before.before.before).pre.0 in
+bounds-work-k-in-loop-c c = let ready = c.requires.0 in
     let l = c.loop-c in
     omega (arith, ready_long _ _ _ ready, along_room _ _ _ ready _ _ l.c c.loop-c-test.true l.invariant)
 
@@ -43,16 +36,13 @@ pub overflow_cast-c-in-loop-c : goal.overflow_cast-c-in-loop-c
 overflow_cast-c-in-loop-c c = omega (arith, c.shared_slice_known-in-loop-c-2-1.given (nexts_at + (c.loop-c.c - 1)))
 
 pub loop-c-smaller : goal.loop-c-smaller
-loop-c-smaller c = let e = start c.before.before.before.before.before.before.before in
-    let l = c.loop-c in
-    along_less _ _ _ e.pre.0 _ _ l.c c.loop-c-test.true l.invariant
+loop-c-smaller c = let l = c.loop-c in
+    along_less _ _ _ c.requires.0 _ _ l.c c.loop-c-test.true l.invariant
 
 pub loop-c-preserved : goal.loop-c-preserved
-loop-c-preserved c = let e = start c.before.before.before.before.before.before.before in
-    let l = c.loop-c in
-    along_next _ _ _ e.pre.0 _ _ l.c c.loop-c-test.true l.invariant c.if-work-k.false
+loop-c-preserved c = let l = c.loop-c in
+    along_next _ _ _ c.requires.0 _ _ l.c c.loop-c-test.true l.invariant c.if-work-k.false
 
 pub returns : goal.returns
-returns c = let e = start c.before.before.before.before in
-    let l = c.loop-c in
-    along_end _ _ _ e.pre.0 _ _ l.c c.loop-c-test.false l.invariant
+returns c = let l = c.loop-c in
+    along_end _ _ _ c.requires.0 _ _ l.c c.loop-c-test.false l.invariant

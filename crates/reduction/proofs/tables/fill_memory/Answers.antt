@@ -1,18 +1,12 @@
 -- What the rounds leave holds the order.
 use Rattle.classes.specs.OrderedMarksLaws.{ordered_done}
 use Rattle.reduction.proofs.tables.fill_memory.Goals as goal
-use Rattle.reduction.proofs.tables.fill_memory.Lts as lts
-use Rattle.reduction.proofs.tables.fill_memory.Reads as reads
-use Rattle.reduction.proofs.tables.fill_memory.Tie as tie
-
-abbrev start : lts.After-fill_order tie.the-claims reads.Pre reads.Post tie.handed_clauses → lts.Start tie.the-claims reads.Pre reads.Post tie.handed_clauses
-start c = search
 
 pub fill_order-passes-requires : goal.fill_order-passes-requires
 fill_order-passes-requires c = let f = c.requires.classes_fit.order_fits in record { well_formed = f.game; game_in_bounds = (f.marks_fit, f.spare_fit); }
 
 pub fill_table-counts-requires : goal.fill_table-counts-requires
-fill_table-counts-requires c = let f = (start c.before.before.before.before.before.before.before).pre in
+fill_table-counts-requires c = let f = c.requires in
     let g = f.classes_fit.order_fits in
     record { well_formed = (g.game, ordered_done g.marks_fit c.fill_order-passes.ensures); game_in_bounds = (f.classes_fit.words_fit, f.output_fit); }
 

@@ -16,13 +16,6 @@ use Rattle.reduction.proofs.tables.write_head.Lts as lts
 use Rattle.reduction.proofs.tables.write_head.Reads as reads
 use Rattle.reduction.proofs.tables.write_head.Tie as tie
 
--- the entry, from behind the priorities and the owners
-abbrev entry1 : lts.After-gather tie.the-claims reads.Pre reads.Post tie.handed_clauses → lts.Start tie.the-claims reads.Pre reads.Post tie.handed_clauses
-entry1 c = search
-
-abbrev entry2 : lts.After-gather2 tie.the-claims reads.Pre reads.Post tie.handed_clauses → lts.Start tie.the-claims reads.Pre reads.Post tie.handed_clauses
-entry2 c = search
-
 few : (s : lts.Start tie.the-claims reads.Pre reads.Post tie.handed_clauses) → s.args.k ≤ vertex_limit
 few s = omega (arith, s.requires.well_formed.2, classes_few s.args.game.now s.requires.well_formed.0)
 
@@ -32,10 +25,10 @@ unfolding game_of
 vertex s i h = (represented_lt (order_preorder (game_of s.args.game.now)) s.requires.well_formed.1 i (omega (arith, s.requires.well_formed.2))).1
 
 -- the output keeps its length
-kept1 : (c : lts.After-gather tie.the-claims reads.Pre reads.Post tie.handed_clauses) → length c.gather.new.0 ≡ length (entry1 c).args.output.now
+kept1 : (c : lts.After-gather tie.the-claims reads.Pre reads.Post tie.handed_clauses) → length c.gather.new.0 ≡ length c.args.output.now
 kept1 c = c.gather.auto.0 ∙ simp length-set
 
-kept2 : (c : lts.After-gather2 tie.the-claims reads.Pre reads.Post tie.handed_clauses) → length c.gather-2.new.0 ≡ length (entry2 c).args.output.now
+kept2 : (c : lts.After-gather2 tie.the-claims reads.Pre reads.Post tie.handed_clauses) → length c.gather-2.new.0 ≡ length c.args.output.now
 kept2 c = let g : lts.After-gather tie.the-claims reads.Pre reads.Post tie.handed_clauses = search in c.gather-2.auto.0 ∙ kept1 g
 
 pub overflow_cast-output : goal.overflow_cast-output
@@ -48,7 +41,7 @@ pub bounds-output-1 : goal.bounds-output-1
 bounds-output-1 c = simp length-set (omega (arith, c.requires.e_le_edge_limit.2.start))
 
 pub gather-requires : goal.gather-requires
-gather-requires c = record { count_in_bounds = (simp length-set (omega (arith, c.requires.e_le_edge_limit.2.start)), omega (arith, c.requires.well_formed.1.long, c.requires.well_formed.2)); by_index = λ i h. omega (arith, c.requires.well_formed.0.size, vertex c.before.before.before.before.before.before.before i h); }
+gather-requires c = record { count_in_bounds = (simp length-set (omega (arith, c.requires.e_le_edge_limit.2.start)), omega (arith, c.requires.well_formed.1.long, c.requires.well_formed.2)); by_index = λ i h. omega (arith, c.requires.well_formed.0.size, vertex c.before.before.before.before.before.before i h); }
 
 pub overflow_add-k : goal.overflow_add-k
 overflow_add-k c = omega (arith, few c.before.before.before.before.before.before.before.before.before.before.before)
@@ -57,8 +50,7 @@ pub overflow_add-n : goal.overflow_add-n
 overflow_add-n c = omega (arith, c.requires.well_formed.0.vertices)
 
 pub gather-requires-2 : goal.gather-requires-2
-gather-requires-2 c = let s = entry1 c.before.before.before.before in
-    record { count_in_bounds = (omega (arith, kept1 c.before.before.before.before, s.pre.1.2.start), omega (arith, s.pre.0.1.long, s.pre.0.2)); by_index = λ i h. omega (arith, s.pre.0.0.size, vertex s i h); }
+gather-requires-2 c = record { count_in_bounds = (omega (arith, kept1 c.before.before.before, c.requires.e_le_edge_limit.2.start), omega (arith, c.requires.well_formed.1.long, c.requires.well_formed.2)); by_index = λ i h. omega (arith, c.requires.well_formed.0.size, vertex c.before.before.before.before.before.before.before.before.before.before i h); }
 
 pub overflow_mul-k : goal.overflow_mul-k
 overflow_mul-k c = omega (arith, few c.before.before.before.before.before.before.before.before.before.before.before.before.before.before.before)
@@ -67,14 +59,12 @@ pub overflow_add-k-2 : goal.overflow_add-k-2
 overflow_add-k-2 c = omega (arith, few c.before.before.before.before.before.before.before.before.before.before.before.before.before.before.before)
 
 pub write_sources-requires : goal.write_sources-requires
-write_sources-requires c = let s = entry2 c.before.before.before.before in
-    (few s, s.pre.1.1, rw (kept2 c.before.before.before.before) s.pre.1.2)
+write_sources-requires c = (few c.before.before.before.before.before.before.before.before.before.before.before.before.before.before, c.requires.e_le_edge_limit.1, rw (kept2 c.before.before.before) c.requires.e_le_edge_limit.2)
 
 pub shape_of-output : goal.shape_of-output
 shape_of-output c = omega (arith, c.write_sources.kept, kept2 c.before.before.before.before.before.before.before)
 
 pub returns : goal.returns
 unfolding head_by
-returns c = let s = entry1 c.before.before.before.before.before.before.before.before.before.before.before in
-    head_parts _ _ _ _ _ _ _ _ _ _ (length_tabulate _ _) (length_tabulate _ _) s.pre.1.2.start
+returns c = head_parts _ _ _ _ _ _ _ _ _ _ (length_tabulate _ _) (length_tabulate _ _) c.requires.e_le_edge_limit.2.start
     refl c.gather.ensures c.gather-2.ensures c.write_sources.ensures

@@ -8,9 +8,6 @@ use Rattle.reduction.specs.Tables.{start_of, spread}
 use Rattle.reduction.proofs.SourcesLaws.{spread_none, start_more, count_more, spread_put}
 use Rattle.reduction.proofs.tables.write_sources.Given as goal
 
-abbrev pub start : tie.In-loop invariant-loop decreases-loop → tie.Start invariant-loop decreases-loop
-start c = search
-
 abbrev pub invariant-loop-c : goal.invariant-loop-c
 invariant-loop-c l = (l.c ≤ l.k) × (length l.output ≡ length l.initial.output) × (l.start ≡ start_of l.at l.stops l.c) × (l.start ≡ l.at + length (spread l.at l.stops l.c)) × (l.start ≤ length l.initial.output)
     × (l.output ≡ placed l.at (spread l.at l.stops l.c) l.initial.output)
