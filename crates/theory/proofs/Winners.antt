@@ -11,4 +11,5 @@ pub mod SameWinner
 pub mod RegionLaws
 pub mod AttractorLaws
 pub mod RegionPlanLaws
+pub mod Winner
 pub mod DeterminacyLaws

@@ -141,8 +141,9 @@ module _ (g : Game) where
 
   -- so it compares the classes of two vertices as the order of the game compares these
   pub reduced_compares : (v w : ℕ) → v < g.n → w < g.n → order (reduced g) (class_of g v) (class_of g w) ≡ order g v w
+  unfolding reduced class_game
   reduced_compares v w hv hw =
-      reduced_order (class_of g v) (class_of g w) (class_of_reduced g v hv) (class_of_reduced g w hw) ∙ So_ext
+      class_order (reduced_edge g (order g)) (reduced_enough g) (class_of g v) (class_of g w) (class_of_reduced g v hv) (class_of_reduced g w hw) ∙ So_ext
       (λ t. order_trans g v (low v) w hv (low_lt v hv) hw (up v hv) (order_trans g (low v) (low w) w (low_lt v hv) (low_lt w hw) hw t (down w hw)))
       (λ t. order_trans g (low v) v (low w) (low_lt v hv) hv (low_lt w hw) (down v hv) (order_trans g v w (low w) hv hw (low_lt w hw) t (up w hw)))
     where
