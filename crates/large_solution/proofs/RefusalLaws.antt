@@ -41,6 +41,7 @@ others k (q ∷ qs) = not (eqb q.number k) & others k qs
 
 never : (qs : List Rule) (k p : ℕ) → So (others k qs) → ¬ FirstRule qs k p
 unfolding others
+never [] k p o x = elim x [ ]
 never (q ∷ qs) k p o (here h e a) = eqb-false q.number k (not_out (and_out o).0) e
 never (q ∷ qs) k p o (later m f) = never qs k p (and_out o).1 f
 

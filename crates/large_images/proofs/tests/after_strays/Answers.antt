@@ -14,9 +14,8 @@ use Rattle.large_images.proofs.tests.after_strays.Reads as reads
 use Rattle.large_images.proofs.tests.after_strays.Tie as tie
 
 -- the row goes on
-goes : (c : lts.Else1 tie.the-claims reads.Pre reads.Post) → let at-start : lts.Start tie.the-claims reads.Pre reads.Post = search in
-    let a = at-start.args in So (goes_on a.reduced.now a.k a.q (image_at a.certificate.now a.n a.k a.j))
-goes c = sym c.goes_on.ensures ∙ not-false _ c.if-not-goes_on.false
+goes : (c : lts.Else1 tie.the-claims reads.Pre reads.Post) → let a = c.args in So (goes_on a.reduced.now a.k a.q (image_at a.certificate.now a.n a.k a.j))
+goes c = sym c.goes_on.ensures ∙ c.if-not-goes_on.false
 
 pub overflow_cast-e : goal.overflow_cast-e
 overflow_cast-e c = let a = c.args in
@@ -27,7 +26,7 @@ goes_on-requires c = (c.requires.1, c.requires.3.inside c.args.j c.requires.4)
 
 pub returns-then-not-goes_on : goal.returns-then-not-goes_on
 unfolding after_strays
-returns-then-not-goes_on c = sym (and_first _ (sym c.goes_on.ensures ∙ not_out c.if-not-goes_on.true))
+returns-then-not-goes_on c = sym (and_first _ (sym c.goes_on.ensures ∙ c.if-not-goes_on.true))
 
 pub overflow_cast-i : goal.overflow_cast-i
 overflow_cast-i c = let a = c.args in

@@ -93,11 +93,11 @@ bounds-game-w c = omega (arith, ends c.before.before.before.before.before.before
 
 pub returns-then-not-climbs_by : goal.returns-then-not-climbs_by
 unfolding edge_climbs ◌&◌
-returns-then-not-climbs_by c = rw (sym c.climbs_by.ensures ∙ not_out c.if-not-climbs_by.true)
+returns-then-not-climbs_by c = rw (sym c.climbs_by.ensures ∙ c.if-not-climbs_by.true)
 
 pub keeps_edge-requires : goal.keeps_edge-requires
 keeps_edge-requires c = (c.requires.0, (ends c.before.before.before.before.before.before.before.before.before.before.before.before.before.before).0)
 
 pub returns : goal.returns
 unfolding edge_climbs ◌&◌
-returns c = rw (sym c.climbs_by.ensures ∙ not-false _ c.if-not-climbs_by.false) c.keeps_edge.ensures
+returns c = rw (sym c.climbs_by.ensures ∙ c.if-not-climbs_by.false) c.keeps_edge.ensures
