@@ -1,16 +1,9 @@
 -- The rest of the search finds what the whole does.
-use mathlib.Core.Path.{◌≡◌, sym, ◌∙◌}
-use Prim.Native.Nat.{◌≤◌, ◌-◌}
-use native.Mathlib.Omega.{arith}
+use mathlib.Core.Path.{sym, ◌∙◌}
 use borrow.Author.Tests.{le-leb, lt-leb}
-use Rattle.theory.specs.Logic.Range.{first}
 use Rattle.theory.proofs.Logic.RangeLaws.{first_step, first_hit, first_end_lem}
-use Rattle.table.specs.Flags.{at_least}
 use Rattle.std.proofs.Common.{rules}
 use Rattle.large_table.proofs.first_at_least.Goals as goal
-
-pub overflow_cast-words : goal.overflow_cast-words
-overflow_cast-words c = omega (arith, c.shared_slice_known-1.given c.loop-k.k)
 
 pub returns-then-limit-words : goal.returns-then-limit-words
 returns-then-limit-words c = sym (c.loop-k.invariant.1 ∙ first_hit _ _ _ c.loop-k-test.true (le-leb _ _ c.if-limit-words.true))

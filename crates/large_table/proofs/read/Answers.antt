@@ -2,8 +2,7 @@
 use mathlib.Core.Path.{◌≡◌, sym, ap, ◌∙◌}
 use mathlib.Core.Bool.{not}
 use mathlib.Core.List.{List, [], ◌∷◌}
-use Prim.Native.Nat.{ℕ, ◌<◌}
-use native.Mathlib.Omega.{arith}
+use Prim.Native.Nat.{ℕ}
 use borrow.Author.Tests.{lt-ltb, le-ltb, eq-eqb, ne_eqb}
 use lib.ListN.{drop, length}
 use Rattle.table.specs.Table.{vertex_count, table_edges, table_length}
@@ -34,9 +33,6 @@ game4 c = game3 c.before.before
 
 abbrev game5 : lts.Else5 tie.the-claims reads.Pre reads.Post → List ℕ
 game5 c = game4 c.before.before
-
-narrow : (c : lts.Else2 tie.the-claims reads.Pre reads.Post) → (vertex_count (game2 c) < 4294967296) × (table_edges (game2 c) < 4294967296)
-narrow c = (omega (arith, c.shared_slice_known-2-1.given 0), omega (arith, c.shared_slice_known-3-1.given 1))
 
 size : (c : lts.Else3 tie.the-claims reads.Pre reads.Post) → length (game3 c) ≡ table_length (vertex_count (game3 c)) (table_edges (game3 c))
 size c = c.if-len-n.false
@@ -73,27 +69,9 @@ pub returns-then-len-lt2 : goal.returns-then-len-lt2
 unfolding large_answer large_rows
 returns-then-len-lt2 c = rw c.refused.ensures (sym (judge_hit _ _ _ (lt-ltb _ _ c.if-len-lt2.true)))
 
-pub overflow_cast-n : goal.overflow_cast-n
-overflow_cast-n c = omega (arith, c.shared_slice_known-2-1.given 0)
-
-pub overflow_cast-m : goal.overflow_cast-m
-overflow_cast-m c = omega (arith, c.shared_slice_known-3-1.given 1)
-
 pub returns-then-n-eq0 : goal.returns-then-n-eq0
 unfolding large_rows
 returns-then-n-eq0 c = rw c.refused-then-n-eq0.ensures (sym (clean1 c.before.before.before.before.before ∙ judge_hit _ _ _ (eq-eqb _ _ c.if-n-eq0.true)))
-
-pub overflow_mul-n : goal.overflow_mul-n
-overflow_mul-n c = omega (arith, narrow c.before)
-
-pub overflow_add-n : goal.overflow_add-n
-overflow_add-n c = omega (arith, narrow c.before)
-
-pub overflow_mul-m : goal.overflow_mul-m
-overflow_mul-m c = omega (arith, narrow c.before)
-
-pub overflow_add-n-2 : goal.overflow_add-n-2
-overflow_add-n-2 c = omega (arith, narrow c.before)
 
 pub returns-then-len-n : goal.returns-then-len-n
 unfolding large_rows

@@ -17,20 +17,12 @@ use Rattle.large_images.proofs.tests.after_strays.Tie as tie
 goes : (c : lts.Else1 tie.the-claims reads.Pre reads.Post) → let a = c.args in So (goes_on a.reduced.now a.k a.q (image_at a.certificate.now a.n a.k a.j))
 goes c = sym c.goes_on.ensures ∙ c.if-not-goes_on.false
 
-pub overflow_cast-e : goal.overflow_cast-e
-overflow_cast-e c = let a = c.args in
-    omega (arith, c.shared_slice_known-4-1.given (a.n + a.k + a.j))
-
 pub goes_on-requires : goal.goes_on-requires
 goes_on-requires c = (c.requires.1, c.requires.3.inside c.args.j c.requires.4)
 
 pub returns-then-not-goes_on : goal.returns-then-not-goes_on
 unfolding after_strays
 returns-then-not-goes_on c = sym (and_first _ (sym c.goes_on.ensures ∙ c.if-not-goes_on.true))
-
-pub overflow_cast-i : goal.overflow_cast-i
-overflow_cast-i c = let a = c.args in
-    omega (arith, c.shared_slice_known-5-1.given (a.n + a.k + a.m + a.j))
 
 pub returns-then-m-i : goal.returns-then-m-i
 unfolding after_strays
@@ -39,10 +31,6 @@ returns-then-m-i c = sym (and_in (goes c.before.before.before) (after_beyond _ _
 pub returns-then-game-n : goal.returns-then-game-n
 unfolding after_strays
 returns-then-game-n c = sym (and_in (goes c.before.before.before.before.before.before) (after_other _ _ _ _ _ _ c.if-game-n.true))
-
-pub overflow_cast-result : goal.overflow_cast-result
-overflow_cast-result c = let a = c.args in
-    omega (arith, c.shared_slice_known-8-1.given (a.n + a.k + get_or a.certificate.now (a.n + a.k + a.m + a.j) 0))
 
 pub overflow_add-result-3 : goal.overflow_add-result-3
 overflow_add-result-3 c = omega (arith, c.requires.1.size, c.requires.3.inside c.args.j c.requires.4)

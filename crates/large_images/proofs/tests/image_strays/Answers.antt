@@ -13,9 +13,6 @@ ends : (s : lts.Start reads.Pre reads.Post) → let a = s.args in
     (source_of a.game.now a.n a.j < a.n) × (target_of a.game.now a.n a.m a.j < a.n)
 ends s = (s.requires.0.sources s.args.j s.requires.4, s.requires.0.targets s.args.j s.requires.4)
 
-pub overflow_cast-e : goal.overflow_cast-e
-overflow_cast-e c = let a = c.args in omega (arith, c.shared_slice_known-1.given (a.n + a.k + a.j))
-
 pub returns-then-q-e : goal.returns-then-q-e
 unfolding image_strays ◌or◌
 returns-then-q-e c = rw (le-leb _ _ c.if-q-e.true)

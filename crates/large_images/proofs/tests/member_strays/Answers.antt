@@ -7,16 +7,9 @@ use Rattle.theory.specs.Logic.Bools.{◌or◌}
 use Rattle.large_images.specs.Images.{member_strays}
 use Rattle.large_images.proofs.tests.member_strays.Goals as goal
 
-pub overflow_cast-v : goal.overflow_cast-v
-overflow_cast-v c = let a = c.args in omega (arith, c.shared_slice_known-1.given (a.n + a.d))
-
 pub returns-then-n-v : goal.returns-then-n-v
 unfolding member_strays ◌or◌
 returns-then-n-v c = rw (le-leb _ _ c.if-n-v.true)
-
-pub overflow_cast-result : goal.overflow_cast-result
-overflow_cast-result c = let a = c.args in
-    omega (arith, c.shared_slice_known-2-1.given (get_or a.certificate.now (a.n + a.d) 0))
 
 pub returns : goal.returns
 unfolding member_strays ◌or◌

@@ -13,9 +13,6 @@ use Rattle.large_images.proofs.tests.owner_strays.Tie as tie
 class_lt : (s : lts.Start tie.the-claims reads.Pre reads.Post) → class_at s.args.classes.now s.args.v < s.args.k
 class_lt s = s.requires.2.inside s.args.v s.requires.6
 
-pub overflow_cast-d : goal.overflow_cast-d
-overflow_cast-d c = omega (arith, c.shared_slice_known-5-1.given c.args.v)
-
 pub overflow_add-k-2 : goal.overflow_add-k-2
 overflow_add-k-2 c = omega (arith, class_lt c.before.before.before.before.before.before.before)
 
@@ -28,10 +25,6 @@ bounds-reduced-k c = omega (arith, class_lt c.before.before.before.before.before
 pub returns-then-game-n : goal.returns-then-game-n
 unfolding owner_strays ◌&◌
 returns-then-game-n c = rw (eq-eqb _ _ c.if-game-n.true)
-
-pub overflow_cast-certificate : goal.overflow_cast-certificate
-overflow_cast-certificate c = let a = c.args in
-    omega (arith, c.shared_slice_known-9-1.given (a.n + a.k + get_or a.certificate.now a.v 0))
 
 pub goes_on-requires : goal.goes_on-requires
 goes_on-requires c = (c.requires.1, c.requires.4.inside (start_at c.args.certificate.now c.args.v) c.requires.5)

@@ -7,24 +7,13 @@ use Rattle.theory.specs.Logic.Bools.{◌or◌}
 use Rattle.large_images.specs.Images.{start_at, start_strays}
 use Rattle.large_images.proofs.tests.start_strays.Goals as goal
 
-pub overflow_cast-j : goal.overflow_cast-j
-overflow_cast-j c = omega (arith, c.shared_slice_known-4-1.given c.args.v)
-
 pub returns-then-m-j : goal.returns-then-m-j
 unfolding start_strays ◌or◌
 returns-then-m-j c = rw (le-leb _ _ c.if-m-j.true)
 
-pub overflow_cast-game : goal.overflow_cast-game
-overflow_cast-game c = let a = c.args in
-    omega (arith, c.shared_slice_known-5-1.given (2 + 2 * a.n + get_or a.certificate.now a.v 0))
-
 pub returns-then-game-n : goal.returns-then-game-n
 unfolding start_strays ◌or◌
 returns-then-game-n c = rw (lt-leb _ _ c.if-m-j.false, ne_eqb _ _ c.if-game-n.true)
-
-pub overflow_cast-certificate : goal.overflow_cast-certificate
-overflow_cast-certificate c = let a = c.args in
-    omega (arith, c.shared_slice_known-6-1.given (a.n + a.k + get_or a.certificate.now a.v 0))
 
 pub is_inner-requires : goal.is_inner-requires
 is_inner-requires c = (c.requires.1, c.requires.3.inside (start_at c.args.certificate.now c.args.v) c.if-m-j.false)

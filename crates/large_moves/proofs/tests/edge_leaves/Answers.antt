@@ -16,12 +16,6 @@ use Rattle.large_moves.proofs.tests.edge_leaves.Tie as tie
 ends : (s : lts.Start tie.the-claims reads.Pre reads.Post) → let a = s.args in (source_of a.game.now a.n a.j < a.n) × (target_of a.game.now a.n a.m a.j < a.n)
 ends s = (s.requires.0.game.sources s.args.j s.requires.1, s.requires.0.game.targets s.args.j s.requires.1)
 
-pub overflow_cast-v : goal.overflow_cast-v
-overflow_cast-v c = omega (arith, c.shared_slice_known-3-1.given (2 + 2 * c.args.n + c.args.j))
-
-pub overflow_cast-w : goal.overflow_cast-w
-overflow_cast-w c = omega (arith, c.shared_slice_known-4-1.given (2 + 2 * c.args.n + c.args.m + c.args.j))
-
 pub offset_bounds-solution-w : goal.offset_bounds-solution-w
 offset_bounds-solution-w c = omega (arith, ends c.before.before.before.before.before)
 

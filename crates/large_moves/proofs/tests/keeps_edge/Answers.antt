@@ -12,9 +12,6 @@ pub returns-then-solution-v : goal.returns-then-solution-v
 unfolding keeps_edge ◌or◌
 returns-then-solution-v c = rw (ne_eqb _ _ c.if-solution-v.true)
 
-pub overflow_cast-result : goal.overflow_cast-result
-overflow_cast-result c = let a = c.args in omega (arith, c.shared_slice_known-3-1.given (a.n + a.v))
-
 pub returns : goal.returns
 unfolding keeps_edge ◌or◌
 returns c = rw (eq-eqb _ _ c.if-solution-v.false)

@@ -11,9 +11,6 @@ use Rattle.large_reduction.proofs.tests.priority_differs.Reads as reads
 class_lt : (s : lts.Start reads.Pre reads.Post) → class_at s.args.classes.now s.args.v < s.args.k
 class_lt s = s.requires.2.inside s.args.v s.requires.3
 
-pub overflow_cast-d : goal.overflow_cast-d
-overflow_cast-d c = omega (arith, c.shared_slice_known-1.given c.args.v)
-
 pub overflow_add-result-2 : goal.overflow_add-result-2
 overflow_add-result-2 c = omega (arith, class_lt c.before.before.before)
 

@@ -12,9 +12,6 @@ use Rattle.large_solution.proofs.tests.is_misplaced.Reads as reads
 place : (s : lts.Start reads.Pre reads.Post) → place_at s.args.certificate.now s.args.v < s.args.n
 place s = s.requires.0.words s.args.v (omega arith)
 
-pub overflow_cast-i : goal.overflow_cast-i
-overflow_cast-i c = omega (arith, c.shared_slice_known-1.given c.args.v)
-
 pub overflow_add-result : goal.overflow_add-result
 overflow_add-result c = omega (arith, place c.before.before)
 
@@ -23,9 +20,6 @@ offset_bounds-certificate-n c = omega (arith, place c.before.before)
 
 pub bounds-certificate-n : goal.bounds-certificate-n
 bounds-certificate-n c = omega (arith, place c.before.before.before)
-
-pub overflow_cast-result : goal.overflow_cast-result
-overflow_cast-result c = let a = c.args in omega (arith, c.shared_slice_known-2-1.given (a.n + place_at a.certificate.now a.v))
 
 pub returns : goal.returns
 unfolding is_misplaced
