@@ -1,27 +1,23 @@
--- Invariant: the first i words are written, and the others are as before.
-use mathlib.Core.Path.{◌≡◌}
-use Prim.Native.Nat.{◌+◌, ◌*◌, ◌-◌, ◌≤◌}
-use native.Mathlib.Omega.{arith}
-use lib.ListN.{length, length-set}
-use Rattle.theory.specs.Logic.Range.{tabulate}
-use Rattle.table.specs.Answers.{written}
-use Rattle.table.specs.AnswersLaws.{written_start, written_more}
+-- Past the last byte all words are written.
+use Rattle.std.proofs.Common.{◌≡◌, arith, rules, length-set}
 use Rattle.theory.proofs.Logic.ListLaws.{length_tabulate}
+use Rattle.table.specs.AnswersLaws.{written_start, written_more}
 use Rattle.report_findings.specs.Words.{word_at, words_in, words_of}
 use Rattle.report_findings.specs.WordsLaws.{words_end}
-use Rattle.std.proofs.Common.{rules}
 use Rattle.report_findings.proofs.input_words.decode.Goals as goal
 
 pub loop-i-init : goal.loop-i-init
 loop-i-init c = (search rules, search rules, written_start _ _)
 
 pub loop-i-preserved : goal.loop-i-preserved
-loop-i-preserved c = let l = c.loop-i in
+loop-i-preserved c =
+    let l = c.loop-i in
     (search rules, simp length-set l.invariant.1, rw (l.invariant.2, c.word_at.ensures) (written_more _ l.i _ (omega arith)))
 
 pub returns : goal.returns
 unfolding words_of
-returns c = let l = c.loop-i in
+returns c =
+    let l = c.loop-i in
     let bytes = c.args.bytes.now in
     let e : l.i ≡ words_in bytes = words_end bytes l.i (omega arith) (omega arith) in
     (rw (length_tabulate (words_in bytes) (word_at bytes)) e, rw e at l.invariant.2)
