@@ -27,7 +27,7 @@ pub tabulate_classes-written-requires : goal.tabulate_classes-written-requires
 tabulate_classes-written-requires c = sized c.reading-1.given.1 c.read_sizes-reading.ensures
 
 pub carry_reduced-requires : goal.carry_reduced-requires
-carry_reduced-requires c = class_held (table c.before.before.before.before.before.before.before.before.before.before.before.before) _ (ap tabulation_answer c.written-1.given.1)
+carry_reduced-requires c = class_held (table c.before.before.before.before.before.before.before.before.before.before.before.before.before) _ (ap tabulation_answer c.written-1.given.1)
 
 pub returns-in-Accepted-written : goal.returns-in-Accepted-written
 returns-in-Accepted-written c = class_arrived _ _ _ _ _ _ _ _ _ (table c.before.before.before.before.before.before.before.before.before.before.before.before.before.before.before.before) _ (ap tabulation_answer c.written-1.given.1) _ _ c.carry_reduced.ensures

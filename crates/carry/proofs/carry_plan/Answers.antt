@@ -51,7 +51,7 @@ returns-in_default c = let t = c.enum_told-1.given in
     (carry_order _ _ _ _ _ _ _ _ _ (order_handed order_marks order_passes _ _ _ t.0.0 (rw t.1 at c.read_sizes-reading.ensures)).verdict)
 
 pub length_for-needed-requires : goal.length_for-needed-requires
-length_for-needed-requires c = let s = sized c.before in omega (arith, s.vertices, s.well.vertices)
+length_for-needed-requires c = let s = sized c.before.before in omega (arith, s.vertices, s.well.vertices)
 
 pub returns-then-marks-needed : goal.returns-then-marks-needed
 returns-then-marks-needed c = let n = needed c.before.before in
@@ -64,18 +64,18 @@ returns-then-spare-needed c = let n = needed c.before.before.before in
     (order_short_spare order_marks order_passes _ _ _ (sized c.before.before.before.before.before).well (rw n at c.if-marks-needed.false) (rw n at c.if-spare-needed.true)).verdict)
 
 pub judge_plan-judged-requires : goal.judge_plan-judged-requires
-judge_plan-judged-requires c = (fits c).game
+judge_plan-judged-requires c = (fits c.before).game
 
 pub returns-in-Refused : goal.returns-in-Refused
 returns-in-Refused c = carry_judged _ _ _ _ _ _ _ (fits c.before.before.before.before.before) _ _ (ap acceptance_answer (sym c.judged-1.given.1) ∙ c.judge_plan-judged.ensures)
 
 pub fill_order-requires : goal.fill_order-requires
-fill_order-requires c = let f = fits c.before.before.before.before.before in
+fill_order-requires c = let f = fits c.before.before.before.before.before.before in
     record { well_formed = f.game; game_in_bounds = (f.marks_fit, f.spare_fit); }
 
 pub carry_to-requires : goal.carry_to-requires
-carry_to-requires c = let o = fits c.before.before.before.before.before.before.before.before.before.before.before.before.before in
-    own_can _ _ _ o.game (ordered_done o.marks_fit c.fill_order.ensures) (passed c.before.before.before.before.before.before.before.before.before.before)
+carry_to-requires c = let o = fits c.before.before.before.before.before.before.before.before.before.before.before.before in
+    own_can _ _ _ o.game (ordered_done o.marks_fit c.fill_order.ensures) (passed c.before.before.before.before.before.before.before.before.before)
 
 pub returns : goal.returns
-returns c = carry_arrived _ _ _ _ _ _ _ (fits c.before.before.before.before.before.before.before.before.before.before.before.before.before.before.before.before.before) (passed c.before.before.before.before.before.before.before.before.before.before.before.before.before.before) _ _ _ c.fill_order.ensures _ _ c.carry_to.ensures
+returns c = carry_arrived _ _ _ _ _ _ _ (fits c.before.before.before.before.before.before.before.before.before.before.before.before.before.before.before) (passed c.before.before.before.before.before.before.before.before.before.before.before.before) _ _ _ c.fill_order.ensures _ _ c.carry_to.ensures

@@ -37,7 +37,7 @@ pub returns-in-Refused : goal.returns-in-Refused
 returns-in-Refused c = reduced_judged _ _ _ _ _ _ _ (ap acceptance_answer (sym c.judged-1.given.1) ∙ judged c.before.before.before.before)
 
 pub carry_to-carried-requires : goal.carry_to-carried-requires
-carry_to-carried-requires c = class_can _ _ _ c.requires.well c.requires.ordered c.requires.classed (passed c.before)
+carry_to-carried-requires c = class_can _ _ _ c.requires.well c.requires.ordered c.requires.classed (passed c.before.before)
 
 pub returns-in-Accepted : goal.returns-in-Accepted
 returns-in-Accepted c = reduced_accepted _ _ _ _ _ (passed c.before.before.before.before.before.before.before.before) _ _ _ (rw c.carried-1.given.1 at c.carry_to-carried.ensures) _ c.requires.totals

@@ -44,13 +44,13 @@ overflow_cast-x c = omega (arith, (seated c.before.before).inside 0 c.requires.0
 
 pub no_better-requires : goal.no_better-requires
 unfolding game_of
-no_better-requires c = ((seated c.before).inside 0 c.requires.0.formed.sized.some, c.if-n-y.false, c.requires.0.well.vertices, c.requires.1.long)
+no_better-requires c = ((seated c.before.before).inside 0 c.requires.0.formed.sized.some, c.if-n-y.false, c.requires.0.well.vertices, c.requires.1.long)
 
 pub returns-then-not-no_better : goal.returns-then-not-no_better
 returns-then-not-no_better c = arrives_not _ _ _ _ _ _ _ (seat c.before.before.before.before) c.if-n-y.false (sym (told c.before.before) ∙ not-true c.no_better.result c.if-not-no_better.true)
 
 pub carry_seated-requires : goal.carry_seated-requires
-carry_seated-requires c = record { seated = seated c.before.before.before.before.before; y_bound = c.if-n-y.false; }
+carry_seated-requires c = record { seated = seated c.before.before.before.before.before.before; y_bound = c.if-n-y.false; }
 
 pub returns : goal.returns
 returns c = arrives _ _ _ _ _ _ _ c.requires.0.well c.seat_positions.ensures c.if-n-y.false (rw (seat c.before.before.before.before.before.before.before.before.before) at (sym (told c.before.before.before.before.before.before.before) ∙ not-false c.no_better.result c.if-not-no_better.false)) _ _

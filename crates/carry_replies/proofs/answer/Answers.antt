@@ -31,7 +31,7 @@ pub overflow_cast-seats : goal.overflow_cast-seats
 overflow_cast-seats c = omega (arith, seat_lt c.before.before.before.before.before.before.before.before.before, c.requires.linked.board.well.vertices)
 
 pub owns-lone-requires : goal.owns-lone-requires
-owns-lone-requires c = (c.requires.linked.board.well, c.requires.linked.board.number, seat_lt c.before.before.before.before.before.before.before.before)
+owns-lone-requires c = (c.requires.linked.board.well, c.requires.linked.board.number, seat_lt c.before.before.before.before.before.before.before.before.before)
 
 pub overflow_cast-k : goal.overflow_cast-k
 overflow_cast-k c = omega (arith, c.shared_slice_known-9-1.given c.args.i)

@@ -31,7 +31,7 @@ overflow_cast-seats c = omega (arith, seat_lt c.before.before.before.before.befo
 
 pub no_better-requires : goal.no_better-requires
 unfolding game_of
-no_better-requires c = (seat_lt c.before.before.before.before.before.before.before.before.before, c.requires.k_bound.1, c.requires.seated.well.vertices, c.requires.seated.ordered.long)
+no_better-requires c = (seat_lt c.before.before.before.before.before.before.before.before.before.before, c.requires.k_bound.1, c.requires.seated.well.vertices, c.requires.seated.ordered.long)
 
 pub returns : goal.returns
 returns c = c.no_better.ensures ∙ needed_is _ _ _ c.requires.seated.ordered _ _ (seat_lt c.before.before.before.before.before.before.before.before.before.before.before) c.requires.k_bound.1

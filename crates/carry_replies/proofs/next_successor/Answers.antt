@@ -24,7 +24,7 @@ pub overflow_add-base-2 : goal.overflow_add-base-2
 overflow_add-base-2 c = omega (arith, inside c.before)
 
 pub next_member-requires : goal.next_member-requires
-next_member-requires c = (omega (arith, c.requires.1), omega (arith, inside c, c.requires.3), omega (arith, inside c))
+next_member-requires c = (omega (arith, c.requires.1), omega (arith, inside c.before, c.requires.3), omega (arith, inside c.before))
 
 -- the member is that of the row, the start of the row later
 found : (c : lts.After-next_member tie.the-claims reads.Pre reads.Post) → let a = c.args in c.next_member.result ≡ a.u * a.n + first (flagged a.n a.edges.now a.u) a.from a.n

@@ -46,7 +46,7 @@ returns-then-most-links c = let l = c.loop-w in
 
 pub step-more-requires : goal.step-more-requires
 step-more-requires c = let x = c.requires.expandable in
-    let b = most_within _ _ _ _ _ (most c.before.before.before.before) x.within.few_links in
+    let b = most_within _ _ _ _ _ (most c.before.before.before.before.before) x.within.few_links in
     let within : Within c.loop-w.pairs c.loop-w.links = record { few_pairs = c.if-pairs-gt-POSITIONS.false; few_links = omega (arith, c.if-most-links.false, b) } in record { readable = c.requires.readable; search_room = (c.loop-w.invariant.2.ready, within, omega (arith, x.within.few_pairs, x.found)); i_bound = (x.inside.old_lt, x.inside.new_lt, c.loop-w-test.true); }
 
 pub overflow_add-w : goal.overflow_add-w

@@ -34,7 +34,7 @@ pub slice_bounds-write_reduced-end : goal.slice_bounds-write_reduced-end
 slice_bounds-write_reduced-end c = let h = table c.before.before.before in omega (arith, h.long)
 
 pub slice_bounds-write_reduced-end-2 : goal.slice_bounds-write_reduced-end-2
-slice_bounds-write_reduced-end-2 c = sym (length-take-le _ _ (table c.before.before.before.before).long)
+slice_bounds-write_reduced-end-2 c = sym (length-take-le _ _ (table c.before.before.before).long)
 
 pub returns : goal.returns
 returns c = let v = c.write_reduced-second in

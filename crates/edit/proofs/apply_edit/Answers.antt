@@ -49,12 +49,12 @@ pub slice_bounds-fill_memory-end : goal.slice_bounds-fill_memory-end
 slice_bounds-fill_memory-end c = omega (arith, room c.before.before.before)
 
 pub slice_bounds-fill_memory-end-2 : goal.slice_bounds-fill_memory-end-2
-slice_bounds-fill_memory-end-2 c = sym (length-take-le _ _ (room c.before.before.before.before))
+slice_bounds-fill_memory-end-2 c = sym (length-take-le _ _ (room c.before.before.before))
 
 pub fill_memory-k-requires : goal.fill_memory-k-requires
 fill_memory-k-requires c = let a = c.args in
-    subst (λ (g : List ℕ). ClassesFit g a.marks.now a.spare.now a.classes.now × (a.n ≡ vertex_count g)) (sym (part c.before.before.before.before.before.before))
-    (made_fits a.edit a.buffer.now a.source a.target c.requires.formed.0 c.requires.clean c.requires.formed.1, vertices c.before.before.before.before.before.before)
+    subst (λ (g : List ℕ). ClassesFit g a.marks.now a.spare.now a.classes.now × (a.n ≡ vertex_count g)) (sym (part c.before.before.before.before.before))
+    (made_fits a.edit a.buffer.now a.source a.target c.requires.formed.0 c.requires.clean c.requires.formed.1, vertices c.before.before.before.before.before)
 
 pub returns : goal.returns
-returns c = record { made = c.make_edit-edges.ensures; vertices = vertices c.before.before.before.before.before.before.before.before.before.before.before.before.before.before; memory = rw (part c.before.before.before.before.before.before.before.before.before.before.before.before.before.before) at c.fill_memory-k.ensures }
+returns c = record { made = c.make_edit-edges.ensures; vertices = vertices c.before.before.before.before.before.before.before.before.before.before.before.before.before; memory = rw (part c.before.before.before.before.before.before.before.before.before.before.before.before.before) at c.fill_memory-k.ensures }

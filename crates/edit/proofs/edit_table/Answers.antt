@@ -35,7 +35,7 @@ part s = let a = s.args in formed_part a.buffer.now a.n a.m s.requires
 -- what the scan found, in the table that begins the buffer
 scanned : (c : lts.After-scan_edges tie.the-claims reads.Pre reads.Post tie.handed_clauses)
     → let a = c.args in Scanned (table_in a.buffer.now) a.m a.source a.target c.scan_edges-scan.result
-scanned c = rw (part c.before.before.before.before.before.before.before.before.before) at c.scan_edges-scan.ensures
+scanned c = rw (part c.before.before.before.before.before.before.before.before) at c.scan_edges-scan.ensures
 
 -- what the judge said of the edit
 judged : (c : lts.After-judge_edit tie.the-claims reads.Pre reads.Post tie.handed_clauses)
@@ -59,7 +59,7 @@ pub slice_bounds-scan_edges-end : goal.slice_bounds-scan_edges-end
 slice_bounds-scan_edges-end c = omega (arith, room c.before.before.before.before.before.before.before.before)
 
 pub slice_bounds-scan_edges-end-2 : goal.slice_bounds-scan_edges-end-2
-slice_bounds-scan_edges-end-2 c = sym (length-take-le _ _ (room c.before.before.before.before.before.before.before.before.before))
+slice_bounds-scan_edges-end-2 c = sym (length-take-le _ _ (room c.before.before.before.before.before.before.before.before))
 
 pub scan_edges-scan-requires : goal.scan_edges-scan-requires
 scan_edges-scan-requires c = let a = c.args in

@@ -77,14 +77,14 @@ returns-then-len-size c = let a = c.args in
     (table_short a.game.now a.table.now c.requires _ (search rules))
 
 pub slice_bounds-scan_edges-end : goal.slice_bounds-scan_edges-end
-slice_bounds-scan_edges-end c = sym (length-take-le _ _ (room c.before.before.before.before.before.before.before.before.before.before.before))
+slice_bounds-scan_edges-end c = sym (length-take-le _ _ (room c.before.before.before.before.before.before.before.before.before.before))
 
 pub scan_edges-scan-requires : goal.scan_edges-scan-requires
 scan_edges-scan-requires c = let a = c.args in
     subst (λ (g : List ℕ). Formed g a.n a.m) (sym (part c.before.before.before.before.before.before.before.before.before.before)) c.requires
 
 pub judge_edit-judged-requires : goal.judge_edit-judged-requires
-judge_edit-judged-requires c = let p = (entry c.before.before.before).requires in
+judge_edit-judged-requires c = let p = (entry c.before.before.before.before).requires in
     (omega (arith, p.vertices, p.well.vertices), omega (arith, p.edges, p.well.edges))
 
 pub returns-in-Refused : goal.returns-in-Refused
@@ -94,11 +94,11 @@ returns-in-Refused c = let a = c.args in
     ∙ sym (table_long a.game.now a.table.now c.requires _ (long c.before.before.before.before.before.before)))
 
 pub copy-requires : goal.copy-requires
-copy-requires c = (omega (arith, long c.before.before.before.before.before), omega (arith, room c.before.before.before.before.before.before.before.before.before.before.before.before.before.before))
+copy-requires c = (omega (arith, long c.before.before.before.before.before.before), omega (arith, room c.before.before.before.before.before.before.before.before.before.before.before.before.before.before.before))
 
 pub apply_edit-counts-requires : goal.apply_edit-counts-requires
 apply_edit-counts-requires c = let a = c.args in
-    let fits = call_fits (table_in a.game.now) a.marks.now a.spare.now a.classes.now c.requires (enough c.before.before.before.before.before.before.before.before.before.before.before.before.before) in record { formed = subst (λ (g : List ℕ). Formed g a.n a.m × ClassesFit g a.marks.now a.spare.now a.classes.now) (sym (same c.before.before.before.before.before.before)) (c.requires, fits); copy_value = rw (same c.before.before.before.before.before.before) (scanned c.before.before.before.before.before.before.before.before.before.before.before).found; clean = rw (same c.before.before.before.before.before.before, same_size c.before.before.before.before.before.before) (clean c.before.before.before.before.before.before.before.before); }
+    let fits = call_fits (table_in a.game.now) a.marks.now a.spare.now a.classes.now c.requires (enough c.before.before.before.before.before.before.before.before.before.before.before.before.before.before) in record { formed = subst (λ (g : List ℕ). Formed g a.n a.m × ClassesFit g a.marks.now a.spare.now a.classes.now) (sym (same c.before.before.before.before.before.before.before)) (c.requires, fits); copy_value = rw (same c.before.before.before.before.before.before.before) (scanned c.before.before.before.before.before.before.before.before.before.before.before.before).found; clean = rw (same c.before.before.before.before.before.before.before, same_size c.before.before.before.before.before.before.before) (clean c.before.before.before.before.before.before.before.before.before); }
 
 pub returns : goal.returns
 returns c = let a = c.args in

@@ -49,7 +49,7 @@ returns-then-sizes-v c = verdict_beyond _ _ _ _ _ _ _ _ (well_clean _ (well c.be
     (omega (arith, c.if-sizes-v.true, (sizes c.before.before.before.before).vertices))
 
 pub tabulate_classes-written-requires : goal.tabulate_classes-written-requires
-tabulate_classes-written-requires c = sizes c.before.before.before.before.before.before.before
+tabulate_classes-written-requires c = sizes c.before.before.before.before.before.before.before.before
 
 pub overflow_mul-size : goal.overflow_mul-size
 overflow_mul-size c = omega (arith, small c.before.before.before)
@@ -70,16 +70,16 @@ pub slice_bounds-judge_reduced-end-in-Accepted-written : goal.slice_bounds-judge
 slice_bounds-judge_reduced-end-in-Accepted-written c = sym (length-take-le _ _ (slice-reshare-prefix-judge-reduced c.before.before))
 
 pub offset_bounds-classes-v : goal.offset_bounds-classes-v
-offset_bounds-classes-v c = omega (arith, below c.before.before.before.before.before.before.before.before.before.before.before.before.before.before.before.before.before.before.before.before, (well c.before.before.before.before.before.before.before.before.before.before.before.before.before.before.before.before.before.before.before.before.before.before.before).vertices)
+offset_bounds-classes-v c = omega (arith, below c.before.before.before.before.before.before.before.before.before.before.before.before.before.before.before.before.before.before.before, (well c.before.before.before.before.before.before.before.before.before.before.before.before.before.before.before.before.before.before.before.before.before.before).vertices)
 
 pub bounds-classes-v : goal.bounds-classes-v
-bounds-classes-v c = omega (arith, below c.before.before.before.before.before.before.before.before.before.before.before.before.before.before.before.before.before.before.before.before.before, classes_long (table c.before.before.before.before.before.before.before.before.before.before.before.before.before.before.before.before) _ _ _ (ap tabulation_answer c.written-1.given.1))
+bounds-classes-v c = omega (arith, below c.before.before.before.before.before.before.before.before.before.before.before.before.before.before.before.before.before.before.before.before, classes_long (table c.before.before.before.before.before.before.before.before.before.before.before.before.before.before.before) _ _ _ (ap tabulation_answer c.written-1.given.1))
 
 pub judge_reduced-requires : goal.judge_reduced-requires
 judge_reduced-requires c = written_well (table c.before.before.before.before.before.before.before.before.before.before.before.before.before.before.before) _ _ _ (ap tabulation_answer c.written-1.given.1)
 
 pub returns-in-Accepted-written : goal.returns-in-Accepted-written
-returns-in-Accepted-written c = verdict_judged _ _ _ _ _ _ _ _ (well_clean _ (well c.before.before.before.before.before.before.before.before.before.before.before.before.before.before.before.before.before.before.before.before.before.before.before.before.before)) (below c.before.before.before.before.before.before.before.before.before.before.before.before.before.before.before.before.before.before.before.before.before.before) (table c.before.before.before.before.before.before.before.before.before.before.before.before.before.before.before.before.before) _
+returns-in-Accepted-written c = verdict_judged _ _ _ _ _ _ _ _ (well_clean _ (well c.before.before.before.before.before.before.before.before.before.before.before.before.before.before.before.before.before.before.before.before.before.before.before.before)) (below c.before.before.before.before.before.before.before.before.before.before.before.before.before.before.before.before.before.before.before.before.before) (table c.before.before.before.before.before.before.before.before.before.before.before.before.before.before.before.before) _
     (ap tabulation_answer c.written-1.given.1) _ c.judge_reduced.ensures
 
 pub returns-in-Refused : goal.returns-in-Refused

@@ -22,10 +22,10 @@ pub copy_part-requires : goal.copy_part-requires
 copy_part-requires c = (simp length-set (omega (arith, c.requires.l_in_bounds)), omega (arith, c.requires.p_le_position_limit.0), omega (arith, c.requires.p_le_position_limit.2))
 
 pub copy_part-requires-2 : goal.copy_part-requires-2
-copy_part-requires-2 c = (omega (arith, kept1 c.before.before.before, c.requires.l_in_bounds), omega (arith, c.requires.p_le_position_limit.1), omega (arith, c.requires.p_le_position_limit.2))
+copy_part-requires-2 c = (omega (arith, kept1 c.before.before.before.before, c.requires.l_in_bounds), omega (arith, c.requires.p_le_position_limit.1), omega (arith, c.requires.p_le_position_limit.2))
 
 pub copy_part-requires-3 : goal.copy_part-requires-3
-copy_part-requires-3 c = (omega (arith, kept2 c.before.before.before, c.requires.l_in_bounds), omega (arith, c.requires.p_le_position_limit.1), omega (arith, c.requires.p_le_position_limit.2))
+copy_part-requires-3 c = (omega (arith, kept2 c.before.before.before.before, c.requires.l_in_bounds), omega (arith, c.requires.p_le_position_limit.1), omega (arith, c.requires.p_le_position_limit.2))
 
 pub shape_of-output : goal.shape_of-output
 shape_of-output c = c.copy_part-3.auto.0 ∙ kept2 c.before.before.before.before.before.before.before

@@ -18,7 +18,7 @@ link_room_lem : (e : lts.Start tie.the-claims reads.Pre reads.Post tie.handed_cl
 link_room_lem e = omega (arith, ready_long _ _ _ e.requires.search_room.0, e.requires.search_room.1.few_links)
 
 pub bounds-work-links : goal.bounds-work-links
-bounds-work-links c = omega (arith, link_room_lem c.before.before.before)
+bounds-work-links c = omega (arith, link_room_lem c.before.before)
 
 pub overflow_cast-work-2 : goal.overflow_cast-work-2
 overflow_cast-work-2 c = let m : Memory = memory_in c.args.work.now c.args.counts in
@@ -26,7 +26,7 @@ overflow_cast-work-2 c = let m : Memory = memory_in c.args.work.now c.args.count
     omega (arith, c.number_of_lem.ensures, number_le (found_in m).pairs c.args.j c.args.w, l, c.requires.search_room.1.few_pairs)
 
 pub bounds-work-links-2 : goal.bounds-work-links-2
-bounds-work-links-2 c = simp length-set (link_room_lem c.before.before.before)
+bounds-work-links-2 c = simp length-set (link_room_lem c.before.before)
 
 pub returns-then-number-pairs : goal.returns-then-number-pairs
 returns-then-number-pairs c = visited_found _ _ _ c.requires.search_room.0 c.requires.search_room.1 _ _ _ c.requires.k_le_position_limit.1 _ c.number_of_lem.ensures c.if-number-pairs.true
