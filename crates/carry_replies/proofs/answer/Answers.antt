@@ -54,10 +54,10 @@ overflow_cast-k-in-loop-k c = omega (arith, c.shared_slice_known-in-loop-k-1.giv
 
 pub loop-k-smaller : goal.loop-k-smaller
 loop-k-smaller c = let h = c.loop-k-test.true in
-    omega (arith, h, chain_ascends _ _ _ _ _ (start (owned c.before.before.before.before.before.before)).pre.0.chains c.loop-k.k h)
+    omega (arith, h, chain_ascends _ _ _ _ _ c.requires.linked.chains c.loop-k.k h)
 
 pub loop-k-preserved : goal.loop-k-preserved
-loop-k-preserved c = pass_next _ _ _ _ _ _ _ _ (start c.before.before.before.before.before.before.before.before).pre.0.chains c.loop-k.k c.loop-k-test.true c.loop-k.invariant
+loop-k-preserved c = pass_next _ _ _ _ _ _ _ _ c.requires.linked.chains c.loop-k.k c.loop-k-test.true c.loop-k.invariant
     c.if-lone.false (sym c.link_keeps.ensures ∙ c.if-link_keeps.false)
 
 pub returns : goal.returns
