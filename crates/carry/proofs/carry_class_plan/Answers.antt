@@ -12,7 +12,7 @@ use Rattle.carry.proofs.carry_class_plan.Tie as tie
 
 -- what is left is what the reduced-game call leaves
 table : (c : lts.After-tabulate_classes tie.the-claims reads.Pre reads.Post)
-    → let a = (start c.before.before.before.before.before.before.before.before).args in
+    → let a = c.args in
     TableCall reduced a.game.now a.marks.now a.spare.now a.classes.now a.reduction.now (tabulation_answer c.tabulate_classes-written.result)
     c.tabulate_classes-written.new.1.1.0 c.tabulate_classes-written.new.1.1.1.0 c.tabulate_classes-written.new.1.1.1.1.0
     c.tabulate_classes-written.new.1.1.1.1.1.0

@@ -12,7 +12,7 @@ use Rattle.carry_output.proofs.search.Tie as tie
 
 -- all that the search reads
 readable : (c : lts.After-chain_links tie.the-claims reads.Pre reads.Post tie.handed_clauses)
-    → let a = (start c.before.before.before.before).args in
+    → let a = c.args in
     Readable a.game.now a.player a.plan.now a.seats.now a.marks.now
     c.flag_edges.new.1.1.1.0 c.chain_links.new.1.0 c.chain_links.new.1.1.0
 readable c =

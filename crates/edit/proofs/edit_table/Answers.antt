@@ -39,13 +39,13 @@ scanned c = rw (part c.before.before.before.before.before.before.before.before) 
 
 -- what the judge said of the edit
 judged : (c : lts.After-judge_edit tie.the-claims reads.Pre reads.Post tie.handed_clauses)
-    → let a = (entry c.before.before).args in
+    → let a = c.args in
     acceptance_answer c.judge_edit-judged.result ≡ judge (edit_rows a.edit (table_in a.buffer.now) (length a.buffer.now) a.source a.target) []
 judged c =
     c.judge_edit-judged.ensures ∙ ap (λ (rs : List Row). judge rs []) (scanned_rows c.requires _ _ (scanned c.before) (length c.args.buffer.now) c.args.edit)
 
 passed : (c : lts.After-enum_told2 tie.the-claims reads.Pre reads.Post tie.handed_clauses)
-    → let a = (entry c.before.before.before.before).args in
+    → let a = c.args in
     accepted [] ≡ judge (edit_rows a.edit (table_in a.buffer.now) (length a.buffer.now) a.source a.target) []
 passed c = ap acceptance_answer (sym c.enum_told-in_default-judged-1.given.1) ∙ judged c.before.before
 

@@ -41,12 +41,12 @@ long c = search rules
 
 -- what the scan found, in the table that begins the first buffer
 scanned : (c : lts.After-scan_edges tie.the-claims reads.Pre reads.Post tie.handed_clauses)
-    → let a = (entry c.before.before.before).args in Scanned (table_in a.game.now) a.m a.source a.target c.scan_edges-scan.result
-scanned c = rw (part (entry c.before.before.before)) at c.scan_edges-scan.ensures
+    → let a = c.args in Scanned (table_in a.game.now) a.m a.source a.target c.scan_edges-scan.result
+scanned c = rw (part c.before.before.before.before.before.before.before.before.before.before) at c.scan_edges-scan.ensures
 
 -- what the judge said of the edit
 judged : (c : lts.After-judge_edit tie.the-claims reads.Pre reads.Post tie.handed_clauses)
-    → let a = (entry c.before.before.before).args in
+    → let a = c.args in
     acceptance_answer c.judge_edit-judged.result ≡ judge (edit_rows a.edit (table_in a.game.now) (length a.table.now) a.source a.target) []
 judged c =
     let a = c.args in
@@ -54,7 +54,7 @@ judged c =
     ∙ ap (λ (rs : List Row). judge rs []) (scanned_rows c.requires _ _ (scanned c.before) (length a.table.now) a.edit)
 
 clean : (c : lts.After-enum_told2 tie.the-claims reads.Pre reads.Post tie.handed_clauses)
-    → let a = (entry c.before.before.before.before.before).args in
+    → let a = c.args in
     Clean (edit_rows a.edit (table_in a.game.now) (length a.table.now) a.source a.target)
 clean c = passed_clean _ (ap acceptance_answer (sym c.enum_told-in_default-judged-1.given.1) ∙ judged c.before.before)
 
@@ -84,7 +84,7 @@ scan_edges-scan-requires c = let a = c.args in
     subst (λ (g : List ℕ). Formed g a.n a.m) (sym (part c.before.before.before.before.before.before.before.before.before.before)) c.requires
 
 pub judge_edit-judged-requires : goal.judge_edit-judged-requires
-judge_edit-judged-requires c = let p = (entry c.before.before.before.before).requires in
+judge_edit-judged-requires c = let p = c.requires in
     (omega (arith, p.vertices, p.well.vertices), omega (arith, p.edges, p.well.edges))
 
 pub returns-in-Refused : goal.returns-in-Refused

@@ -20,7 +20,7 @@ enough : (c : lts.After-enum_told tie.the-claims reads.Pre reads.Post tie.handed
 enough c = ap memory_answer (sym c.enum_told-1.given.1) ∙ c.judge_memory-memory.ensures
 
 -- the trace is as it should be
-passed : (c : lts.After-enum_told2 tie.the-claims reads.Pre reads.Post tie.handed_clauses) → accepted [] ≡ judge (trace_rows (entry c.before.before.before).args.trace.now) []
+passed : (c : lts.After-enum_told2 tie.the-claims reads.Pre reads.Post tie.handed_clauses) → accepted [] ≡ judge (trace_rows c.args.trace.now) []
 passed c = ap acceptance_answer (sym c.enum_told-in_default-judged-1.given.1) ∙ c.judge_trace-judged.ensures
 
 pub judge_memory-memory-requires : goal.judge_memory-memory-requires
@@ -36,4 +36,4 @@ pub apply_trace-requires : goal.apply_trace-requires
 apply_trace-requires c = let a = c.args in record { formed = (c.requires, start_fits a.buffer.now a.trace.now _ _ _ c.requires (enough c.before.before.before.before.before.before.before.before)); clean = trace_passed a.buffer.now a.trace.now a.marks.now a.spare.now a.classes.now c.requires (enough c.before.before.before.before.before.before.before.before) (passed c.before.before.before.before.before); }
 
 pub returns : goal.returns
-returns c = start_done _ _ _ _ _ (entry c.before.before.before.before.before.before.before.before.before.before.before.before.before.before.before.before.before).requires (enough c.before.before.before.before.before.before.before.before.before.before.before.before.before.before.before.before.before) (passed c.before.before.before.before.before.before.before.before.before.before.before.before.before.before) c.apply_trace.ensures
+returns c = start_done _ _ _ _ _ c.requires (enough c.before.before.before.before.before.before.before.before.before.before.before.before.before.before.before.before.before) (passed c.before.before.before.before.before.before.before.before.before.before.before.before.before.before) c.apply_trace.ensures

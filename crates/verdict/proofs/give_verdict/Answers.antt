@@ -18,7 +18,7 @@ use Rattle.verdict.proofs.give_verdict.Tie as tie
 
 -- what the reduction leaves
 table : (c : lts.After-tabulate_classes tie.the-claims reads.Pre reads.Post)
-    → let a = (start (reader c.before.before.before.before.before.before.before.before)).args in
+    → let a = c.args in
     TableCall reduced a.game.now a.marks.now a.spare.now a.classes.now a.reduction.now (tabulation_answer c.tabulate_classes-written.result)
     c.tabulate_classes-written.new.1.1.0 c.tabulate_classes-written.new.1.1.1.0 c.tabulate_classes-written.new.1.1.1.1.0
     c.tabulate_classes-written.new.1.1.1.1.1.0
@@ -26,14 +26,14 @@ unfolding game_by
 table c = c.tabulate_classes-written.ensures
 
 -- the reader accepted
-sizes : (c : lts.After-reading tie.the-claims reads.Pre reads.Post) → WellSized (start c.before.before).args.game.now c.reading-1.given.0.0
+sizes : (c : lts.After-reading tie.the-claims reads.Pre reads.Post) → WellSized c.args.game.now c.reading-1.given.0.0
 sizes c = read_sized c.reading-1.given.1 c.read_sizes-reading.ensures
 
-well : (c : lts.After-reading tie.the-claims reads.Pre reads.Post) → WellFormed (start c.before.before).args.game.now
+well : (c : lts.After-reading tie.the-claims reads.Pre reads.Post) → WellFormed c.args.game.now
 well c = (sizes c).well
 
 -- the vertex is below n
-below : (c : lts.Else1 tie.the-claims reads.Pre reads.Post) → let a = (start c.before.before.before.before.before).args in a.vertex < vertex_count a.game.now
+below : (c : lts.Else1 tie.the-claims reads.Pre reads.Post) → let a = c.args in a.vertex < vertex_count a.game.now
 below c =
     omega (arith, c.if-sizes-v.false, (sizes c.before.before.before).vertices)
 
