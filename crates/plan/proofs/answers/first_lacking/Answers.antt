@@ -7,10 +7,10 @@ use Rattle.plan.proofs.answers.first_lacking.Goals as goal
 
 pub of_edges-requires : goal.of_edges-requires
 of_edges-requires c = let well = c.requires.words_pass.game in
-    record { well_formed = well; game_in_bounds = (omega (arith, well.vertices), well.edges); by_index = zeros (vertex_limit + 1); }
+    record { well_formed = well; game_in_bounds = (omega (arith, well.vertices), well.edges); by_index = zeros (vertex_limit + 1) }
 
 pub first_lacking_by-requires : goal.first_lacking_by-requires
-first_lacking_by-requires c = record { lack_space = record { pass = c.requires.words_pass; links = c.requires.link_index; edges = c.of_edges.ensures; room = omega arith }; by_index = zeros vertex_limit; }
+first_lacking_by-requires c = record { lack_space = record { pass = c.requires.words_pass; links = c.requires.link_index; edges = c.of_edges.ensures; room = omega arith }; by_index = zeros vertex_limit }
 
 pub returns : goal.returns
 returns c = c.first_lacking_by.ensures

@@ -11,18 +11,12 @@ use Rattle.plan.specs.Acceptance.{lacks_link, first_lacking_link}
 use Rattle.plan.specs.AnswerLaws.{space_kept}
 use Rattle.plan.proofs.answers.first_lacking_by.Invariants.{Inv}
 use Rattle.plan.proofs.answers.first_lacking_by.Goals as goal
-use Rattle.plan.proofs.answers.first_lacking_by.Lts as lts
-use Rattle.plan.proofs.answers.first_lacking_by.Reads as reads
-use Rattle.plan.proofs.answers.first_lacking_by.Tie as tie
-
-abbrev start : lts.After-shared_slice_known7 tie.the-claims reads.Pre reads.Post goal.the-invariant-loop-i goal.the-decreases-loop-i tie.handed_clauses → lts.Start tie.the-claims reads.Pre reads.Post goal.the-invariant-loop-i goal.the-decreases-loop-i tie.handed_clauses
-start c = search
 
 pub loop-i-init : goal.loop-i-init
-loop-i-init c = record { inside = omega arith; room = refl; latest = λ x. omega (arith, (start c.before).requires.1 x); rest = refl }
+loop-i-init c = record { inside = omega arith; room = refl; latest = λ x. omega (arith, c.requires.by_index x); rest = refl }
 
 pub lacks_link-requires : goal.lacks_link-requires
-lacks_link-requires c = record { lack_space = space_kept (start c.before.before.before.before).pre.0 c.loop-i.invariant.room; i_bound = c.loop-i-test.true; no_later = c.loop-i.invariant.latest; }
+lacks_link-requires c = record { lack_space = space_kept c.requires.lack_space c.loop-i.invariant.room; i_bound = c.loop-i-test.true; no_later = c.loop-i.invariant.latest }
 
 pub returns-then-lacks_link : goal.returns-then-lacks_link
 unfolding first_lacking_link
@@ -32,7 +26,7 @@ pub loop-i-preserved : goal.loop-i-preserved
 loop-i-preserved c = let i = c.loop-i.invariant in
     record {
       inside = omega (arith, c.loop-i-test.true);
-      room = c.lacks_link.auto.1.1.1.1.1.1.1.0 ∙ i.room;
+      room = omega (arith, i.room);
       latest = c.lacks_link.ensures.no_later_2;
       rest = i.rest ∙ first_step _ _ _ c.loop-i-test.true (sym c.lacks_link.ensures.value ∙ c.if-lacks_link.false);
     }

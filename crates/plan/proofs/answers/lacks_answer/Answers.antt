@@ -15,18 +15,21 @@ overflow_cast-stamp c = let space = c.requires.answer_space in omega (arith, spa
 
 pub stamp_answers-requires : goal.stamp_answers-requires
 stamp_answers-requires c = let space = c.requires.answer_space in
-    record { plan_formed = (formed_wider _ space.room space.formed, space.position); indexed = space.links; }
+    record { plan_formed = (formed_wider _ space.room space.formed, space.position); indexed = space.links }
 
 pub vertex_of-v-requires : goal.vertex_of-v-requires
 vertex_of-v-requires c = let space = c.requires.answer_space in (space.formed.sized, space.position)
 
 pub some_unstamped-requires : goal.some_unstamped-requires
-some_unstamped-requires c = let space = c.requires.answer_space in record { indexed = space.edges; v_lt_n = (
-        rw c.vertex_of-v.ensures (space.formed.vertices c.args.i space.position),
-        space.few,
-        omega (arith, c.stamp_answers.auto.1.1.1.0, space.room),
-      ); }
+some_unstamped-requires c = let space = c.requires.answer_space in record {
+  indexed = space.edges;
+  v_lt_n = (
+    rw c.vertex_of-v.ensures (space.formed.vertices c.args.i space.position),
+    space.few,
+    omega (arith, space.room),
+  );
+}
 
 pub returns : goal.returns
 returns c = let stamped = c.stamp_answers.ensures in
-    let old : (x : ℕ) → get_or c.args.stamps.now x 0 < c.args.i + 1 = λ x. omega (arith, c.requires.no_later x) in record { value = c.some_unstamped.ensures ∙ rw c.vertex_of-v.ensures (among_ext _ _ _ _ _ (unstamped_unanswered _ _ _ _ _ _ _ stamped old)); no_later_2 = stamped_le _ _ _ _ _ _ _ stamped old; }
+    let old : (x : ℕ) → get_or c.args.stamps.now x 0 < c.args.i + 1 = λ x. omega (arith, c.requires.no_later x) in record { value = c.some_unstamped.ensures ∙ rw c.vertex_of-v.ensures (among_ext _ _ _ _ _ (unstamped_unanswered _ _ _ _ _ _ _ stamped old)); no_later_2 = stamped_le _ _ _ _ _ _ _ stamped old }

@@ -1,48 +1,62 @@
 -- An own position has a link exactly if its group isn't empty.
 use native.Mathlib.Omega.{arith}
-use Prim.Native.Nat.{◌<◌, ◌+◌}
-use mathlib.Core.Path.{sym, ◌∙◌}
+use Prim.Native.Nat.{ℕ, ◌<◌, ◌+◌}
+use mathlib.Core.Path.{◌≡◌, sym, ◌∙◌}
+use mathlib.Core.List.{List}
 use lib.ListN.{get_or}
+use Rattle.plan_links.specs.PlanTable.{position_count, vertex_at}
+use Rattle.plan.specs.Stamps.{LackSpace}
 use Rattle.plan.specs.AnswerLaws.{lacks_own, lacks_other}
 use Rattle.plan.proofs.answers.lacks_link.Goals as goal
-use Rattle.plan.proofs.answers.lacks_link.Lts as lts
-use Rattle.plan.proofs.answers.lacks_link.Reads as reads
-use Rattle.plan.proofs.answers.lacks_link.Tie as tie
-
-abbrev start : lts.After-shared_slice_known7 tie.the-claims reads.Pre reads.Post tie.handed_clauses → lts.Start tie.the-claims reads.Pre reads.Post tie.handed_clauses
-start c = search
 
 -- the vertex of position i
-below : (c : lts.After-vertex_of tie.the-claims reads.Pre reads.Post tie.handed_clauses) → c.vertex_of-v.result < get_or (start c.before).args.game.now 0 0
-below c = let e = start c.before in rw c.vertex_of-v.ensures (e.pre.0.pass.formed.vertices e.args.i e.pre.1.0)
+below : {g : List ℕ} {player : ℕ} {w starts targets edge_starts edge_targets stamps : List ℕ} {i v : ℕ}
+    → LackSpace g player w starts targets edge_starts edge_targets stamps
+    → i < position_count w
+    → v ≡ vertex_at w i
+    → v < get_or g 0 0
+below s h e = rw e (s.pass.formed.vertices _ h)
 
 pub overflow_add-n-2 : goal.overflow_add-n-2
-overflow_add-n-2 c = omega (arith, below c.before, (start c.before.before).requires.0.pass.game.vertices)
+overflow_add-n-2 c =
+    let s = c.requires.lack_space in
+    omega (arith, below s c.requires.i_bound c.vertex_of-v.ensures, s.pass.game.vertices)
 
 pub offset_bounds-game-n : goal.offset_bounds-game-n
-offset_bounds-game-n c = omega (arith, below c.before, (start c.before.before).requires.0.pass.game.vertices)
+offset_bounds-game-n c =
+    let s = c.requires.lack_space in
+    omega (arith, below s c.requires.i_bound c.vertex_of-v.ensures, s.pass.game.vertices)
 
 pub bounds-game-n : goal.bounds-game-n
-bounds-game-n c = omega (arith, below c.before.before, (start c.before.before.before).requires.0.pass.game.size)
-
-pub overflow_cast-game : goal.overflow_cast-game
-overflow_cast-game c = omega (arith, c.shared_slice_known-8-1.given (2 + get_or (start c.before.before.before).args.game.now 0 0 + c.vertex_of-v.result))
+bounds-game-n c =
+    let s = c.requires.lack_space in
+    omega (arith, below s c.requires.i_bound c.vertex_of-v.ensures, s.pass.game.size)
 
 pub returns-then-game-n : goal.returns-then-game-n
-returns-then-game-n c = let e = start c.before.before.before.before.before.before in record { value = sym (lacks_own e.pre.0 e.args.i e.pre.1.0 (rw c.vertex_of-v.ensures at c.if-game-n.true)); no_later_2 = λ x. omega (arith, e.pre.1.1 x); }
+returns-then-game-n c = record {
+  value = sym (lacks_own c.requires.lack_space c.args.i c.requires.i_bound (rw c.vertex_of-v.ensures at c.if-game-n.true));
+  no_later_2 = λ x. omega (arith, c.requires.no_later x);
+}
 
 pub lacks_answer-requires : goal.lacks_answer-requires
-lacks_answer-requires c = let e = start c.before.before.before.before.before in
-    let s = e.pre.0 in record { answer_space = record {
+lacks_answer-requires c =
+    let s = c.requires.lack_space in
+    record {
+      answer_space = record {
         formed = s.pass.formed;
         few = s.pass.game.vertices;
         room = omega (arith, s.pass.game.vertices, s.room);
-        position = e.pre.1.0;
+        position = c.requires.i_bound;
         links = (_, _, _, s.links);
         edges = (_, _, _, s.edges);
-      }; no_later = e.pre.1.1; }
+      };
+      no_later = c.requires.no_later;
+    }
 
 pub returns : goal.returns
-returns c = let e = start c.before.before.before.before.before.before.before.before in
+returns c =
     let r = c.lacks_answer.ensures in
-    record { value = r.0 ∙ sym (lacks_other e.pre.0 e.args.i e.pre.1.0 (rw c.vertex_of-v.ensures at c.if-game-n.false)); no_later_2 = r.1; }
+    record {
+      value = r.value ∙ sym (lacks_other c.requires.lack_space c.args.i c.requires.i_bound (rw c.vertex_of-v.ensures at c.if-game-n.false));
+      no_later_2 = r.no_later_2;
+    }
