@@ -9,4 +9,4 @@ pub returns : goal.returns
 returns c = let a = c.args in
     λ G s w h.
     c.falling.ensures w h
-    ∙ fall_rows row_bits G (cell a.edges.now) s (has a.l) (has a.x) (has _) (has _) (has a.mask w) w h (c.row.ensures w h) (c.near-Within.ensures G s w h)
+    ∙ fall_rows row_bits G (cell a.edges.now) s (has a.l) (has a.x) (has _) (has _) (has a.mask w) w h (c.row.ensures w h) (c.near_within-near.ensures G s w h)

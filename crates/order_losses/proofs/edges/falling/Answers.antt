@@ -20,8 +20,8 @@ loop-j-preserved c = let a = c.args in
       search rules,
       filled_next j _ _ _ c.loop-j-test.true c.loop-j.invariant.1
           (λ k h.
-          let near = sym (has_at a.t2 j k h) in
-          let player = sym (has_at a.t3 j k h) in
+          let near = sym (has_at a.near j k h) in
+          let player = sym (has_at a.player j k h) in
           digit_or _ _ k
           ∙ ap₂ ◌or◌ (digit_and _ _ k ∙ ap₂ ◌&◌ near player)
           (c.apart_word-stuck.ensures k h

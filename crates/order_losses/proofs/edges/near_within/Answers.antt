@@ -11,7 +11,7 @@ pub returns-then-size : goal.returns-then-size
 returns-then-size c = let a = c.args in
     λ G s w h.
     c.without.ensures w h
-    ∙ ap (λ b. has a.mask w & not b) (c.Apart-of.ensures w h)
+    ∙ ap (λ b. has a.mask w & not b) (c.apart_of.ensures w h)
     ∙ near_apart row_bits G (cell a.edges.now) s (has a.l) (has a.mask w) w h
 
 pub returns : goal.returns

@@ -9,28 +9,22 @@ use Rattle.order_rows.specs.MatrixLaws.{cell_row}
 use Rattle.order_losses.specs.Losses.{LossesTo}
 use Rattle.order_sets.specs.LossesLaws.{losses_start}
 use Rattle.order_losses.proofs.losses.lose_all.Goals as goal
-use Rattle.order_losses.proofs.losses.lose_all.Lts as lts
-use Rattle.order_losses.proofs.losses.lose_all.Reads as reads
-use Rattle.order_losses.proofs.losses.lose_all.Tie as tie
-
-abbrev start : lts.At-loop tie.the-claims reads.Pre reads.Post goal.the-invariant-loop-j goal.the-decreases-loop-j tie.handed_clauses → lts.Start tie.the-claims reads.Pre reads.Post goal.the-invariant-loop-j goal.the-decreases-loop-j tie.handed_clauses
-start c = search
 
 pub loop-j-init : goal.loop-j-init
 loop-j-init c = (omega arith, refl, refl, λ G r f v. losses_start row_bits _ (has c.args.near.now) _ _ (λ x h. sym (cell_row _ x) ∙ c.requires.by_index x h))
 
 pub lose_word-requires : goal.lose_word-requires
-lose_word-requires c = let q = (start c.before.before.before.before).requires in
+lose_word-requires c = let q = c.requires in
     let i = c.loop-j.invariant in
-    record { edge_words_in_bounds = q.0; row_words_in_bounds = (q.1.0.0, omega (arith, i.1, q.1.0.1), omega (arith, i.2, q.1.0.2), c.loop-j-test.true); losses_to = i.3; }
+    record { edge_words_in_bounds = q.edge_words_in_bounds; row_words_in_bounds = (q.row_words_in_bounds.0, omega (arith, i.1, q.row_words_in_bounds.1), omega (arith, i.2, q.row_words_in_bounds.2), c.loop-j-test.true); losses_to = i.3 }
 
 pub loop-j-preserved : goal.loop-j-preserved
 loop-j-preserved c = let i = c.loop-j.invariant in
     let w = c.lose_word in
     let e : c.loop-j.j * 64 + 64 ≡ (c.loop-j.j + 1) * 64 = omega arith in (
       omega (arith, c.loop-j-test.true),
-      w.auto.1.1.1.1.1.1.1.0 ∙ i.1,
-      w.auto.1.1.1.1.1.1.1.1.0 ∙ i.2,
+      w.auto.next ∙ i.1,
+      w.auto.losing ∙ i.2,
       rw e at w.ensures,
     )
 

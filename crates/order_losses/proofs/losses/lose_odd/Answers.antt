@@ -3,7 +3,6 @@ use mathlib.Core.Path.{◌≡◌, sym, ap, ◌∙◌}
 use mathlib.Core.Bool.{not}
 use Prim.Native.Nat.{ℕ, ◌<◌}
 use Rattle.theory.specs.Logic.Bools.{◌&◌}
-use Rattle.theory.proofs.Logic.BoolsLaws.{not_out}
 use Rattle.theory.specs.Games.Game.{Game}
 use Rattle.theory.specs.Order.Rows.{united, fall}
 use Rattle.words.specs.Words.{has}
@@ -28,7 +27,7 @@ returns-then-not-is_some c = let a = c.args in
     λ G s x h.
     has_zero row_words x
     ∙ sym (odd_none row_bits G (cell a.edges.now) s (cell a.related.now) a.v c.requires.2 (has a.gone) _ (less c.before.before.before G s)
-    (sym c.is_some.ensures ∙ not_out c.if-not-is_some.true) x)
+    (sym c.is_some.ensures ∙ c.if-not-is_some.true) x)
 
 pub returns : goal.returns
 returns c = let a = c.args in

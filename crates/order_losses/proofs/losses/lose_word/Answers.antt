@@ -13,12 +13,6 @@ use Rattle.order_sets.specs.LossesLaws.{losses_step, word_start, word_next}
 use Rattle.order_rows.specs.Bits.{row_bits}
 use Rattle.order_rows.specs.MatrixLaws.{added_alone}
 use Rattle.order_losses.proofs.losses.lose_word.Goals as goal
-use Rattle.order_losses.proofs.losses.lose_word.Lts as lts
-use Rattle.order_losses.proofs.losses.lose_word.Reads as reads
-use Rattle.order_losses.proofs.losses.lose_word.Tie as tie
-
-abbrev start : lts.At-loop tie.the-claims reads.Pre reads.Post goal.the-invariant-loop-left goal.the-decreases-loop-left tie.handed_clauses → lts.Start tie.the-claims reads.Pre reads.Post goal.the-invariant-loop-left goal.the-decreases-loop-left tie.handed_clauses
-start c = search
 
 pub loop-left-init : goal.loop-left-init
 loop-left-init c = let near = c.args.near.now in
@@ -31,8 +25,8 @@ loop-left-init c = let near = c.args.near.now in
     )
 
 pub loop-left-preserved : goal.loop-left-preserved
-loop-left-preserved c = let near = (start c.before.before.before.before.before.before.before.before.before.before.before.before.before.before).args.near.now in
-    let j = (start c.before.before.before.before.before.before.before.before.before.before.before.before.before.before).args.j in
+loop-left-preserved c = let near = c.args.near.now in
+    let j = c.args.j in
     let i = c.loop-left.invariant in
     let low = c.lowest in
     let m = low.ensures in
@@ -40,14 +34,14 @@ loop-left-preserved c = let near = (start c.before.before.before.before.before.b
     let v = j * 64 + low.result in
     let on : So (has near v) = has_at near j _ m.inside ∙ onward_here _ _ _ m e _ i.0 in (
       onward_next _ _ _ m e (get_or near j 0) i.0,
-      c.put.auto.0 ∙ i.1,
-      c.add.auto.0 ∙ i.2,
+      c.put.auto.words ∙ i.1,
+      c.add.auto.words ∙ i.2,
       λ G r f inside.
           word_next row_bits _ (has near) (j * 64) (get_or near j 0) (has_at near j) _ _ _ _ _ i.0 m e
           (losses_step row_bits _ (has near) v _ _ _ _ _ _ on (rw (sym m.is) at (i.3 G r f inside))
-          (c.lose-out.ensures G r (inside v (omega (arith, (start c.before.before.before.before.before.before.before.before.before.before.before.before.before.before).requires.1.0.3, m.inside)) on) f) c.put.ensures c.is_some.ensures (added_alone _ _ _ _ c.add.ensures)),
+          (c.lose-out.ensures G r (inside v (omega (arith, c.requires.row_words_in_bounds.3, m.inside)) on) f) c.put.ensures c.is_some.ensures (added_alone _ _ _ _ c.add.ensures)),
     )
 
 pub returns : goal.returns
-returns c = let e : lowest_bit c.loop-left.false ≡ 64 = rw c.loop-left-test.false lowest_none in
+returns c = let e : lowest_bit c.loop-left.left ≡ 64 = rw c.loop-left-test.false lowest_none in
     rw e at c.loop-left.invariant.3

@@ -21,16 +21,16 @@ loop-w-init c = let a = c.args in (
 
 pub loop-w-preserved : goal.loop-w-preserved
 loop-w-preserved c = let a = c.args in (
-      omega (arith, c.loop-w.invariant.0),
-      λ h. omega (arith, c.loop-w-test.true),
-      λ k h.
-          c.with-out.ensures k h
-          ∙ ap (λ b. (eqb k (c.loop-w.w - a.base) & not (eqb (get_or a.words.now (a.from + c.loop-w.w) 0) a.value)) or b) (c.loop-w.invariant.2 k h)
-          ∙ differs_next a.words.now a.from a.value a.base c.loop-w.w k c.loop-w.invariant.0,
-    )
+  omega (arith, c.loop-w.invariant.0),
+  λ h. omega (arith, c.loop-w-test.true),
+  λ k h.
+      c.with-out.ensures k h
+      ∙ ap (λ b. (eqb k (c.loop-w.w - a.base) & not (eqb (get_or a.words.now (a.from + c.loop-w.w) 0) a.value)) or b) (c.loop-w.invariant.2 k h)
+      ∙ differs_next a.words.now a.from a.value a.base c.loop-w.w k c.loop-w.invariant.0,
+)
 
 pub returns : goal.returns
-returns c = let e = c.end_of_lem.ensures in
+returns c = let e = c.end_of-end.ensures in
     let a = c.args in
     λ k h.
     c.loop-w.invariant.2 k h
