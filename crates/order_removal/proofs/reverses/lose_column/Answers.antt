@@ -9,9 +9,6 @@ use Rattle.order_rows.specs.Bits.{row_bits, row_words, cell}
 use Rattle.order_sets.specs.ReversesLaws.{ColumnTo, column_start, column_next, column_end}
 use Rattle.std.proofs.Common.{rules}
 use Rattle.order_removal.proofs.reverses.lose_column.Goals as goal
-use Rattle.order_removal.proofs.reverses.lose_column.Lts as lts
-use Rattle.order_removal.proofs.reverses.lose_column.Reads as reads
-use Rattle.order_removal.proofs.reverses.lose_column.Tie as tie
 
 pub loop-j-init : goal.loop-j-init
 loop-j-init c = let a = c.args in
@@ -22,19 +19,13 @@ lose_word-requires c = let i = c.loop-j.invariant in
     let p = c.requires in
     (omega (arith, p, i.1), omega (arith, p, i.2), omega (arith, c.loop-j-test.true), p.2)
 
-abbrev at-loop : lts.After-slice_known4 tie.the-claims reads.Pre reads.Post goal.the-invariant-loop-j goal.the-decreases-loop-j → lts.At-loop tie.the-claims reads.Pre reads.Post goal.the-invariant-loop-j goal.the-decreases-loop-j
-at-loop c = search
-
-abbrev at-start : lts.After-slice_known4 tie.the-claims reads.Pre reads.Post goal.the-invariant-loop-j goal.the-decreases-loop-j → lts.Start tie.the-claims reads.Pre reads.Post goal.the-invariant-loop-j goal.the-decreases-loop-j
-at-start c = search
-
 pub loop-j-preserved : goal.loop-j-preserved
-loop-j-preserved c = let i = (at-loop c.before).loop.invariant in
-    let a = (at-start c.before).args in
+loop-j-preserved c = let i = c.loop-j.invariant in
+    let a = c.args in
     let q = c.lose_word in (
       omega (arith, c.loop-j-test.true),
-      q.auto.0 ∙ i.1,
-      q.auto.1.0 ∙ i.2,
+      q.auto.next ∙ i.1,
+      q.auto.losing ∙ i.2,
       column_next row_bits (has _) a.v (cell a.next.now) (has a.losing.now) _ _ _ _ _ _ (has_at _ _) i.3 q.ensures,
     )
 

@@ -7,9 +7,6 @@ use Rattle.words.specs.LeftLaws.{Left, left_start, left_next}
 use Rattle.order_sets.specs.ReversesLaws.{WordTo, word_start, word_next, word_end}
 use Rattle.order_rows.specs.Bits.{row_bits, cell}
 use Rattle.order_removal.proofs.reverses.lose_word.Goals as goal
-use Rattle.order_removal.proofs.reverses.lose_word.Lts as lts
-use Rattle.order_removal.proofs.reverses.lose_word.Reads as reads
-use Rattle.order_removal.proofs.reverses.lose_word.Tie as tie
 
 pub loop-left-init : goal.loop-left-init
 loop-left-init c = let a = c.args in
@@ -23,19 +20,12 @@ lose_pair-requires c = let i = c.loop-left.invariant in
 pub loop-left-smaller : goal.loop-left-smaller
 loop-left-smaller c = c.rest-left.ensures.less
 
-abbrev at-loop : lts.After-rest tie.the-claims reads.Pre reads.Post goal.the-invariant-loop-left goal.the-decreases-loop-left → lts.At-loop tie.the-claims reads.Pre reads.Post goal.the-invariant-loop-left goal.the-decreases-loop-left
-at-loop c = search
-
-abbrev at-start : lts.After-rest tie.the-claims reads.Pre reads.Post goal.the-invariant-loop-left goal.the-decreases-loop-left → lts.Start tie.the-claims reads.Pre reads.Post goal.the-invariant-loop-left goal.the-decreases-loop-left
-at-start c = search
-
 pub loop-left-preserved : goal.loop-left-preserved
-loop-left-preserved c = let l = at-loop c.before in
-    let i = l.loop.inv in
-    let a = (at-start c.before).args in
+loop-left-preserved c = let i = c.loop-left.invariant in
+    let a = c.args in
     let q = c.lose_pair in (
-      q.auto.0 ∙ i.0,
-      q.auto.1.0 ∙ i.1,
+      q.auto.next ∙ i.0,
+      q.auto.losing ∙ i.1,
       left_next a.which _ _ i.2 c.rest-left.ensures,
       word_next row_bits a.base a.which a.v (cell a.next.now) (has a.losing.now) _ _ _ _ _ _ _ i.2 c.lowest.ensures c.rest-left.ensures i.3 q.ensures,
     )

@@ -14,12 +14,6 @@ use Rattle.order_losses.specs.Losses.{struck}
 use Rattle.order_removal.specs.RowRemoval.{TakenTo}
 use Rattle.order_sets.specs.RemovalLaws.{taken_start, taken_next}
 use Rattle.order_removal.proofs.rows.take_all.Goals as goal
-use Rattle.order_removal.proofs.rows.take_all.Lts as lts
-use Rattle.order_removal.proofs.rows.take_all.Reads as reads
-use Rattle.order_removal.proofs.rows.take_all.Tie as tie
-
-abbrev start : lts.At-loop tie.the-claims reads.Pre reads.Post goal.the-invariant-loop-a goal.the-decreases-loop-a tie.handed_clauses → lts.Start tie.the-claims reads.Pre reads.Post goal.the-invariant-loop-a goal.the-decreases-loop-a tie.handed_clauses
-start c = search
 
 pub loop-a-init : goal.loop-a-init
 loop-a-init c = let e = c.first_from-a.ensures in
@@ -31,42 +25,31 @@ loop-a-init c = let e = c.first_from-a.ensures in
       rw e (taken_start row_bits (cell a.edges.now) (cell a.next.now) (has a.losing.now) (cell a.related.now) (cell a.lost.now) (cell a.falls.now)),
     )
 
-abbrev at-loop : lts.After-slice_known6 tie.the-claims reads.Pre reads.Post goal.the-invariant-loop-a goal.the-decreases-loop-a tie.handed_clauses → lts.At-loop tie.the-claims reads.Pre reads.Post goal.the-invariant-loop-a goal.the-decreases-loop-a tie.handed_clauses
-at-loop c = search
-
 pub overflow_add-cleared : goal.overflow_add-cleared
-overflow_add-cleared c = let l = at-loop c.before in
-    let a = (start l).args in
+overflow_add-cleared c = let a = c.args in
     let q = c.take_row-cleared in
     omega (
       arith,
-      l.loop.inv.4.size,
+      c.loop-a.invariant.4.size,
       q.ensures.size,
-      l.loop.inv.0.0,
-      sum_le l.loop.a row_bits (λ u. count row_bits (struck a.losing.now a.next.now u)) (λ u. count_le row_bits (struck a.losing.now a.next.now u)),
-      count_le row_bits (cell a.next.now l.loop.a),
+      c.loop-a.invariant.0.0,
+      sum_le c.loop-a.a row_bits (λ u. count row_bits (struck a.losing.now a.next.now u)) (λ u. count_le row_bits (struck a.losing.now a.next.now u)),
+      count_le row_bits (cell a.next.now c.loop-a.a),
     )
 
-abbrev next-loop : lts.After-first_from2 tie.the-claims reads.Pre reads.Post goal.the-invariant-loop-a goal.the-decreases-loop-a tie.handed_clauses → lts.At-loop tie.the-claims reads.Pre reads.Post goal.the-invariant-loop-a goal.the-decreases-loop-a tie.handed_clauses
-next-loop c = search
-
-abbrev at-in-loop : lts.After-first_from2 tie.the-claims reads.Pre reads.Post goal.the-invariant-loop-a goal.the-decreases-loop-a tie.handed_clauses → lts.In-loop tie.the-claims reads.Pre reads.Post goal.the-invariant-loop-a goal.the-decreases-loop-a tie.handed_clauses
-at-in-loop c = search
-
 pub loop-a-smaller : goal.loop-a-smaller
-loop-a-smaller c = let l = next-loop c.before in
-    omega (arith, first_ge (has (start l).args.losing.now) (l.loop.a + 1) row_bits, c.first_from-a-in-loop-a.ensures, (at-in-loop c.before).loop-test.true)
+loop-a-smaller c = omega (arith, first_ge (has c.args.losing.now) (c.loop-a.a + 1) row_bits, c.first_from-a-in-loop-a.ensures, c.loop-a-test.true)
 
 pub loop-a-preserved : goal.loop-a-preserved
-loop-a-preserved c = let a = (start c.before.before.before.before.before.before.before.before.before.before.before.before.before).args in
+loop-a-preserved c = let a = c.args in
     let t = c.loop-a-test.true in
     let q = c.take_row-cleared in
     let i = c.loop-a.invariant in
     let e = c.first_from-a-in-loop-a.ensures in (
       rw e (reached_next (has a.losing.now) row_bits c.loop-a.a t),
-      q.auto.1.1.0 ∙ i.1,
-      q.auto.1.1.1.0 ∙ i.2,
-      q.auto.1.1.1.1.0 ∙ i.3,
+      q.auto.related ∙ i.1,
+      q.auto.lost ∙ i.2,
+      q.auto.falls ∙ i.3,
       rw e (taken_next row_bits (cell a.edges.now) (cell a.next.now) (has a.losing.now) (cell a.related.now) c.loop-a.a (i.0.1 t) t _ _ _ _ _ _ _ _ i.4 q.ensures),
     )
 
