@@ -7,7 +7,7 @@ use Rattle.std.proofs.Math.Logic.{inl, inr}
 use Rattle.std.proofs.Math.Bool.{So}
 use native.Mathlib.Omega.{arith}
 use borrow.Author.Tests.{eqb-true, eqb-false, eq-eqb, lt-ltb, le-ltb}
-use Rattle.theory.specs.Logic.Bools.{◌&◌, ◌or◌, imp}
+use Rattle.theory.specs.Logic.Bools.{◌&◌, imp}
 use Rattle.theory.proofs.Logic.BoolsLaws.{decide, clash, not_out, and_in, and_out, or_out, imp_in, imp_out}
 use Rattle.theory.specs.Logic.Range.{first, tabulate}
 use Rattle.theory.proofs.Logic.RangeLaws.{first_found}

@@ -12,10 +12,6 @@ use Rattle.table.specs.AnswersLaws.{judge_hit, judge_next}
 use Rattle.large_moves.specs.Moves.{first_winner, first_stray, first_leaving, move_rows}
 use Rattle.large_moves.proofs.judge_moves.Reads as reads
 use Rattle.large_moves.proofs.judge_moves.Lts as lts
-use Rattle.large_moves.proofs.searches.first_leaving.Reads as first-leaving-reads
-use Rattle.large_moves.proofs.searches.first_stray.Reads as first-stray-reads
-use Rattle.large_table.proofs.first_at_least.Reads as first-at-least-reads
-use Rattle.table.proofs.acceptor.refused.Reads as refused-reads
 use Rattle.large_moves.proofs.judge_moves.Goals as goal
 use Rattle.large_moves.proofs.judge_moves.Lts as lts
 use Rattle.large_moves.proofs.judge_moves.Reads as reads

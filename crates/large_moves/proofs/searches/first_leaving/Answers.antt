@@ -1,12 +1,6 @@
 -- The rest of the search finds what the whole does.
-use mathlib.Core.Path.{◌≡◌, sym, ◌∙◌}
-use Prim.Native.Nat.{◌≤◌, ◌-◌}
-use Rattle.theory.specs.Logic.Range.{first}
+use mathlib.Core.Path.{sym, ◌∙◌}
 use Rattle.theory.proofs.Logic.RangeLaws.{first_step, first_hit, first_end_lem}
-use Rattle.large_moves.specs.Moves.{edge_leaves}
-use Rattle.large_moves.proofs.searches.first_leaving.Reads as reads
-use Rattle.large_moves.proofs.searches.first_leaving.Lts as lts
-use Rattle.large_moves.proofs.tests.edge_leaves.Reads as edge-leaves-reads
 use Rattle.std.proofs.Common.{rules}
 use Rattle.large_moves.proofs.searches.first_leaving.Goals as goal
 

@@ -1,11 +1,7 @@
-use mathlib.Core.Path.{◌≡◌, sym, ◌∙◌}
+use mathlib.Core.Path.{◌≡◌}
 use Prim.Native.Nat.{◌≤◌, ◌-◌}
 use Rattle.theory.specs.Logic.Range.{first}
-use Rattle.theory.proofs.Logic.RangeLaws.{first_step, first_hit, first_end_lem}
 use Rattle.large_moves.specs.Moves.{edge_leaves}
-use Rattle.large_moves.proofs.searches.first_leaving.Reads as reads
-use Rattle.large_moves.proofs.searches.first_leaving.Lts as lts
-use Rattle.large_moves.proofs.tests.edge_leaves.Reads as edge-leaves-reads
 use Rattle.large_moves.proofs.searches.first_leaving.Given as goal
 
 abbrev pub invariant-loop-j : goal.invariant-loop-j

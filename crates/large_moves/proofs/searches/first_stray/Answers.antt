@@ -1,12 +1,6 @@
 -- The rest of the search finds what the whole does.
-use mathlib.Core.Path.{◌≡◌, sym, ◌∙◌}
-use Prim.Native.Nat.{◌≤◌, ◌-◌}
-use Rattle.theory.specs.Logic.Range.{first}
+use mathlib.Core.Path.{sym, ◌∙◌}
 use Rattle.theory.proofs.Logic.RangeLaws.{first_step, first_hit, first_end_lem}
-use Rattle.large_moves.specs.Moves.{move_strays}
-use Rattle.large_moves.proofs.searches.first_stray.Reads as reads
-use Rattle.large_moves.proofs.searches.first_stray.Lts as lts
-use Rattle.large_moves.proofs.tests.move_strays.Reads as move-strays-reads
 use Rattle.std.proofs.Common.{rules}
 use Rattle.large_moves.proofs.searches.first_stray.Goals as goal
 

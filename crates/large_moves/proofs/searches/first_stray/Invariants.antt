@@ -1,11 +1,7 @@
-use mathlib.Core.Path.{◌≡◌, sym, ◌∙◌}
+use mathlib.Core.Path.{◌≡◌}
 use Prim.Native.Nat.{◌≤◌, ◌-◌}
 use Rattle.theory.specs.Logic.Range.{first}
-use Rattle.theory.proofs.Logic.RangeLaws.{first_step, first_hit, first_end_lem}
 use Rattle.large_moves.specs.Moves.{move_strays}
-use Rattle.large_moves.proofs.searches.first_stray.Reads as reads
-use Rattle.large_moves.proofs.searches.first_stray.Lts as lts
-use Rattle.large_moves.proofs.tests.move_strays.Reads as move-strays-reads
 use Rattle.large_moves.proofs.searches.first_stray.Given as goal
 
 abbrev pub invariant-loop-v : goal.invariant-loop-v

@@ -1,5 +1,5 @@
 -- The winners are the same, or the edge is kept or not.
-use Prim.Native.Nat.{◌+◌, ◌*◌, ◌<◌}
+use Prim.Native.Nat.{◌<◌}
 use native.Mathlib.Omega.{arith}
 use borrow.Author.Tests.{eq-eqb, ne_eqb}
 use Rattle.theory.specs.Logic.Bools.{◌&◌}
@@ -7,7 +7,6 @@ use Rattle.large_table.specs.Words.{source_of, target_of}
 use Rattle.large_moves.specs.Moves.{edge_leaves}
 use Rattle.large_moves.proofs.tests.edge_leaves.Reads as reads
 use Rattle.large_moves.proofs.tests.edge_leaves.Lts as lts
-use Rattle.large_moves.proofs.tests.keeps_edge.Reads as keeps-edge-reads
 use Rattle.large_moves.proofs.tests.edge_leaves.Goals as goal
 use Rattle.large_moves.proofs.tests.edge_leaves.Lts as lts
 use Rattle.large_moves.proofs.tests.edge_leaves.Reads as reads

@@ -1,11 +1,7 @@
 -- The winner's word isn't the owner's, or the move decides.
-use Prim.Native.Nat.{◌+◌}
-use native.Mathlib.Omega.{arith}
 use borrow.Author.Tests.{eq-eqb, ne_eqb}
 use Rattle.theory.specs.Logic.Bools.{◌or◌}
 use Rattle.large_moves.specs.Moves.{keeps_edge}
-use Rattle.large_moves.proofs.tests.keeps_edge.Reads as reads
-use Rattle.large_moves.proofs.tests.keeps_edge.Lts as lts
 use Rattle.large_moves.proofs.tests.keeps_edge.Goals as goal
 
 pub returns-then-solution-v : goal.returns-then-solution-v

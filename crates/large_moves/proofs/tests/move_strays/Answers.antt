@@ -1,12 +1,7 @@
 -- The move is no edge, or the source of that edge decides.
-use Prim.Native.Nat.{◌+◌, ◌*◌}
-use native.Mathlib.Omega.{arith}
-use lib.ListN.{get_or}
 use borrow.Author.Tests.{le-leb, lt-leb}
 use Rattle.theory.specs.Logic.Bools.{◌or◌}
 use Rattle.large_moves.specs.Moves.{move_strays}
-use Rattle.large_moves.proofs.tests.move_strays.Reads as reads
-use Rattle.large_moves.proofs.tests.move_strays.Lts as lts
 use Rattle.large_moves.proofs.tests.move_strays.Goals as goal
 
 pub returns-then-m-e : goal.returns-then-m-e
