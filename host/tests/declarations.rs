@@ -19,13 +19,14 @@ fn plain(text: &str) -> String {
     words.join(" ")
 }
 
-/// The text of every Rattle file below a folder.
+/// The text of every Rattle file below a folder, but for what `rt` made in folders `out`.
 fn rattle(folder: &Path) -> String {
     let entries =
         fs::read_dir(folder).unwrap_or_else(|error| panic!("{}: {error}", folder.display()));
     let mut paths: Vec<PathBuf> = entries.map(|entry| entry.expect("an entry").path()).collect();
     paths.sort();
     let text = |path: &PathBuf| match path.extension() {
+        _ if path.ends_with("out") => String::new(),
         _ if path.is_dir() => rattle(path),
         Some(ending) if ending == "rt" => fs::read_to_string(path).expect("text"),
         _ => String::new(),

@@ -4,7 +4,7 @@ use crate::common::{outside, root};
 use crate::run::{bytes, file};
 use std::fs::{self, File};
 use std::os::unix::fs::symlink;
-use std::path::{Path, PathBuf};
+use std::path::Path;
 use std::process::{Command, Output, Stdio};
 
 fn program() -> Command {

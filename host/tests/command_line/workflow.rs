@@ -3,7 +3,7 @@
 use crate::common::{commands, outside, root};
 use std::fs;
 use std::os::unix::fs::symlink;
-use std::path::{Path, PathBuf};
+use std::path::Path;
 use std::process::Command;
 
 /// Each page with the least number of commands that it has.
