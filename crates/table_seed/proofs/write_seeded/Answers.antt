@@ -35,9 +35,9 @@ returns-then-output-needed c = seed_short _ _ _ _ _ (fails c.before.before) c.if
 
 pub write_table-requires : goal.write_table-requires
 write_table-requires c = let f = fit c.before.before in (
-      record { some = f.vertices.some; vertices = f.vertices.few; degree = f.degree.some; edges = f.edges; fits = c.if-output-needed.false },
-      f.priorities.some,
-    )
+  record { some = f.vertices.some; vertices = f.vertices.few; degree = f.degree.some; edges = f.edges; fits = c.if-output-needed.false },
+  f.priorities.some,
+)
 
 pub returns : goal.returns
 returns c = rw c.write_table.ensures (seed_done _ _ _ _ _ (fails c.before.before.before.before.before.before) c.if-output-needed.false)

@@ -30,8 +30,8 @@ pub loop-i-preserved : goal.loop-i-preserved
 loop-i-preserved c = let e = c.write_edge-next.ensures in
     let p = c.requires in (
       search rules,
-      ap length e.1 ∙ simp length-set c.loop-i.invariant.1,
-      rw (e.0, e.1) (edges_more _ _ _ p.0.degree p.1 c.loop-i.i _ _ _ _ c.loop-i-test.true p.0.fits c.loop-i.invariant.2),
+      ap length e.output_value ∙ simp length-set c.loop-i.invariant.1,
+      rw (e.state_value, e.output_value) (edges_more _ _ _ p.0.degree p.1 c.loop-i.i _ _ _ _ c.loop-i-test.true p.0.fits c.loop-i.invariant.2),
     )
 
 pub returns : goal.returns

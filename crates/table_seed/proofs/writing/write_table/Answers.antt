@@ -17,7 +17,7 @@ write_vertex-generator-requires c = let p = c.requires in
 
 pub loop-v-preserved : goal.loop-v-preserved
 loop-v-preserved c = let l = c.loop-v in
-    (search rules, c.write_vertex-generator.auto.1.1.1.1.1.0 ∙ l.invariant.1, λ old u. c.write_vertex-generator.ensures _ old (l.invariant.2 old u))
+    (search rules, c.write_vertex-generator.auto.output ∙ l.invariant.1, λ old u. c.write_vertex-generator.ensures _ old (l.invariant.2 old u))
 
 pub shape_of-output : goal.shape_of-output
 shape_of-output c = c.loop-v.invariant.1 ∙ simp length-set

@@ -7,7 +7,7 @@ pub bounds-output-n : goal.bounds-output-n
 bounds-output-n c = simp length-set (omega arith)
 
 pub shape_of-output : goal.shape_of-output
-shape_of-output c = c.write_edges.auto.1.1.1.1.0 ∙ simp length-set
+shape_of-output c = c.write_edges.auto.output ∙ simp length-set
 
 pub returns : goal.returns
 returns c = let y = c.draw_below-owner.ensures in
