@@ -10,39 +10,31 @@ use Rattle.reduction_rows.specs.ReachedLaws.{class_inside, lowest_read, lowest_i
 use Rattle.reduction_rows.specs.MetLaws.{members_start, members_next}
 use Rattle.std.proofs.Common.{rules}
 use Rattle.reduction_rows.proofs.meet_members.Goals as goal
-use Rattle.reduction_rows.proofs.meet_members.Lts as lts
-use Rattle.reduction_rows.proofs.meet_members.Reads as reads
-use Rattle.reduction_rows.proofs.meet_members.Tie as tie
-
-abbrev start : lts.In-loop tie.the-claims reads.Pre reads.Post goal.the-invariant-loop-v goal.the-decreases-loop-v → lts.Start tie.the-claims reads.Pre reads.Post goal.the-invariant-loop-v goal.the-decreases-loop-v
-start c = search
 
 pub loop-v-init : goal.loop-v-init
 loop-v-init c = (search rules, refl, members_start _ _ _)
 
 pub lowest_of-r-requires : goal.lowest_of-r-requires
-lowest_of-r-requires c = class_inside (start c.before).pre.0 c.loop-v.v c.loop-v-test.true
-
--- the row is that of the lowest member
-low : (c : lts.After-lowest_of tie.the-claims reads.Pre reads.Post goal.the-invariant-loop-v goal.the-decreases-loop-v) → let i : lts.In-loop tie.the-claims reads.Pre reads.Post goal.the-invariant-loop-v goal.the-decreases-loop-v = search in
-    c.lowest_of-r.result ≡ lowest_of (game_of (start i).args.game.now) i.before.loop.v
-low c =
-    let i : lts.In-loop tie.the-claims reads.Pre reads.Post goal.the-invariant-loop-v goal.the-decreases-loop-v = search in
-    c.lowest_of-r.ensures ∙ lowest_read (start i).pre.0 i.before.loop.v i.loop-test.taken
+lowest_of-r-requires c = class_inside c.requires.0 c.loop-v.v c.loop-v-test.true
 
 pub meet_row-requires : goal.meet_row-requires
-meet_row-requires c = let s = start c.before.before.before in
+meet_row-requires c =
     let l = c.loop-v in
-    let f = s.pre.1 in (
-      rw (low c.before.before) (omega (arith, l.inv.1, row_inside f _ (lowest_inside s.pre.0 l.v c.loop-v-test.true))),
-      omega (arith, l.inv.1, row_inside f l.v c.loop-v-test.true),
+    let grouped = c.requires.0 in
+    let f = c.requires.1 in
+    -- the row is that of the lowest member
+    let low = c.lowest_of-r.ensures ∙ lowest_read grouped l.v c.loop-v-test.true in (
+      rw low (omega (arith, l.invariant.1, row_inside f _ (lowest_inside grouped l.v c.loop-v-test.true))),
+      omega (arith, l.invariant.1, row_inside f l.v c.loop-v-test.true),
     )
 
 pub loop-v-preserved : goal.loop-v-preserved
-loop-v-preserved c = let l = c.loop-v in (
+loop-v-preserved c =
+    let l = c.loop-v in
+    let low = c.lowest_of-r.ensures ∙ lowest_read c.requires.0 l.v c.loop-v-test.true in (
       search rules,
-      omega (arith, c.meet_row.kept, l.inv.1),
-      members_next _ _ l.v _ _ _ (rw (game_n (start c.before.before.before.before.before.before).args.game.now) c.loop-v-test.true) l.inv.2 (rw (low c.before.before.before.before.before) at c.meet_row.ensures),
+      omega (arith, l.invariant.1),
+      members_next _ _ l.v _ _ _ (rw (game_n c.args.game.now) c.loop-v-test.true) l.invariant.2 (rw low at c.meet_row.ensures),
     )
 
 pub returns : goal.returns

@@ -11,12 +11,11 @@ pub loop-k-init : goal.loop-k-init
 loop-k-init c = (search rules, refl, part_start _ _ _ _)
 
 pub loop-k-preserved : goal.loop-k-preserved
-loop-k-preserved c = let l = c.loop-k in
-    (
-      search rules,
-      search rules,
-      part_next _ _ _ l.k _ _ c.loop-k-test.true (omega (arith, l.inv.1, c.requires.0, c.loop-k-test.true)) l.inv.2,
-    )
+loop-k-preserved c = let l = c.loop-k in (
+  search rules,
+  search rules,
+  part_next _ _ _ l.k _ _ c.loop-k-test.true (omega (arith, l.invariant.1, c.requires.0, c.loop-k-test.true)) l.invariant.2,
+)
 
 pub returns : goal.returns
 returns c = let l = c.loop-k in part_end _ _ _ l.k _ _ c.loop-k-test.false l.invariant.2

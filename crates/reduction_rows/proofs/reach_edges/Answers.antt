@@ -7,22 +7,17 @@ use Rattle.table.specs.Table.{table_edges}
 use Rattle.reduction_rows.specs.ReachedLaws.{Placed, placed_none, placed_more, placed_reach}
 use Rattle.std.proofs.Common.{rules}
 use Rattle.reduction_rows.proofs.reach_edges.Goals as goal
-use Rattle.reduction_rows.proofs.reach_edges.Lts as lts
-use Rattle.reduction_rows.proofs.reach_edges.Reads as reads
-use Rattle.reduction_rows.proofs.reach_edges.Tie as tie
-
-abbrev start : lts.In-loop tie.the-claims reads.Pre reads.Post goal.the-invariant-loop-j goal.the-decreases-loop-j tie.handed_clauses → lts.Start tie.the-claims reads.Pre reads.Post goal.the-invariant-loop-j goal.the-decreases-loop-j tie.handed_clauses
-start c = search
 
 pub loop-j-init : goal.loop-j-init
 loop-j-init c = (search rules, refl, placed_none _ _ _ c.requires.by_index)
 
 pub reach_edge-requires : goal.reach_edge-requires
-reach_edge-requires c = let s = start c.before.before in
-    record { grouped = (s.pre.0.0, record { wide = s.pre.0.1.wide; long = omega (arith, c.loop-j.invariant.1, s.pre.0.1.long) }); j_bound = c.loop-j-test.true; }
+reach_edge-requires c =
+    let g = c.requires.grouped in
+    record { grouped = (g.0, record { wide = g.1.wide; long = omega (arith, c.loop-j.invariant.1, g.1.long) }); j_bound = c.loop-j-test.true }
 
 pub loop-j-preserved : goal.loop-j-preserved
-loop-j-preserved c = (search rules, omega (arith, c.reach_edge.auto, c.loop-j.invariant.1), placed_more _ _ c.loop-j.j _ _ c.loop-j.invariant.2 c.reach_edge.ensures)
+loop-j-preserved c = (search rules, omega (arith, c.loop-j.invariant.1), placed_more _ _ c.loop-j.j _ _ c.loop-j.invariant.2 c.reach_edge.ensures)
 
 pub returns : goal.returns
 returns c = let l = c.loop-j in
