@@ -38,16 +38,16 @@ unfolding solution_answer
 returns-in-Refused-moves c =
     let f = c.in-Refused-moves.refusal in
     sym (large_past _ _ (was_read _ _ _ c.in_default.is c.read-reading.ensures) _ _
-      ∙ judge_stays _ _ [] [] f.number f.place (sym (rw c.in-Refused-moves.is at c.judge_moves-moves.ensures)))
+    ∙ judge_stays _ _ [] [] f.number f.place (sym (rw c.in-Refused-moves.is at c.judge_moves-moves.ensures)))
 
 pub judge_places-requires : goal.judge_places-requires
 judge_places-requires c =
     chosen_lengths _ _ (large_sized _ _ (was_read _ _ _ c.in_default.is c.read-reading.ensures)).formed
-      (clean_chosen _ _ (moves_clean _ _ _ c.in_default-moves.is c.judge_moves-moves.ensures))
+    (clean_chosen _ _ (moves_clean _ _ _ c.in_default-moves.is c.judge_moves-moves.ensures))
 
 pub returns : goal.returns
 unfolding solution_answer
 returns c =
     c.judge_places.ensures
-      ∙ sym (large_past _ _ (was_read _ _ _ c.in_default.is c.read-reading.ensures) _ _
-        ∙ judge_past (move_rows c.args.game.now c.args.solution.now) _ [] (moves_clean _ _ _ c.in_default-moves.is c.judge_moves-moves.ensures))
+    ∙ sym (large_past _ _ (was_read _ _ _ c.in_default.is c.read-reading.ensures) _ _
+    ∙ judge_past (move_rows c.args.game.now c.args.solution.now) _ [] (moves_clean _ _ _ c.in_default-moves.is c.judge_moves-moves.ensures))

@@ -14,11 +14,6 @@ use Rattle.large_solution.specs.Places.{Placed, from_last, first_beyond, first_m
 use Rattle.large_solution.proofs.PlacesLaws.{placed_by}
 use Rattle.large_solution.proofs.judge_places.Reads as reads
 use Rattle.large_solution.proofs.judge_places.Lts as lts
-use Rattle.large_solution.proofs.searches.first_bad_run.Reads as first-bad-run-reads
-use Rattle.large_solution.proofs.searches.first_climb.Reads as first-climb-reads
-use Rattle.large_solution.proofs.searches.first_misplaced.Reads as first-misplaced-reads
-use Rattle.large_table.proofs.first_at_least.Reads as first-at-least-reads
-use Rattle.table.proofs.acceptor.refused.Reads as refused-reads
 use Rattle.large_solution.proofs.judge_places.Goals as goal
 use Rattle.large_solution.proofs.judge_places.Lts as lts
 use Rattle.large_solution.proofs.judge_places.Reads as reads

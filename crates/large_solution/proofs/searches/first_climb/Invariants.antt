@@ -1,11 +1,7 @@
-use mathlib.Core.Path.{◌≡◌, sym, ◌∙◌}
+use mathlib.Core.Path.{◌≡◌}
 use Prim.Native.Nat.{◌≤◌, ◌-◌}
 use Rattle.theory.specs.Logic.Range.{first}
-use Rattle.theory.proofs.Logic.RangeLaws.{first_step, first_hit, first_end_lem}
 use Rattle.large_solution.specs.Places.{edge_climbs}
-use Rattle.large_solution.proofs.searches.first_climb.Reads as reads
-use Rattle.large_solution.proofs.searches.first_climb.Lts as lts
-use Rattle.large_solution.proofs.tests.edge_climbs.Reads as edge-climbs-reads
 use Rattle.large_solution.proofs.searches.first_climb.Given as goal
 
 abbrev pub invariant-loop-j : goal.invariant-loop-j

@@ -1,12 +1,6 @@
 -- The rest of the search finds what the whole does.
-use mathlib.Core.Path.{◌≡◌, sym, ◌∙◌}
-use Prim.Native.Nat.{◌≤◌, ◌-◌}
-use Rattle.theory.specs.Logic.Range.{first}
+use mathlib.Core.Path.{sym, ◌∙◌}
 use Rattle.theory.proofs.Logic.RangeLaws.{first_step, first_hit, first_end_lem}
-use Rattle.large_solution.specs.Places.{is_misplaced}
-use Rattle.large_solution.proofs.searches.first_misplaced.Reads as reads
-use Rattle.large_solution.proofs.searches.first_misplaced.Lts as lts
-use Rattle.large_solution.proofs.tests.is_misplaced.Reads as is-misplaced-reads
 use Rattle.std.proofs.Common.{rules}
 use Rattle.large_solution.proofs.searches.first_misplaced.Goals as goal
 

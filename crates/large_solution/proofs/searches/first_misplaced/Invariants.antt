@@ -1,11 +1,7 @@
-use mathlib.Core.Path.{◌≡◌, sym, ◌∙◌}
+use mathlib.Core.Path.{◌≡◌}
 use Prim.Native.Nat.{◌≤◌, ◌-◌}
 use Rattle.theory.specs.Logic.Range.{first}
-use Rattle.theory.proofs.Logic.RangeLaws.{first_step, first_hit, first_end_lem}
 use Rattle.large_solution.specs.Places.{is_misplaced}
-use Rattle.large_solution.proofs.searches.first_misplaced.Reads as reads
-use Rattle.large_solution.proofs.searches.first_misplaced.Lts as lts
-use Rattle.large_solution.proofs.tests.is_misplaced.Reads as is-misplaced-reads
 use Rattle.large_solution.proofs.searches.first_misplaced.Given as goal
 
 abbrev pub invariant-loop-v : goal.invariant-loop-v

@@ -4,8 +4,6 @@ use mathlib.Core.Bool.{not}
 use borrow.Author.Tests.{lt-ltb, le-ltb, le-leb, lt-leb, eq-eqb, ne_eqb}
 use Rattle.theory.proofs.Logic.BoolsLaws.{not_in, and_first, and_one, or_left, or_first}
 use Rattle.large_solution.specs.Places.{climbs_by}
-use Rattle.large_solution.proofs.tests.climbs_by.Reads as reads
-use Rattle.large_solution.proofs.tests.climbs_by.Lts as lts
 use Rattle.large_solution.proofs.tests.climbs_by.Goals as goal
 
 pub returns-then-end-b : goal.returns-then-end-b

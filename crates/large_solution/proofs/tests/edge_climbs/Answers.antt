@@ -2,15 +2,11 @@
 use mathlib.Core.Path.{sym, ◌∙◌}
 use Prim.Native.Nat.{ℕ, ◌+◌, ◌*◌, ◌<◌}
 use native.Mathlib.Omega.{arith}
-use borrow.Author.Tests.{not-false}
 use Rattle.theory.specs.Logic.Bools.{◌&◌}
-use Rattle.theory.proofs.Logic.BoolsLaws.{not_out}
 use Rattle.large_table.specs.Words.{source_of, target_of}
 use Rattle.large_solution.specs.Places.{place_at, edge_climbs}
 use Rattle.large_solution.proofs.tests.edge_climbs.Reads as reads
 use Rattle.large_solution.proofs.tests.edge_climbs.Lts as lts
-use Rattle.large_moves.proofs.tests.keeps_edge.Reads as keeps-edge-reads
-use Rattle.large_solution.proofs.tests.climbs_by.Reads as climbs-by-reads
 use Rattle.large_solution.proofs.tests.edge_climbs.Goals as goal
 use Rattle.large_solution.proofs.tests.edge_climbs.Lts as lts
 use Rattle.large_solution.proofs.tests.edge_climbs.Reads as reads

@@ -6,7 +6,6 @@ use Rattle.theory.specs.Logic.Bools.{◌&◌}
 use Rattle.large_solution.specs.Places.{vertex_at, place_over}
 use Rattle.large_solution.proofs.tests.is_in_run.Reads as reads
 use Rattle.large_solution.proofs.tests.is_in_run.Lts as lts
-use Rattle.large_solution.proofs.tests.is_over.Reads as is-over-reads
 use Rattle.large_solution.proofs.tests.is_in_run.Goals as goal
 use Rattle.large_solution.proofs.tests.is_in_run.Lts as lts
 use Rattle.large_solution.proofs.tests.is_in_run.Reads as reads

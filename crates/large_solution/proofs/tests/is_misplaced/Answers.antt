@@ -1,6 +1,6 @@
 -- The definition, computed.
 use mathlib.Core.Path.{refl}
-use Prim.Native.Nat.{◌+◌, ◌<◌}
+use Prim.Native.Nat.{◌<◌}
 use native.Mathlib.Omega.{arith}
 use Rattle.large_solution.specs.Places.{place_at, is_misplaced}
 use Rattle.large_solution.proofs.tests.is_misplaced.Reads as reads

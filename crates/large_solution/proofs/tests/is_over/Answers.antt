@@ -2,8 +2,6 @@
 use borrow.Author.Tests.{lt-ltb, le-ltb, eq-eqb, ne_eqb}
 use Rattle.theory.specs.Logic.Bools.{◌&◌, ◌or◌}
 use Rattle.large_solution.specs.Places.{is_over}
-use Rattle.large_solution.proofs.tests.is_over.Reads as reads
-use Rattle.large_solution.proofs.tests.is_over.Lts as lts
 use Rattle.large_solution.proofs.tests.is_over.Goals as goal
 
 pub returns-then-p-q : goal.returns-then-p-q
