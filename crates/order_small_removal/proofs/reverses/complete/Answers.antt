@@ -1,6 +1,7 @@
 -- The reverses of the losses in the words before v are losses too. A loss that word v gained meanwhile is the reverse of one at the start,
 -- so its own reverse is a loss already.
-use mathlib.Core.Path.{◌≡◌, refl, ◌∙◌}
+use mathlib.Core.Path.{◌≡◌, refl, ap, ◌∙◌}
+use mathlib.Core.Bool.{not}
 use Prim.Native.Nat.{◌+◌, ◌-◌}
 use native.Mathlib.Omega.{arith}
 use lib.ListN.{length}
@@ -12,7 +13,7 @@ use Rattle.order_small_losses.specs.Words.{bit}
 use Rattle.order_small_removal.proofs.reverses.complete.Goals as goal
 
 pub returns-then-not-mirror : goal.returns-then-not-mirror
-returns-then-not-mirror c = mirror_none word_bits _ c.if-not-mirror.true _ _
+returns-then-not-mirror c = mirror_none word_bits _ (ap not c.if-not-mirror.true) _ _
 
 pub loop-v-init : goal.loop-v-init
 loop-v-init c = let a = c.args in
@@ -32,7 +33,7 @@ loop-v-preserved c = let a = c.args in
     let h = c.loop-v-test.true in
     let e = c.first_from-v-in-loop-v.ensures in (
       rw e (reached_next (digit a.losing) word_bits c.loop-v.v h),
-      c.lose_column-more.kept.0 ∙ i.1,
+      c.lose_column-more.auto.next ∙ i.1,
       rw e (mirror_next word_bits (digit a.losing) (bit a.next.now) (digit a.losing) (λ x k. refl) c.loop-v.v _ _ _ _ _ h (i.0.1 h) i.2
           (λ x k. refl) c.lose_column-more.ensures),
     )
@@ -40,5 +41,5 @@ loop-v-preserved c = let a = c.args in
 pub returns : goal.returns
 returns c = let a = c.args in
     let i = c.loop-v.invariant in
-    mirror_end word_bits (digit a.losing) (bit a.next.now) (digit a.losing) (λ x h. refl) a.mirror c.if-not-mirror.false _ _ _
+    mirror_end word_bits (digit a.losing) (bit a.next.now) (digit a.losing) (λ x h. refl) a.mirror (ap not c.if-not-mirror.false) _ _ _
     (omega (arith, i.0.0, c.loop-v-test.false)) i.2

@@ -21,7 +21,7 @@ loop-left-smaller c = c.rest-left.ensures.less
 pub loop-left-preserved : goal.loop-left-preserved
 loop-left-preserved c = let i = c.loop-left.invariant in
     let a = c.args in (
-      c.lose_pair-more.kept.0 ∙ i.0,
+      c.lose_pair-more.auto.next ∙ i.0,
       left_next a.which _ _ i.1 c.rest-left.ensures,
       word_next word_bits 0 a.which a.v (bit a.next.now) (digit a.losing) _ _ _ _ _ _ _ i.1 c.lowest.ensures c.rest-left.ensures i.2
           (pair_base _ _ _ _ _ _ c.lose_pair-more.ensures),

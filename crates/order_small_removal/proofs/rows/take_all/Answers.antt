@@ -45,13 +45,13 @@ loop-a-smaller c = omega (arith, first_ge (digit c.args.losing) (c.loop-a.a + 1)
 pub loop-a-preserved : goal.loop-a-preserved
 loop-a-preserved c = let a = c.args in
     let h = c.loop-a-test.true in
-    let k = c.take_row-cleared.kept.1.1 in
+    let k = c.take_row-cleared.auto in
     let i = c.loop-a.invariant in
     let e = c.first_from-a-in-loop-a.ensures in (
       rw e (reached_next (digit a.losing) word_bits c.loop-a.a h),
-      k.0 ∙ i.1,
-      k.1.0 ∙ i.2,
-      k.1.1.0 ∙ i.3,
+      k.related ∙ i.1,
+      k.lost ∙ i.2,
+      k.falls ∙ i.3,
       rw e (taken_next word_bits (bit a.edges.now) (bit a.next.now) (digit a.losing) (bit a.related.now) c.loop-a.a (i.0.1 h) h
           _ _ _ _ _ _ _ _ i.4 c.take_row-cleared.ensures),
     )
