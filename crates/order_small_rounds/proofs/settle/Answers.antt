@@ -26,7 +26,7 @@ few c = let well = c.requires.well_formed.0 in (c.loop-taken.invariant.5.pass.fe
 
 -- what the round did to the rows of the game
 done : (c : lts.After-round tie.the-claims reads.Pre reads.Post goal.the-invariant-loop-taken goal.the-decreases-loop-taken tie.handed_clauses) → RoundIn word_bits c.args.mirror (game_of c.args.game.now) (bit c.loop-taken.related) (bit c.loop-taken.lost) (digit c.loop-taken.changed)
-    c.round-taken.result.cleared (bit c.round-taken.new.1.0) (bit c.round-taken.new.1.1.0) (bit c.round-taken.new.1.1.1.0) (digit c.round-taken.result.changed)
+    c.round-taken.result.cleared (bit c.round-taken.new.related) (bit c.round-taken.new.lost) (bit c.round-taken.new.falls) (digit c.round-taken.result.changed)
 done c = c.round-taken.ensures (game_of c.args.game.now) c.requires.well_formed.2 c.loop-taken.invariant.4 c.loop-taken.invariant.5.mirrored
 
 pub loop-taken-init : goal.loop-taken-init
@@ -44,8 +44,8 @@ pub returns-then-taken-eq0 : goal.returns-then-taken-eq0
 returns-then-taken-eq0 c = after_last word_bits _ _ _ _ _ _ _ _ _ _ _ c.loop-taken.invariant.5 (done c.before.before.before.before.before.before.before.before.before.before.before) c.if-taken-eq0.true
 
 -- one pass more
-more : (c : lts.Else1 tie.the-claims reads.Pre reads.Post goal.the-invariant-loop-taken goal.the-decreases-loop-taken tie.handed_clauses) → AfterRound c.args.mirror (game_of c.args.game.now) (c.loop-taken.passes + 1) (bit c.round-taken.new.1.0)
-    (struck (digit c.round-taken.result.changed) (bit c.round-taken.new.1.1.0))
+more : (c : lts.Else1 tie.the-claims reads.Pre reads.Post goal.the-invariant-loop-taken goal.the-decreases-loop-taken tie.handed_clauses) → AfterRound c.args.mirror (game_of c.args.game.now) (c.loop-taken.passes + 1) (bit c.round-taken.new.related)
+    (struck (digit c.round-taken.result.changed) (bit c.round-taken.new.lost))
 more c = after_more word_bits _ _ _ _ _ _ _ _ _ _ _ c.loop-taken.invariant.5 (done c.before.before.before.before.before.before.before.before.before.before) c.if-taken-eq0.false
 
 pub loop-taken-smaller : goal.loop-taken-smaller
@@ -54,4 +54,4 @@ loop-taken-smaller c = omega (arith, (more c.before).pass.few)
 
 pub loop-taken-preserved : goal.loop-taken-preserved
 loop-taken-preserved c = let i = c.loop-taken.invariant in
-    let k = c.round-taken.auto in (k.1.0 ∙ i.0, k.1.1.0 ∙ i.1, k.1.1.1.0 ∙ i.2, k.1.1.1.1.0 ∙ i.3, (done c.before.before.before.before.before.before.before.before.before.before.before).fell, more c.before)
+    let k = c.round-taken.auto in (k.related ∙ i.0, k.lost ∙ i.1, k.falls ∙ i.2, k.next ∙ i.3, (done c.before.before.before.before.before.before.before.before.before.before.before).fell, more c.before)

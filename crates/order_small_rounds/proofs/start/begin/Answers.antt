@@ -35,7 +35,7 @@ pub offset_bounds-lost-v : goal.offset_bounds-lost-v
 offset_bounds-lost-v c = omega (arith, inside c.before.before.before.before.before.before.before.before.before.before.before)
 
 pub bounds-lost-v : goal.bounds-lost-v
-bounds-lost-v c = omega (arith, inside c.before.before.before.before.before.before.before.before.before.before.before.before, c.start_row.auto.1.1.1.0, c.loop-v.invariant.2, c.requires.word_bits_in_bounds.1)
+bounds-lost-v c = omega (arith, inside c.before.before.before.before.before.before.before.before.before.before.before.before, c.start_row.auto.lost, c.loop-v.invariant.2, c.requires.word_bits_in_bounds.1)
 
 pub with-changed-requires : goal.with-changed-requires
 with-changed-requires c = inside c.before.before.before.before.before.before.before.before.before.before.before.before.before
@@ -45,9 +45,9 @@ unfolding bit
 loop-v-preserved c = let i = c.loop-v.invariant in
     let r = c.start_row in (
       omega (arith, c.loop-v-test.true),
-      r.auto.1.1.0 ∙ i.1,
-      r.auto.1.1.1.0 ∙ i.2,
-      r.auto.1.1.1.1.0 ∙ i.3,
+      r.auto.related ∙ i.1,
+      r.auto.lost ∙ i.2,
+      r.auto.falls ∙ i.3,
       r.ensures,
       started_next word_bits _ c.loop-v.v _ _ _ _ _ _ _ r.ensures i.5 (λ x h. refl) c.is_some.ensures c.with-changed.ensures,
     )
