@@ -1,9 +1,6 @@
 -- The rest of the search finds what the whole does.
-use mathlib.Core.Path.{◌≡◌, sym, ◌∙◌}
-use Prim.Native.Nat.{◌≤◌, ◌-◌}
-use Rattle.theory.specs.Logic.Range.{first}
+use mathlib.Core.Path.{sym, ◌∙◌}
 use Rattle.theory.proofs.Logic.RangeLaws.{first_step, first_hit, first_end_lem}
-use Rattle.large_images.specs.Images.{after_strays}
 use Rattle.std.proofs.Common.{rules}
 use Rattle.large_images.proofs.searches.first_after.Goals as goal
 

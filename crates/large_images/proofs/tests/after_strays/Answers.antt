@@ -1,11 +1,8 @@
 -- The row ends, or each test of the definition in its turn.
 use mathlib.Core.Path.{sym, ◌∙◌}
 use mathlib.Core.Bool.{So}
-use Prim.Native.Nat.{◌+◌}
 use native.Mathlib.Omega.{arith}
-use lib.ListN.{get_or}
-use borrow.Author.Tests.{not-false}
-use Rattle.theory.proofs.Logic.BoolsLaws.{not_out, and_in, and_first, and_one}
+use Rattle.theory.proofs.Logic.BoolsLaws.{and_in, and_first, and_one}
 use Rattle.large_images.specs.Images.{image_at, goes_on, after_strays}
 use Rattle.large_images.proofs.ImagesLaws.{after_beyond, after_other, after_by_image}
 use Rattle.large_images.proofs.tests.after_strays.Goals as goal

@@ -1,7 +1,4 @@
 -- The member is no vertex, or its class decides.
-use Prim.Native.Nat.{◌+◌}
-use native.Mathlib.Omega.{arith}
-use lib.ListN.{get_or}
 use borrow.Author.Tests.{le-leb, lt-leb}
 use Rattle.theory.specs.Logic.Bools.{◌or◌}
 use Rattle.large_images.specs.Images.{member_strays}

@@ -1,7 +1,6 @@
 -- The owners are the same, or the row of the class decides.
-use Prim.Native.Nat.{◌+◌, ◌<◌}
+use Prim.Native.Nat.{◌<◌}
 use native.Mathlib.Omega.{arith}
-use lib.ListN.{get_or}
 use borrow.Author.Tests.{eq-eqb, ne_eqb}
 use Rattle.theory.specs.Logic.Bools.{◌&◌}
 use Rattle.large_images.specs.Images.{class_at, start_at, owner_strays}

@@ -1,7 +1,4 @@
 -- The start is no edge, or its source differs, or its image decides.
-use Prim.Native.Nat.{◌+◌, ◌*◌}
-use native.Mathlib.Omega.{arith}
-use lib.ListN.{get_or}
 use borrow.Author.Tests.{le-leb, lt-leb, eq-eqb, ne_eqb}
 use Rattle.theory.specs.Logic.Bools.{◌or◌}
 use Rattle.large_images.specs.Images.{start_at, start_strays}
