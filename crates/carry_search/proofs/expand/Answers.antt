@@ -13,7 +13,7 @@ use Rattle.carry_search.specs.SearchMemoryLaws.{moved_none}
 use Rattle.carry_search.specs.Work.{memory_in, stored_pair}
 use Rattle.carry_search.specs.Search.{table_moves_below, most_links}
 use Rattle.carry_search.specs.ExpandLaws.{expandable_long, moved_on, moved_more, most_within, moved_few, expanded_pair}
-use Rattle.carry_search.proofs.expand.Invariants.{most}
+use Rattle.std.proofs.Common.{rules}
 use Rattle.carry_search.proofs.expand.Goals as goal
 
 pub bounds-work-k : goal.bounds-work-k
@@ -29,7 +29,7 @@ pub loop-w-init : goal.loop-w-init
 unfolding moves_below
 loop-w-init c = let flags = c.requires.readable.flags in
     let hu = c.requires.expandable.inside.new_lt in
-    let f = c.next-Successor.ensures in (
+    let f = c.next_successor-w.ensures in (
       successor_le _ _ flags _ 0 _ hu (omega arith) f,
       refl,
       moved_on _ _ _ _ _ _ _ _ _ _ _ flags 0 _ hu (omega arith) f (moved_none _ _ _ c.requires.expandable.ready),
@@ -38,15 +38,15 @@ loop-w-init c = let flags = c.requires.readable.flags in
 
 pub returns-then-pairs-gt-POSITIONS : goal.returns-then-pairs-gt-POSITIONS
 returns-then-pairs-gt-POSITIONS c = let l = c.loop-w in
-    expanded_pair _ _ _ _ _ _ _ _ _ _ l.w l.invariant.0 l.invariant.2 _ (most c.before.before.before) l.invariant.3 (inr (inl c.if-pairs-gt-POSITIONS.true))
+    expanded_pair _ _ _ _ _ _ _ _ _ _ l.w l.invariant.0 l.invariant.2 _ c.most_links-most.ensures l.invariant.3 (inr (inl c.if-pairs-gt-POSITIONS.true))
 
 pub returns-then-most-links : goal.returns-then-most-links
 returns-then-most-links c = let l = c.loop-w in
-    expanded_pair _ _ _ _ _ _ _ _ _ _ l.w l.invariant.0 l.invariant.2 _ (most c.before.before.before.before) l.invariant.3 (inr (inr c.if-most-links.true))
+    expanded_pair _ _ _ _ _ _ _ _ _ _ l.w l.invariant.0 l.invariant.2 _ c.most_links-most.ensures l.invariant.3 (inr (inr c.if-most-links.true))
 
 pub step-more-requires : goal.step-more-requires
 step-more-requires c = let x = c.requires.expandable in
-    let b = most_within _ _ _ _ _ (most c.before.before.before.before.before) x.within.few_links in
+    let b = most_within _ _ _ _ _ c.most_links-most.ensures x.within.few_links in
     let within : Within c.loop-w.pairs c.loop-w.links = record { few_pairs = c.if-pairs-gt-POSITIONS.false; few_links = omega (arith, c.if-most-links.false, b) } in record { readable = c.requires.readable; search_room = (c.loop-w.invariant.2.ready, within, omega (arith, x.within.few_pairs, x.found)); i_bound = (x.inside.old_lt, x.inside.new_lt, c.loop-w-test.true); }
 
 pub overflow_add-w : goal.overflow_add-w
@@ -67,11 +67,11 @@ loop-w-preserved c = let l = c.loop-w in
     let f = c.next_successor-w-in-loop-w.ensures in
     let s = c.step-more in (
       successor_le _ _ flags _ (l.w + 1) _ hu h f,
-      s.kept.1.1.1.1.1.1.1.1.0 ∙ l.inv.1,
-      moved_more _ _ _ _ _ _ _ _ _ _ _ _ flags l.w _ hu c.loop-w-test.true f l.inv.2 s.ensures,
+      search rules,
+      moved_more _ _ _ _ _ _ _ _ _ _ _ _ flags l.w _ hu c.loop-w-test.true f l.invariant.2 s.ensures,
       omega (arith, c.if-most-links.false, moved_few _ _ _ _ _ _ _ _ _ _ _ s.ensures),
     )
 
 pub returns : goal.returns
 returns c = let l = c.loop-w in
-    expanded_pair _ _ _ _ _ _ _ _ _ _ l.w l.invariant.0 l.invariant.2 _ (most c.before.before) l.invariant.3 (inl c.loop-w-test.false)
+    expanded_pair _ _ _ _ _ _ _ _ _ _ l.w l.invariant.0 l.invariant.2 _ c.most_links-most.ensures l.invariant.3 (inl c.loop-w-test.false)

@@ -14,15 +14,10 @@ use Rattle.carry_search.specs.Search.{table_moves_below, most_links}
 use Rattle.carry_search.specs.ExpandLaws.{expandable_long, moved_on, moved_more, most_within, moved_few, expanded_pair}
 use Rattle.carry_search.proofs.expand.Given as goal
 
-pub most : (a : tie.At-loop invariant-loop decreases-loop)
-    → let e = (start a).args in
-    a.before.before.most-links.result ≡ most_links e.game.now e.player (stored_pair e.work.now e.k).1 e.counts.links
-most a = a.before.before.most-links.ensures
-
 abbrev pub invariant-loop-w : goal.invariant-loop-w
 invariant-loop-w l = (l.w ≤ l.n) × (length l.work ≡ length l.initial.work)
-    × Moved l.k (table_moves_below l.game l.player l.plan l.seats l.i l.u l.w) (position_count l.plan) (memory_in l.initial.work (record { l.pairs = l.initial.pairs; l.links = l.initial.links }))
-    (memory_in l.work (record { l.pairs = l.pairs; l.links = l.links }))
+    × Moved l.k (table_moves_below l.game l.player l.plan l.seats l.i l.u l.w) (position_count l.plan) (memory_in l.initial.work (record { pairs = l.initial.pairs; links = l.initial.links }))
+    (memory_in l.work (record { pairs = l.pairs; links = l.links }))
     × (l.links ≤ l.most + 1)
 
 abbrev pub decreases-loop-w : goal.decreases-loop-w

@@ -6,6 +6,7 @@ use native.Mathlib.Omega.{arith}
 use lib.ListN.{length}
 use Rattle.table.specs.Limits.{position_limit}
 use Rattle.carry_search.specs.RunLaws.{Runs, runs_start, runs_expandable, runs_next, runs_over, runs_end}
+use Rattle.std.proofs.Common.{rules}
 use Rattle.carry_search.proofs.run.Goals as goal
 
 pub loop-k-init : goal.loop-k-init
@@ -31,7 +32,7 @@ pub loop-k-preserved : goal.loop-k-preserved
 loop-k-preserved c = let i = c.loop-k.invariant in
     let s = c.expand-more in
     let few = c.if-pairs-gt-POSITIONS.false in (
-      s.kept.1.1.1.1.1.1.1.1.0 ∙ i.0,
+      search rules,
       runs_next _ _ _ _ _ _ _ _ _ _ _ _ i.1 _ _ c.loop-k-test.true s.ensures (record { few_pairs = few; few_links = c.if-links-gt-LINKS.false }),
     )
 

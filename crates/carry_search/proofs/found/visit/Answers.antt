@@ -23,20 +23,20 @@ bounds-work-links c = omega (arith, link_room_lem c.before.before)
 pub overflow_cast-work-2 : goal.overflow_cast-work-2
 overflow_cast-work-2 c = let m : Memory = memory_in c.args.work.now c.args.counts in
     let l = length_pairs_in m.olds m.vertices m.pairs in
-    omega (arith, c.number_of_lem.ensures, number_le (found_in m).pairs c.args.j c.args.w, l, c.requires.search_room.1.few_pairs)
+    omega (arith, c.number_of-number.ensures, number_le (found_in m).pairs c.args.j c.args.w, l, c.requires.search_room.1.few_pairs)
 
 pub bounds-work-links-2 : goal.bounds-work-links-2
 bounds-work-links-2 c = simp length-set (link_room_lem c.before.before)
 
 pub returns-then-number-pairs : goal.returns-then-number-pairs
-returns-then-number-pairs c = visited_found _ _ _ c.requires.search_room.0 c.requires.search_room.1 _ _ _ c.requires.k_le_position_limit.1 _ c.number_of_lem.ensures c.if-number-pairs.true
+returns-then-number-pairs c = visited_found _ _ _ c.requires.search_room.0 c.requires.search_room.1 _ _ _ c.requires.k_le_position_limit.1 _ c.number_of-number.ensures c.if-number-pairs.true
 
 pub add_pair-requires : goal.add_pair-requires
 add_pair-requires c = let ready = c.requires.search_room.0 in
     (c.requires.search_room.1.few_pairs, omega (arith, c.requires.k_le_position_limit.1, ready.few), simp length-set (ready_long _ _ _ ready))
 
 pub shape_of-work : goal.shape_of-work
-shape_of-work c = c.add_pair.auto.0 ∙ simp length-set
+shape_of-work c = c.add_pair.auto.work ∙ simp length-set
 
 pub returns : goal.returns
-returns c = visited_new _ _ _ c.requires.search_room.0 c.requires.search_room.1 _ _ _ c.requires.k_le_position_limit.1 _ c.number_of_lem.ensures c.if-number-pairs.false _ c.add_pair.ensures
+returns c = visited_new _ _ _ c.requires.search_room.0 c.requires.search_room.1 _ _ _ c.requires.k_le_position_limit.1 _ c.number_of-number.ensures c.if-number-pairs.false _ c.add_pair.ensures
