@@ -1,9 +1,7 @@
 -- The rest of the search finds what the whole does.
 use mathlib.Core.Path.{◌≡◌, sym, ◌∙◌}
-use mathlib.Core.Logic.{⊎_elim}
 use mathlib.Core.Bool.{So}
 use Prim.Native.Nat.{◌+◌, ◌-◌, ◌≤◌}
-use borrow.Author.Tests.{eqb-true, eqb-false}
 use Rattle.theory.proofs.Logic.BoolsLaws.{So_not}
 use Rattle.theory.specs.Logic.Range.{first}
 use Rattle.theory.proofs.Logic.RangeLaws.{first_step, first_hit, first_end_lem}
@@ -11,15 +9,17 @@ use Rattle.table_convert.specs.ConvertCall.{oversize, first_oversize}
 use Rattle.table_convert.specs.ConvertCallLaws.{oversize_in, oversize_out}
 use Rattle.std.proofs.Common.{rules}
 use Rattle.table_convert.proofs.writing.first_oversize.Goals as goal
-use Rattle.table_convert.proofs.writing.first_oversize.Lts as lts
-use Rattle.table_convert.proofs.writing.first_oversize.Reads as reads
+use Rattle.table_convert.proofs.writing.first_oversize.Goals.{else-most-eq65535-via-then-most-eq65535+else-game-k-eq0, else-most-eq65535-via-else-most-eq65535}
 
 -- word k isn't one: one of the tests failed
-miss : (c : lts.Joined1 reads.Pre reads.Post goal.the-invariant-loop-k goal.the-decreases-loop-k) → So (oversize c.args.game.now c.loop-k.k) → ⊥
+miss : (c : goal.Joined-else-most-eq65535) → So (oversize c.args.game.now c.loop-k.k) → ⊥
 miss c h =
     let p = c.requires in
     let t = oversize_out _ _ h in
-    ⊎_elim (λ w. eqb-false _ _ w.2.left t.1) (λ w. w.left (p.1 ∙ t.0)) c.else-most-eq65535.branch
+    elim c.else-most-eq65535.branch [
+      | else-most-eq65535-via-then-most-eq65535+else-game-k-eq0 w ↦ w.if-game-k-eq0.false t.1
+      | else-most-eq65535-via-else-most-eq65535 w ↦ w.if-most-eq65535.false (p.1 ∙ t.0)
+    ]
 
 pub loop-k-init : goal.loop-k-init
 unfolding first_oversize
@@ -27,7 +27,7 @@ loop-k-init c = (search rules, rw (← c.requires.0))
 
 pub returns-then-game-k-eq0 : goal.returns-then-game-k-eq0
 returns-then-game-k-eq0 c = let p = c.requires in
-    sym (c.loop-k.invariant.1 ∙ first_hit _ _ _ c.loop-k-test.true (oversize_in _ _ (sym p.1 ∙ c.else-most-eq65535.true) (eqb-true _ _ c.if-game-k-eq0.true)))
+    sym (c.loop-k.invariant.1 ∙ first_hit _ _ _ c.loop-k-test.true (oversize_in _ _ (sym p.1 ∙ c.if-most-eq65535.true) c.if-game-k-eq0.true))
 
 pub loop-k-preserved : goal.loop-k-preserved
 loop-k-preserved c = (search rules, c.loop-k.invariant.1 ∙ first_step _ _ _ c.loop-k-test.true (So_not (miss c)))
