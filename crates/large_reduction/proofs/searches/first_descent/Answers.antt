@@ -1,9 +1,6 @@
 -- The rest of the search finds what the whole does.
-use mathlib.Core.Path.{◌≡◌, sym, ◌∙◌}
-use Prim.Native.Nat.{◌≤◌, ◌-◌}
-use Rattle.theory.specs.Logic.Range.{first}
+use mathlib.Core.Path.{sym, ◌∙◌}
 use Rattle.theory.proofs.Logic.RangeLaws.{first_step, first_hit, first_end_lem}
-use Rattle.large_reduction.specs.ReductionCall.{edge_descends}
 use Rattle.std.proofs.Common.{rules}
 use Rattle.large_reduction.proofs.searches.first_descent.Goals as goal
 

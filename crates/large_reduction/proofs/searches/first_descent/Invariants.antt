@@ -1,7 +1,6 @@
-use mathlib.Core.Path.{◌≡◌, sym, ◌∙◌}
+use mathlib.Core.Path.{◌≡◌}
 use Prim.Native.Nat.{◌≤◌, ◌-◌}
 use Rattle.theory.specs.Logic.Range.{first}
-use Rattle.theory.proofs.Logic.RangeLaws.{first_step, first_hit, first_end_lem}
 use Rattle.large_reduction.specs.ReductionCall.{edge_descends}
 use Rattle.large_reduction.proofs.searches.first_descent.Given as goal
 
