@@ -14,8 +14,8 @@ use Rattle.carry.proofs.carry_class_plan.Tie as tie
 table : (c : lts.After-tabulate_classes tie.the-claims reads.Pre reads.Post)
     → let a = c.args in
     TableCall reduced a.game.now a.marks.now a.spare.now a.classes.now a.reduction.now (tabulation_answer c.tabulate_classes-written.result)
-    c.tabulate_classes-written.new.1.1.0 c.tabulate_classes-written.new.1.1.1.0 c.tabulate_classes-written.new.1.1.1.1.0
-    c.tabulate_classes-written.new.1.1.1.1.1.0
+    c.tabulate_classes-written.new.marks c.tabulate_classes-written.new.spare c.tabulate_classes-written.new.classes
+    c.tabulate_classes-written.new.output
 unfolding game_by
 table c = c.tabulate_classes-written.ensures
 

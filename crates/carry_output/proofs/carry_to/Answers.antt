@@ -16,21 +16,21 @@ use Rattle.carry_output.proofs.carry_to.Reads as reads
 use Rattle.carry_output.proofs.carry_to.Tie as tie
 
 seated : (c : lts.After-seat_positions tie.the-claims reads.Pre reads.Post tie.handed_clauses)
-    → let a = c.args in Seated a.game.now a.player a.plan.now c.seat_positions.new.1.1.1.1.0 a.marks.now
+    → let a = c.args in Seated a.game.now a.player a.plan.now c.seat_positions.new.seats a.marks.now
 seated c =
     seats_seated c.requires.0 c.requires.1 c.requires.2 _ c.seat_positions.ensures
-    (omega (arith, c.seat_positions.auto.1.1.1.1.0, length-replicate {A = ℕ} 4096 0, c.requires.0.formed.sized.positions))
+    (omega (arith, c.seat_positions.auto.seats, length-replicate {A = ℕ} 4096 0, c.requires.0.formed.sized.positions))
 
 -- the seat of the start
 seat : (c : lts.After-seat_positions tie.the-claims reads.Pre reads.Post tie.handed_clauses)
     → let a = c.args in
-    get_or c.seat_positions.new.1.1.1.1.0 0 0 ≡ seat_of a.«by-class» (game_of a.game.now) (vertex_at a.plan.now 0)
+    get_or c.seat_positions.new.seats 0 0 ≡ seat_of a.by_class (game_of a.game.now) (vertex_at a.plan.now 0)
 seat c = c.seat_positions.ensures.at 0 c.requires.0.formed.sized.some
 
 -- what `no_better` told
 told : (c : lts.After-no_better tie.the-claims reads.Pre reads.Post tie.handed_clauses)
     → let a = c.args in
-    c.no_better.result ≡ needed a.game.now a.player (get_or c.seat_positions.new.1.1.1.1.0 0 0) a.y
+    c.no_better.result ≡ needed a.game.now a.player (get_or c.seat_positions.new.seats 0 0) a.y
 told c =
     let z = seated c.before.before in
     c.no_better.ensures
@@ -47,11 +47,11 @@ unfolding game_of
 no_better-requires c = ((seated c.before.before).inside 0 c.requires.0.formed.sized.some, c.if-n-y.false, c.requires.0.well.vertices, c.requires.1.long)
 
 pub returns-then-not-no_better : goal.returns-then-not-no_better
-returns-then-not-no_better c = arrives_not _ _ _ _ _ _ _ (seat c.before.before.before.before) c.if-n-y.false (sym (told c.before.before) ∙ not-true c.no_better.result c.if-not-no_better.true)
+returns-then-not-no_better c = arrives_not _ _ _ _ _ _ _ (seat c.before.before.before.before) c.if-n-y.false (sym (told c.before.before) ∙ c.if-not-no_better.true)
 
 pub carry_seated-requires : goal.carry_seated-requires
 carry_seated-requires c = record { seated = seated c.before.before.before.before.before.before; y_bound = c.if-n-y.false; }
 
 pub returns : goal.returns
-returns c = arrives _ _ _ _ _ _ _ c.requires.0.well c.seat_positions.ensures c.if-n-y.false (rw (seat c.before.before.before.before.before.before.before.before.before) at (sym (told c.before.before.before.before.before.before.before) ∙ not-false c.no_better.result c.if-not-no_better.false)) _ _
+returns c = arrives _ _ _ _ _ _ _ c.requires.0.well c.seat_positions.ensures c.if-n-y.false (rw (seat c.before.before.before.before.before.before.before.before.before) at (sym (told c.before.before.before.before.before.before.before) ∙ c.if-not-no_better.false)) _ _
     c.carry_seated.ensures

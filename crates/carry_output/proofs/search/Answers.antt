@@ -14,14 +14,14 @@ use Rattle.carry_output.proofs.search.Tie as tie
 readable : (c : lts.After-chain_links tie.the-claims reads.Pre reads.Post tie.handed_clauses)
     → let a = c.args in
     Readable a.game.now a.player a.plan.now a.seats.now a.marks.now
-    c.flag_edges.new.1.1.1.0 c.chain_links.new.1.0 c.chain_links.new.1.1.0
+    c.flag_edges.new.flags c.chain_links.new.firsts c.chain_links.new.follow
 readable c =
     let b = c.requires.seated in
     let z = b.formed.sized in record {
       links = record {
         board = b;
-        firsts_long = omega (arith, c.chain_links.auto.1.0, length-replicate {A = ℕ} position_limit 0, z.positions);
-        follow_long = omega (arith, c.chain_links.auto.1.1.0, length-replicate {A = ℕ} link_limit 0, z.links);
+        firsts_long = omega (arith, c.chain_links.auto.firsts, length-replicate {A = ℕ} position_limit 0, z.positions);
+        follow_long = omega (arith, c.chain_links.auto.follow, length-replicate {A = ℕ} link_limit 0, z.links);
         chains = c.chain_links.ensures;
       };
       flags = c.flag_edges.ensures.edge_flags;

@@ -11,7 +11,7 @@ use Rattle.claims_twice.proofs.reduces_twice.Tie as tie
 
 -- the table that the first call wrote
 table : (c : lts.After-known_told tie.the-claims reads.Pre reads.Post)
-    → let p = c.first-1.given.0.0 in Held p.vertices p.edges c.write_reduced-first.new.1.1.1.1.0
+    → let p = c.first-1.given.0.0 in Held p.vertices p.edges c.write_reduced-first.new.output
 table c = held c.write_reduced-first.ensures _ _ _ (ap tabulation_answer c.first-1.given.1)
 
 pub returns-in_default : goal.returns-in_default

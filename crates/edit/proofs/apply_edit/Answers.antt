@@ -22,12 +22,12 @@ few c =
     let w = made_well a.edit a.buffer.now a.source a.target c.requires.formed.0 c.requires.clean in
     (omega (arith, c.make_edit-edges.ensures.count, w.edges), omega (arith, c.requires.formed.0.vertices, c.requires.formed.0.well.vertices))
 
-room : (c : lts.After-make_edit tie.the-claims reads.Pre reads.Post tie.handed_clauses) → table_length c.args.n c.make_edit-edges.result ≤ length c.make_edit-edges.new.0
+room : (c : lts.After-make_edit tie.the-claims reads.Pre reads.Post tie.handed_clauses) → table_length c.args.n c.make_edit-edges.result ≤ length c.make_edit-edges.new.buffer
 room c = made_room c.args.edit _ _ _ c.requires.formed.0 c.requires.clean c.make_edit-edges.ensures
 
 part : (c : lts.After-make_edit tie.the-claims reads.Pre reads.Post tie.handed_clauses)
     → let a = c.args in
-    take (table_length a.n c.make_edit-edges.result) c.make_edit-edges.new.0 ≡ edited a.edit (table_in a.buffer.now) a.source a.target
+    take (table_length a.n c.make_edit-edges.result) c.make_edit-edges.new.buffer ≡ edited a.edit (table_in a.buffer.now) a.source a.target
 part c = made_part c.args.edit _ _ _ c.requires.formed.0 c.requires.clean c.make_edit-edges.ensures
 
 vertices : (c : lts.After-make_edit tie.the-claims reads.Pre reads.Post tie.handed_clauses)

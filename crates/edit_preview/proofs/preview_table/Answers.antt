@@ -59,10 +59,10 @@ clean : (c : lts.After-enum_told2 tie.the-claims reads.Pre reads.Post tie.handed
 clean c = passed_clean _ (ap acceptance_answer (sym c.enum_told-in_default-judged-1.given.1) ∙ judged c.before.before)
 
 -- the first table begins the second
-same : (c : lts.After-copy tie.the-claims reads.Pre reads.Post tie.handed_clauses) → table_in c.copy.new.0 ≡ table_in c.args.game.now
+same : (c : lts.After-copy tie.the-claims reads.Pre reads.Post tie.handed_clauses) → table_in c.copy.new.words ≡ table_in c.args.game.now
 same c = copied_in c.args.game.now c.args.table.now c.requires c.copy.ensures
 
-same_size : (c : lts.After-copy tie.the-claims reads.Pre reads.Post tie.handed_clauses) → length c.copy.new.0 ≡ length c.args.table.now
+same_size : (c : lts.After-copy tie.the-claims reads.Pre reads.Post tie.handed_clauses) → length c.copy.new.words ≡ length c.args.table.now
 same_size c = copied_length c.args.game.now c.args.table.now c.requires c.copy.ensures (long c.before.before.before.before.before.before)
 
 pub judge_memory-memory-requires : goal.judge_memory-memory-requires
@@ -104,5 +104,5 @@ pub returns : goal.returns
 returns c = let a = c.args in
     call_done _ a.edit _ _ _ _ _ _ _ c.requires (enough c.before.before.before.before.before.before.before.before.before.before.before.before.before.before.before.before.before.before.before.before.before.before.before)
     (table_clean a.game.now a.table.now c.requires (edit_rows a.edit (table_in a.game.now) (length a.table.now) a.source a.target) (long c.before.before.before.before.before.before.before.before.before.before.before.before.before.before.before.before.before.before.before.before.before.before) (clean c.before.before.before.before.before.before.before.before.before.before.before.before.before.before.before.before.before.before))
-    c.copy.last.0 (same c.before.before.before.before.before.before.before.before.before.before.before.before.before.before.before.before) (copied_over a.game.now a.table.now c.requires c.copy.ensures a.edit a.source a.target)
+    c.copy.new.words (same c.before.before.before.before.before.before.before.before.before.before.before.before.before.before.before.before) (copied_over a.game.now a.table.now c.requires c.copy.ensures a.edit a.source a.target)
     _ _ _ _ _ c.apply_edit-counts.ensures

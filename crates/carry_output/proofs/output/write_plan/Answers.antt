@@ -9,11 +9,11 @@ use Rattle.carry_output.proofs.output.write_plan.Reads as reads
 use Rattle.carry_output.proofs.output.write_plan.Tie as tie
 
 -- the output keeps its length
-kept1 : (c : lts.After-copy_part tie.the-claims reads.Pre reads.Post tie.handed_clauses) → length c.copy_part.new.0 ≡ length c.args.output.now
-kept1 c = c.copy_part.auto.0 ∙ simp length-set
+kept1 : (c : lts.After-copy_part tie.the-claims reads.Pre reads.Post tie.handed_clauses) → length c.copy_part.new.output ≡ length c.args.output.now
+kept1 c = c.copy_part.auto.output ∙ simp length-set
 
-kept2 : (c : lts.After-copy_part2 tie.the-claims reads.Pre reads.Post tie.handed_clauses) → length c.copy_part-2.new.0 ≡ length c.args.output.now
-kept2 c = c.copy_part-2.auto.0 ∙ kept1 c.before.before.before.before
+kept2 : (c : lts.After-copy_part2 tie.the-claims reads.Pre reads.Post tie.handed_clauses) → length c.copy_part-2.new.output ≡ length c.args.output.now
+kept2 c = c.copy_part-2.auto.output ∙ kept1 c.before.before.before.before
 
 pub bounds-output-1 : goal.bounds-output-1
 bounds-output-1 c = simp length-set (omega (arith, c.requires.l_in_bounds))
@@ -28,7 +28,7 @@ pub copy_part-requires-3 : goal.copy_part-requires-3
 copy_part-requires-3 c = (omega (arith, kept2 c.before.before.before.before, c.requires.l_in_bounds), omega (arith, c.requires.p_le_position_limit.1), omega (arith, c.requires.p_le_position_limit.2))
 
 pub shape_of-output : goal.shape_of-output
-shape_of-output c = c.copy_part-3.auto.0 ∙ kept2 c.before.before.before.before.before.before.before
+shape_of-output c = c.copy_part-3.auto.output ∙ kept2 c.before.before.before.before.before.before.before
 
 pub returns : goal.returns
 returns c = plan_parts _ _ _ _ _ _ _ _ _ _ c.requires.l_in_bounds refl c.copy_part.ensures c.copy_part-2.ensures c.copy_part-3.ensures

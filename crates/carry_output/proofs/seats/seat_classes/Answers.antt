@@ -17,12 +17,12 @@ use Rattle.carry_output.proofs.seats.seat_classes.Reads as reads
 use Rattle.carry_output.proofs.seats.seat_classes.Tie as tie
 
 represented : (c : lts.After-fill_lowest tie.the-claims reads.Pre reads.Post tie.handed_clauses)
-    → let G = game_of c.args.game.now in Represented G.n (order G) c.fill_lowest.new.1.1.0
+    → let G = game_of c.args.game.now in Represented G.n (order G) c.fill_lowest.new.reps
 represented c = c.fill_lowest.ensures
 
 -- a position's class has a lowest member
 member : (c : lts.After-fill_lowest tie.the-claims reads.Pre reads.Post tie.handed_clauses) (i : ℕ) → let a = c.args in i < position_count a.plan.now
-    → let r = c.fill_lowest.new.1.1.0 in
+    → let r = c.fill_lowest.new.reps in
     (vertex_at a.plan.now i < length r) × (get_or r (vertex_at a.plan.now i) 0 ≡ seat_of true (game_of a.game.now) (vertex_at a.plan.now i))
 unfolding plan_vertices seat_of
 member c i h =
@@ -39,4 +39,4 @@ gather-requires c = let p = position_count c.args.plan.now in
     record { count_in_bounds = (omega (arith, c.requires.plan_in_bounds), omega (arith, c.requires.plan_in_bounds, c.requires.carriable.formed.sized.size, length_part c.args.plan.now p (omega (arith, c.requires.carriable.formed.sized.size)))); by_index = λ i h. omega (arith, part_vertex c.args.plan.now p i h, (member c.before.before.before.before.before i h).0); }
 
 pub returns : goal.returns
-returns c = seats_gathered _ _ c.fill_lowest.last.1.1.0 (λ i h. (member c.before.before.before.before.before.before.before.before i h).1) _ _ c.gather.ensures
+returns c = seats_gathered _ _ c.fill_lowest.new.reps (λ i h. (member c.before.before.before.before.before.before.before.before i h).1) _ _ c.gather.ensures

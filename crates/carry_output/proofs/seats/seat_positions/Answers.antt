@@ -11,7 +11,7 @@ pub seat_classes-requires : goal.seat_classes-requires
 seat_classes-requires c = record { carriable = subst (λ (b : Bool). Carriable b c.args.game.now c.args.plan.now c.args.classes.now) c.if-by_class.true c.requires.carriable; plan_in_bounds = c.requires.plan_in_bounds; }
 
 pub returns-then-by_class : goal.returns-then-by_class
-returns-then-by_class c = subst (λ (b : Bool). Seats b c.args.game.now c.args.plan.now c.seat_classes.new.1.1.1.0) (sym c.if-by_class.true) c.seat_classes.ensures
+returns-then-by_class c = subst (λ (b : Bool). Seats b c.args.game.now c.args.plan.now c.seat_classes.new.seats) (sym c.if-by_class.true) c.seat_classes.ensures
 
 pub copy-requires : goal.copy-requires
 copy-requires c = let p = position_count c.args.plan.now in
@@ -19,4 +19,4 @@ copy-requires c = let p = position_count c.args.plan.now in
     (omega (arith, c.requires.plan_in_bounds), omega (arith, length_part c.args.plan.now p (omega (arith, z))))
 
 pub returns : goal.returns
-returns c = subst (λ (b : Bool). Seats b c.args.game.now c.args.plan.now c.copy.new.0) (sym c.if-by_class.false) (seats_copied _ _ _ _ c.copy.ensures)
+returns c = subst (λ (b : Bool). Seats b c.args.game.now c.args.plan.now c.copy.new.words) (sym c.if-by_class.false) (seats_copied _ _ _ _ c.copy.ensures)
