@@ -1,6 +1,6 @@
 -- The row is that of the representative, and what is kept of it are the edges of the class.
 use mathlib.Core.Path.{◌≡◌}
-use mathlib.Core.List.{List, map}
+use mathlib.Core.List.{List}
 use Prim.Native.Nat.{ℕ, ◌+◌, ◌-◌, ◌*◌, ◌≤◌, ◌<◌}
 use native.Mathlib.Omega.{arith}
 use lib.ListN.{length, get_or, take, drop}
@@ -10,88 +10,78 @@ use Rattle.theory.specs.Classes.Reduction.{representative}
 use Rattle.theory.proofs.Classes.QuotientLaws.{rep_lt}
 use Rattle.table.specs.Table.{vertex_count, game_of}
 use Rattle.classes.specs.Numbering.{classes_in}
+use Rattle.reduction_rows.specs.Reached.{RowsFit}
 use Rattle.reduction_rows.specs.ReachedLaws.{row_inside}
 use Rattle.reduction_edges.specs.LittleBrothers.{RowFits}
-use Rattle.reduction_edges.specs.Rows.{keeps, picked, number_of, game_by}
+use Rattle.reduction_edges.specs.Rows.{Prepared}
 use Rattle.reduction_edges.proofs.ListingLaws.{row_length, class_row, class_size}
 use Rattle.reduction_edges.proofs.listing.append_class.Goals as goal
-use Rattle.reduction_edges.proofs.listing.append_class.Lts as lts
-use Rattle.reduction_edges.proofs.listing.append_class.Reads as reads
-use Rattle.reduction_edges.proofs.listing.append_class.Tie as tie
 
-low : (s : lts.Start tie.the-claims reads.Pre reads.Post tie.handed_clauses) → let G = game_of s.args.game.now in get_or s.args.reps.now s.args.c 0 ≡ representative G.n (order G) s.args.c
-low s = s.requires.prepared.0.grouped.represented.lowest s.args.c s.requires.prepared.1
+low : {game marks classes reps : List ℕ} → Prepared game marks classes reps → (c : ℕ) → c < classes_in (game_of game)
+    → get_or reps c 0 ≡ representative (game_of game).n (order (game_of game)) c
+low p c h = p.grouped.represented.lowest c h
 
-below : (s : lts.Start tie.the-claims reads.Pre reads.Post tie.handed_clauses) → get_or s.args.reps.now s.args.c 0 < vertex_count s.args.game.now
+below : {game marks classes reps : List ℕ} → Prepared game marks classes reps → (c : ℕ) → c < classes_in (game_of game) → get_or reps c 0 < vertex_count game
 unfolding game_of
-below s = omega (arith, low s, rep_lt (game_of s.args.game.now) s.args.c s.requires.prepared.1)
+below {game = game} p c h = omega (arith, low p c h, rep_lt (game_of game) c h)
 
--- the row lies within the words
-abbrev from : lts.Start tie.the-claims reads.Pre reads.Post tie.handed_clauses → ℕ
-from s = get_or s.args.reps.now s.args.c 0 * s.args.width
+-- the row of class c lies within the words
+inside : {game marks classes reps words : List ℕ} {width : ℕ} → Prepared game marks classes reps → RowsFit game width words → (c : ℕ) → c < classes_in (game_of game)
+    → get_or reps c 0 * width + width ≤ length words
+inside p f c h = row_inside f _ (below p c h)
 
-inside : (s : lts.Start tie.the-claims reads.Pre reads.Post tie.handed_clauses) → from s + s.args.width ≤ length s.args.words.now
-inside s = row_inside s.requires.rows_fit.0 _ (below s)
-
-abbrev row_of : lts.Start tie.the-claims reads.Pre reads.Post tie.handed_clauses → List ℕ
-row_of s = take (from s + s.args.width - from s) (drop (from s) s.args.words.now)
-
-fits : (s : lts.Start tie.the-claims reads.Pre reads.Post tie.handed_clauses) → RowFits (vertex_count s.args.game.now) (row_of s)
-fits s = omega (arith, row_length s.args.width s.args.words.now _ (inside s), s.requires.rows_fit.0.wide)
+fits : {game marks classes reps words : List ℕ} {width : ℕ} → Prepared game marks classes reps → RowsFit game width words → (c : ℕ) → c < classes_in (game_of game)
+    → RowFits (vertex_count game) (take (get_or reps c 0 * width + width - get_or reps c 0 * width) (drop (get_or reps c 0 * width) words))
+fits {words = words} {width = width} p f c h = omega (arith, row_length width words _ (inside p f c h), f.wide)
 
 pub overflow_cast-r : goal.overflow_cast-r
-overflow_cast-r c = omega (arith, below c.before.before.before.before.before.before.before.before.before, c.requires.prepared.0.grouped.well.vertices)
+overflow_cast-r c = let p = c.requires.prepared in omega (arith, below p.0 c.args.c p.1, p.0.grouped.well.vertices)
 
 pub overflow_mul-at : goal.overflow_mul-at
-overflow_mul-at c = omega (arith, inside c.before.before.before.before.before.before.before.before.before, c.good)
+overflow_mul-at c = let p = c.requires.prepared in omega (arith, inside p.0 c.requires.rows_fit.0 c.args.c p.1)
 
 pub overflow_add-end : goal.overflow_add-end
-overflow_add-end c = omega (arith, inside c.before.before.before.before.before.before.before.before.before, c.good)
+overflow_add-end c = let p = c.requires.prepared in omega (arith, inside p.0 c.requires.rows_fit.0 c.args.c p.1)
 
 pub offset_bounds-words-at : goal.offset_bounds-words-at
-offset_bounds-words-at c = omega (arith, inside c.before.before.before.before.before.before.before.before.before, c.good)
+offset_bounds-words-at c = let p = c.requires.prepared in omega (arith, inside p.0 c.requires.rows_fit.0 c.args.c p.1)
 
 pub slice_bounds-drop_row-end : goal.slice_bounds-drop_row-end
-slice_bounds-drop_row-end c = omega (arith, inside c.before.before.before.before.before.before.before.before.before)
+slice_bounds-drop_row-end c = let p = c.requires.prepared in omega (arith, inside p.0 c.requires.rows_fit.0 c.args.c p.1)
 
 pub drop_row-requires : goal.drop_row-requires
 unfolding game_of
-drop_row-requires c = let g = c.requires.prepared.0 in
-    record { well_formed = (g.grouped.well, below c.before.before.before.before.before.before.before.before.before.before.before, (g.grouped.well.vertices, g.ordered.long)); row_fits = (fits c.before.before.before.before.before.before.before.before.before.before.before, g.grouped.well.vertices); by_index = zeros 8; }
-
-abbrev start : lts.After-drop_row tie.the-claims reads.Pre reads.Post tie.handed_clauses → lts.Start tie.the-claims reads.Pre reads.Post tie.handed_clauses
-start c = search
-
-abbrev dropped-at : lts.After-drop_row tie.the-claims reads.Pre reads.Post tie.handed_clauses → List ℕ
-dropped-at c = c.drop_row.new.1.1.1.1.1.0
-
--- what is kept are the edges of the class
-edges : (c : lts.After-drop_row tie.the-claims reads.Pre reads.Post tie.handed_clauses) → let s = start c in
-    let G = game_of s.args.game.now in
-    map (number_of s.args.classes.now) (picked G.n (keeps (row_of s) (dropped-at c))) ≡ picked (classes_in G) ((game_by s.args.drop G).edge s.args.c)
-unfolding game_of
-edges c = let s = start c in
-    class_row s.pre.0.0 _ s.pre.0.1 _ (low s) _ _ s.pre.1.0.0 s.pre.1.0.1 _ _ c.drop_row.ensures
-
-size : (c : lts.After-drop_row tie.the-claims reads.Pre reads.Post tie.handed_clauses) → let s = start c in
-    let G = game_of s.args.game.now in
-    length (picked G.n (keeps (row_of s) (dropped-at c))) ≡ length (picked (classes_in G) ((game_by s.args.drop G).edge s.args.c))
-unfolding game_of
-size c = let s = start c in
-    class_size s.pre.0.0 _ s.pre.0.1 _ (low s) _ _ s.pre.1.0.0 s.pre.1.0.1 _ _ c.drop_row.ensures
+drop_row-requires c =
+    let p = c.requires.prepared in
+    let g = p.0 in
+    record {
+      well_formed = (g.grouped.well, below g c.args.c p.1, (g.grouped.well.vertices, g.ordered.long));
+      row_fits = (fits g c.requires.rows_fit.0 c.args.c p.1, g.grouped.well.vertices);
+      by_index = zeros 8;
+    }
 
 pub offset_bounds-words-at-2 : goal.offset_bounds-words-at-2
-offset_bounds-words-at-2 c = omega (arith, inside c.before.before.before.before.before.before.before.before.before.before.before.before.before, c.good)
+offset_bounds-words-at-2 c = let p = c.requires.prepared in omega (arith, inside p.0 c.requires.rows_fit.0 c.args.c p.1)
 
 pub slice_bounds-append_row-end : goal.slice_bounds-append_row-end
-slice_bounds-append_row-end c = omega (arith, inside c.before.before.before.before.before.before.before.before.before.before.before.before.before)
+slice_bounds-append_row-end c = let p = c.requires.prepared in omega (arith, inside p.0 c.requires.rows_fit.0 c.args.c p.1)
 
+-- what is kept are the edges of the class
 pub append_row-requires : goal.append_row-requires
 unfolding game_of
-append_row-requires c = let s = start c.before.before.before.before.before in
-    let g = s.pre.0.0 in
-    record { n_le_vertex_limit = (g.grouped.well.vertices, g.grouped.classed.long, fits s, omega (arith, c.drop_row.kept, g.grouped.well.vertices)); room = omega (arith, size c.before.before.before.before.before, s.pre.1.1); }
+append_row-requires c =
+    let p = c.requires.prepared in
+    let g = p.0 in
+    let f = c.requires.rows_fit in
+    let size = class_size g c.args.c p.1 _ (low g c.args.c p.1) _ _ f.0 f.1 _ _ c.drop_row.ensures in
+    record {
+      n_le_vertex_limit = (g.grouped.well.vertices, g.grouped.classed.long, fits g f.0 c.args.c p.1, omega (arith, g.grouped.well.vertices));
+      room = omega (arith, size, c.requires.room);
+    }
 
 pub returns : goal.returns
 unfolding game_of
-returns c = rw (edges c.before.before.before.before.before.before.before.before) at c.append_row.ensures
+returns c =
+    let p = c.requires.prepared in
+    let f = c.requires.rows_fit in
+    rw (class_row p.0 c.args.c p.1 _ (low p.0 c.args.c p.1) _ _ f.0 f.1 _ _ c.drop_row.ensures) at c.append_row.ensures

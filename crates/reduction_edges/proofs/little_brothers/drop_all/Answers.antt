@@ -28,7 +28,7 @@ pub loop-d-preserved : goal.loop-d-preserved
 loop-d-preserved c = let l = c.loop-d in
     let t = c.loop-d-test.true in
     rw c.next_member-d-in-loop-d.ensures
-    (reached_next _ _ l.d t, omega (arith, c.drop_by.kept, l.inv.1), dropped_next _ _ _ _ l.d _ _ (l.inv.0.1 t) l.inv.2 c.drop_by.ensures)
+    (reached_next _ _ l.d t, omega (arith, l.invariant.1), dropped_next _ _ _ _ l.d _ _ (l.invariant.0.1 t) l.invariant.2 c.drop_by.ensures)
 
 pub returns : goal.returns
 returns c = let l = c.loop-d in

@@ -22,7 +22,7 @@ returns-then-is_some c = let q = sym (word_some _ _ _ _ _ _ c.beaten_word.ensure
 pub loop-w-preserved : goal.loop-w-preserved
 loop-w-preserved c = let q = sym (word_some _ _ _ _ _ _ c.beaten_word.ensures) ∙ sym c.is_some.ensures in
     let l = c.loop-w in
-    (omega (arith, l.inv.0), omega (arith, c.loop-w-test.true), beaten_next _ _ _ _ _ (q ∙ c.if-is_some.false) l.inv.2)
+    (omega (arith, l.invariant.0), omega (arith, c.loop-w-test.true), beaten_next _ _ _ _ _ (q ∙ c.if-is_some.false) l.invariant.2)
 
 pub returns : goal.returns
 returns c = let l = c.loop-w in sym (beaten_none _ _ _ _ l.w c.loop-w-test.false l.invariant.2)

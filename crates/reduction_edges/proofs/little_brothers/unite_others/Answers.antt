@@ -15,11 +15,11 @@ beaten_word-more-requires c = (c.requires.0, c.requires.1, c.requires.3, c.loop-
 
 pub loop-w-preserved : goal.loop-w-preserved
 loop-w-preserved c = let l = c.loop-w in (
-      omega (arith, l.inv.0),
-      omega (arith, c.loop-w-test.true),
-      search rules,
-      united_next _ _ _ _ _ _ _ _ l.inv.0 (omega (arith, l.inv.2, c.requires.2, c.loop-w-test.true)) l.inv.3 c.beaten_word-more.ensures,
-    )
+  omega (arith, l.invariant.0),
+  omega (arith, c.loop-w-test.true),
+  search rules,
+  united_next _ _ _ _ _ _ _ _ l.invariant.0 (omega (arith, l.invariant.2, c.requires.2, c.loop-w-test.true)) l.invariant.3 c.beaten_word-more.ensures,
+)
 
 pub returns : goal.returns
 returns c = let l = c.loop-w in united_end _ _ _ _ _ l.w _ c.loop-w-test.false l.invariant.3
