@@ -10,7 +10,7 @@ use Rattle.theory.specs.Logic.Bools.{◌&◌}
 use Rattle.theory.proofs.Logic.BoolsLaws.{and_in, and_out}
 use Rattle.theory.proofs.Logic.RangeLaws.{first_found, first_before, first_le}
 use Rattle.theory.proofs.Logic.ListLaws.{length_tabulate, get_d_tabulate}
-use Rattle.theory.specs.Games.Game.{same, Succ}
+use Rattle.theory.specs.Games.Game.{Succ}
 use Rattle.theory.specs.Merges.Merged.{Single, Merged, Onto, GovernedQuotient}
 use Rattle.theory.proofs.Merges.MergedLaws.{merged_agree, onto_agree}
 use Rattle.theory.proofs.Merges.GovernedMergeLaws.{quotient_merged, quotient_onto}
