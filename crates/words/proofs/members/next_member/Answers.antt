@@ -1,8 +1,10 @@
 -- No number before the place is in the words; the place goes to the next digit or to the next word.
 use native.Mathlib.Omega.{arith}
 use mathlib.Core.List.{List}
+use mathlib.Core.Path.{◌≡◌}
 use Prim.Native.Nat.{ℕ, ◌+◌, ◌*◌, ◌/◌, ◌%◌, ◌-◌, ◌≤◌}
 use lib.ListN.{get_or}
+use Rattle.theory.specs.Logic.Range.{first}
 use Rattle.theory.proofs.Logic.RangeLaws.{first_ge, first_le}
 use Rattle.words.specs.Word.{digit}
 use Rattle.words.specs.MembersLaws.{NoneIn, first_past, none_more, first_here}
@@ -27,17 +29,18 @@ returns-then-at-end c = let f = c.first_from-bit.ensures in
     rw f (first_here (words_of c.before.before.before.before.before.before) c.loop-at.at _ _ c.loop-at.invariant.0 c.loop-at.invariant.1 (omega (arith, f, c.if-bit-lt64.true)) (omega (arith, f, c.if-at-end.true)))
 
 -- nothing is in the words before the place that the word's search gives
-again : (c : lts.After-first_from tie.the-claims reads.Pre reads.Post goal.the-invariant-loop-at goal.the-decreases-loop-at) → let s = c.args in (s.from ≤ c.loop-at.at / 64 * 64 + c.first_from-bit.result) × NoneIn s.words.now s.from (c.loop-at.at / 64 * 64 + c.first_from-bit.result)
-again c =
-    let at = c.loop-at.at in
-    let f = c.first_from-bit.ensures in
-    (omega (arith, c.loop-at.invariant.0, f, first_ge (digit (get_or (words_of c.before.before.before) (at / 64) 0)) (at % 64) 64), none_more (words_of c.before.before.before) at _ _ f c.loop-at.invariant.1)
+again : (words : List ℕ) (a at bit : ℕ) → bit ≡ first (digit (get_or words (at / 64) 0)) (at % 64) 64 → a ≤ at → NoneIn words a at
+    → (a ≤ at / 64 * 64 + bit) × NoneIn words a (at / 64 * 64 + bit)
+again words a at bit f h none =
+    (omega (arith, h, f, first_ge (digit (get_or words (at / 64) 0)) (at % 64) 64), none_more words at a bit f none)
 
 pub loop-at-preserved-else-at-end : goal.loop-at-preserved-else-at-end
-loop-at-preserved-else-at-end c = again c.before.before.before
+loop-at-preserved-else-at-end c =
+    again (words_of c.before.before.before.before.before.before) c.args.from c.loop-at.at _ c.first_from-bit.ensures c.loop-at.invariant.0 c.loop-at.invariant.1
 
 pub loop-at-preserved : goal.loop-at-preserved
-loop-at-preserved c = again c.before.before
+loop-at-preserved c =
+    again (words_of c.before.before.before.before.before) c.args.from c.loop-at.at _ c.first_from-bit.ensures c.loop-at.invariant.0 c.loop-at.invariant.1
 
 pub returns : goal.returns
 returns c = first_past (words_of c.before.before) _ c.loop-at.at _ c.requires.0 c.loop-at-test.false c.loop-at.invariant.1
