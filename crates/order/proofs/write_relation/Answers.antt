@@ -23,7 +23,7 @@ pub returns-then-spare-needed : goal.returns-then-spare-needed
 returns-then-spare-needed c = rw (needed c.before.before.before) (order_short_spare _ _ _ _ _ c.requires.0 (rw (needed c.before.before.before) at c.if-marks-needed.false) (rw (needed c.before.before.before) at c.if-spare-needed.true))
 
 pub fill_relation-passes-requires : goal.fill_relation-passes-requires
-fill_relation-passes-requires c = record { well_formed = c.requires.0; game_in_bounds = (rw (needed c.before.before.before.before.before) at c.if-marks-needed.false, rw (needed c.before.before.before.before.before) at c.if-spare-needed.false); }
+fill_relation-passes-requires c = record { well_formed = c.requires.0; game_in_bounds = (rw (needed c.before.before.before.before.before) at c.if-marks-needed.false, rw (needed c.before.before.before.before.before) at c.if-spare-needed.false) }
 
 pub returns : goal.returns
 returns c = order_done _ _ _ _ _ c.requires.0 (rw (needed c.before.before.before.before.before.before.before.before.before.before) at c.if-marks-needed.false) (rw (needed c.before.before.before.before.before.before.before.before.before.before) at c.if-spare-needed.false) _ _ _ c.fill_relation-passes.ensures

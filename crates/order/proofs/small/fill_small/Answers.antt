@@ -9,23 +9,17 @@ use Rattle.words.specs.WordLaws.{digit_zero}
 use Rattle.order_small_losses.specs.Words.{bit, small_edges}
 use Rattle.order.specs.OrderWrittenLaws.{rows_done}
 use Rattle.order.proofs.small.fill_small.Goals as goal
-use Rattle.order.proofs.small.fill_small.Lts as lts
-use Rattle.order.proofs.small.fill_small.Reads as reads
-use Rattle.order.proofs.small.fill_small.Tie as tie
 
 bit_zero : (k v x : ℕ) → bit (replicate k 0) v x ≡ false
 unfolding bit
 bit_zero k v x = rw (zeros k v) (digit_zero x)
 
 pub fill-requires : goal.fill-requires
-fill-requires c = record { well_formed = (c.requires.0, c.requires.1); small_edges_in_bounds = omega arith; by_index = bit_zero small_edges; }
-
-abbrev at-start : lts.After-next tie.the-claims reads.Pre reads.Post tie.handed_clauses → lts.Start tie.the-claims reads.Pre reads.Post tie.handed_clauses
-at-start c = search
+fill-requires c = record { well_formed = (c.requires.0, c.requires.1); small_edges_in_bounds = omega arith; by_index = bit_zero small_edges }
 
 pub rounds-passes-requires : goal.rounds-passes-requires
 rounds-passes-requires c = let f = c.fill in
-    record { well_formed = ((at-start c.before).requires.0, omega (arith, f.auto), f.ensures); words_fit = (omega arith, omega arith, omega arith, omega arith); }
+    record { well_formed = (c.requires.0, omega (arith, f.auto), f.ensures); words_fit = (omega arith, omega arith, omega arith, omega arith) }
 
 pub returns : goal.returns
 unfolding bit

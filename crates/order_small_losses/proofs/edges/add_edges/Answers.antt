@@ -74,12 +74,12 @@ bounds-edges-x-in-loop-j c = search (rules, (long c.before.before.before.before.
 
 pub loop-j-preserved : goal.loop-j-preserved
 loop-j-preserved c = let g = c.args.game.now in (
-      search rules,
-      search rules,
-      edges_next word_bits _ c.loop-j.j _ _ _ (ends c.before.before.before.before.before.before.before).0 (ends c.before.before.before.before.before.before.before).1 c.loop-j.invariant.2
-          (word_added _ _ _ (long c.before.before.before.before.before.before.before).0 (target_at g c.loop-j.j) _ c.with.ensures)
-          (word_added _ _ _ (search (rules, (long c.before.before.before.before.before.before.before).1)) (source_at g c.loop-j.j) _ c.with-in-loop-j.ensures),
-    )
+  search rules,
+  search rules,
+  edges_next word_bits _ c.loop-j.j _ _ _ (ends c.before.before.before.before.before.before.before).0 (ends c.before.before.before.before.before.before.before).1 c.loop-j.invariant.2
+      (word_added _ _ _ (long c.before.before.before.before.before.before.before).0 (target_at g c.loop-j.j) _ c.with.ensures)
+      (word_added _ _ _ (search (rules, (long c.before.before.before.before.before.before.before).1)) (source_at g c.loop-j.j) _ c.with-in-loop-j.ensures),
+)
 
 pub returns : goal.returns
 returns c = let e : c.loop-j.j ≡ table_edges c.args.game.now = omega (arith, c.loop-j-test.false, c.loop-j.invariant.0) in

@@ -20,11 +20,11 @@ same word k h = ap (digit word) (zero-add k)
 
 pub loop-left-init : goal.loop-left-init
 loop-left-init c = let near = c.args.near in (
-      onward_start near,
-      refl,
-      λ G r f v.
-          word_start word_bits _ (digit near) 0 near (same near) _ _ (losses_start word_bits _ (digit near) _ _ (λ x h. digit_zero x)),
-    )
+  onward_start near,
+  refl,
+  λ G r f v.
+      word_start word_bits _ (digit near) 0 near (same near) _ _ (losses_start word_bits _ (digit near) _ _ (λ x h. digit_zero x)),
+)
 
 pub loop-left-preserved : goal.loop-left-preserved
 loop-left-preserved c = let near = c.args.near in

@@ -43,11 +43,11 @@ loop-left-smaller c = c.rest-left.ensures.less
 
 pub loop-left-preserved : goal.loop-left-preserved
 loop-left-preserved c = let a = c.args in (
-      left_next a.which _ _ c.loop-left.invariant.0 c.rest-left.ensures,
-      λ x h.
-          less c.before.before.before x h
-          ∙ not_next a.which (λ k. bit a.words.now (0 + k) x) _ _ _ c.loop-left.invariant.0 c.lowest.ensures c.rest-left.ensures (digit a.from x),
-    )
+  left_next a.which _ _ c.loop-left.invariant.0 c.rest-left.ensures,
+  λ x h.
+      less c.before.before.before x h
+      ∙ not_next a.which (λ k. bit a.words.now (0 + k) x) _ _ _ c.loop-left.invariant.0 c.lowest.ensures c.rest-left.ensures (digit a.from x),
+)
 
 pub returns : goal.returns
 unfolding united_in

@@ -29,7 +29,7 @@ pub start_row-requires : goal.start_row-requires
 start_row-requires c = let g = c.args.game.now in
     let i = c.loop-v.invariant in
     let q = c.requires.word_bits_in_bounds in
-    let all = all_row word_bits g _ c.requires.well_formed.0 (word_differs g _ _ _ _ c.differing_word-all.ensures) in record { well_formed = (c.requires.well_formed.0, c.loop-v-test.true, all); small_edges_in_bounds = (c.requires.well_formed.1, c.requires.well_formed.2); word_bits_in_bounds = (omega (arith, i.1, q.0), omega (arith, i.2, q.1), omega (arith, i.3, q.2)); parted_in = i.4; }
+    let all = all_row word_bits g _ c.requires.well_formed.0 (word_differs g _ _ _ _ c.differing_word-all.ensures) in record { well_formed = (c.requires.well_formed.0, c.loop-v-test.true, all); small_edges_in_bounds = (c.requires.well_formed.1, c.requires.well_formed.2); word_bits_in_bounds = (omega (arith, i.1, q.0), omega (arith, i.2, q.1), omega (arith, i.3, q.2)); parted_in = i.4 }
 
 pub offset_bounds-lost-v : goal.offset_bounds-lost-v
 offset_bounds-lost-v c = omega (arith, inside c.before.before.before.before.before.before.before.before.before.before.before)

@@ -7,7 +7,7 @@ use Rattle.order_small_rounds.proofs.start.start_row.Goals as goal
 
 pub copy-requires : goal.copy-requires
 unfolding game_of
-copy-requires c = record { word_bits_in_bounds = c.requires.word_bits_in_bounds; u_lt_v = (c.if-u-v.true, omega (arith, c.requires.well_formed.1, c.requires.small_edges_in_bounds.1.small)); }
+copy-requires c = record { word_bits_in_bounds = c.requires.word_bits_in_bounds; u_lt_v = (c.if-u-v.true, omega (arith, c.requires.well_formed.1, c.requires.small_edges_in_bounds.1.small)) }
 
 pub returns-then-u-v : goal.returns-then-u-v
 returns-then-u-v c = let G = game_of c.args.game.now in
