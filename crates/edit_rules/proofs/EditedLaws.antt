@@ -10,7 +10,6 @@ use Rattle.std.proofs.Math.Decide.{ℕ_discrete}
 use Rattle.std.proofs.Math.Dec.{eqb}
 use Rattle.std.proofs.Math.ListN.{length, length-append}
 use borrow.Author.Tests.{eqb-true, eq-eqb, leb-false, lt-leb, ltb-false, not-false}
-use Rattle.theory.specs.Logic.Bools.{◌or◌}
 use Rattle.theory.proofs.Logic.BoolsLaws.{or_fails}
 use Rattle.theory.proofs.Logic.RangeLaws.{any_in, any_out}
 use Rattle.theory.specs.Logic.Range.{tabulate}

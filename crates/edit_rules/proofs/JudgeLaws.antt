@@ -1,17 +1,17 @@
 -- The edit's rows by what they go by, at each way out of the code; and that they are the table's rows where a scan found it.
 use Rattle.std.specs.Prelude.{◌≡◌, refl, Bool, true, false, ℕ, ◌+◌, ◌≤◌, ◌<◌, leb, ltb}
 use Rattle.std.proofs.Math.Path.{sym, ap}
-use Rattle.std.proofs.Common.{ap₂, ◌∙◌, arith}
+use Rattle.std.proofs.Common.{◌∙◌, arith}
 use Rattle.std.proofs.Math.Bool.{not, So}
 use mathlib.Core.List.{List, [], ◌∷◌}
 use borrow.Author.Tests.{le-leb, lt-leb, lt-ltb, le-ltb, ltb-true}
 use Rattle.theory.specs.Logic.Bools.{◌or◌}
 use Rattle.theory.proofs.Logic.BoolsLaws.{So_ext, or_left, or_right, or_fails}
 use Rattle.theory.specs.Logic.Range.{any_below, first}
-use Rattle.theory.proofs.Logic.RangeLaws.{any_in, any_out, first_le, first_passes, first_found}
+use Rattle.theory.proofs.Logic.RangeLaws.{any_in, any_out, first_passes, first_found}
 use Rattle.table.specs.Limits.{edge_limit}
-use Rattle.table.specs.Table.{vertex_count, table_edges, table_length, game_of}
-use Rattle.table.specs.Answers.{Row, row, accepted, refused, judge}
+use Rattle.table.specs.Table.{table_length, game_of}
+use Rattle.table.specs.Answers.{row, accepted, refused, judge}
 use Rattle.table.specs.AnswersLaws.{judge_hit, judge_next, judge_clean}
 use Rattle.table.specs.Reading.{lacks_edge}
 use Rattle.edit_rules.specs.Edges.{edited, misplaced, change_rows, edit_rows}

@@ -1,10 +1,9 @@
 -- Laws of a scan for the edges from s to t: it starts, takes an edge, and ends once both are found or behind the last edge.
-use Rattle.std.specs.Prelude.{◌≡◌, Bool, true, false, not, cond, List, ℕ, ◌+◌, ◌≤◌, ◌<◌, ltb}
+use Rattle.std.specs.Prelude.{◌≡◌, Bool, true, false, cond, List, ℕ, ◌+◌, ◌≤◌, ◌<◌, ltb}
 use Rattle.std.proofs.Math.Path.{refl}
 use Rattle.std.proofs.Common.{sym, ap, ◌∙◌, arith, lt-ltb, le-ltb, ltb-false}
 use Rattle.std.proofs.Math.Bool.{So}
-use Rattle.theory.specs.Logic.Bools.{◌&◌}
-use Rattle.theory.proofs.Logic.BoolsLaws.{clash, So_not, not_out, and_in, and_out}
+use Rattle.theory.proofs.Logic.BoolsLaws.{clash, So_not, not_out, and_out}
 use Rattle.theory.specs.Logic.Range.{any_below, first}
 use Rattle.theory.proofs.Logic.RangeLaws.{any_in, any_out, any_same, first_step, first_hit, first_end_lem}
 use Rattle.edit_rules.specs.EditParts.{leads, Scanned, Scanning}

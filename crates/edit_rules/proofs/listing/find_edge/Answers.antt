@@ -1,10 +1,6 @@
 -- Invariant: the first from j on is the first from k on.
-use mathlib.Core.Path.{◌≡◌, refl, sym, ◌∙◌}
-use mathlib.Core.Bool.{true}
-use Prim.Native.Nat.{◌-◌, ◌≤◌}
-use Rattle.theory.specs.Logic.Range.{first}
+use mathlib.Core.Path.{refl, sym, ◌∙◌}
 use Rattle.theory.proofs.Logic.RangeLaws.{first_step, first_hit, first_end_lem}
-use Rattle.edit_rules.specs.EditParts.{leads}
 use Rattle.std.proofs.Common.{rules}
 use Rattle.edit_rules.proofs.listing.find_edge.Goals as goal
 

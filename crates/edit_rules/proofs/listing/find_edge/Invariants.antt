@@ -1,8 +1,7 @@
-use mathlib.Core.Path.{◌≡◌, refl, sym, ◌∙◌}
+use mathlib.Core.Path.{◌≡◌}
 use mathlib.Core.Bool.{true}
 use Prim.Native.Nat.{◌-◌, ◌≤◌}
 use Rattle.theory.specs.Logic.Range.{first}
-use Rattle.theory.proofs.Logic.RangeLaws.{first_step, first_hit, first_end_lem}
 use Rattle.edit_rules.specs.EditParts.{leads}
 use Rattle.edit_rules.proofs.listing.find_edge.Given as goal
 

@@ -1,18 +1,10 @@
 -- The source decides first, then the target.
-use Prim.Native.Nat.{◌+◌, ◌*◌}
-use native.Mathlib.Omega.{arith}
 use mathlib.Core.Path.{sym, ◌∙◌}
 use Rattle.edit_rules.proofs.SearchLaws.{leads_no, leads_by}
 use Rattle.edit_rules.proofs.listing.leads_so.Goals as goal
 
-pub overflow_cast-table : goal.overflow_cast-table
-overflow_cast-table c = let a = c.args in omega (arith, c.shared_slice_known-1.given (2 + 2 * a.n + a.j))
-
 pub returns-then-table-n : goal.returns-then-table-n
 returns-then-table-n c = sym (leads_no c.requires.0 _ _ _ _ c.if-table-n.true)
-
-pub overflow_cast-hit : goal.overflow_cast-hit
-overflow_cast-hit c = let a = c.args in omega (arith, c.shared_slice_known-2-1.given (2 + 2 * a.n + a.m + a.j))
 
 pub returns-then-there : goal.returns-then-there
 returns-then-there c = sym (leads_by c.requires.0 _ _ _ _ c.if-table-n.false ∙ rw c.if-there.true)

@@ -1,14 +1,11 @@
-use mathlib.Core.Path.{◌≡◌, sym}
+use mathlib.Core.Path.{◌≡◌}
 use mathlib.Core.List.{List}
 use Prim.Native.Nat.{ℕ, ◌+◌, ◌-◌, ◌≤◌, min}
-use native.Mathlib.Omega.{arith}
 use lib.ListN.{length}
-use Rattle.table.specs.Table.{table_edges}
 use Rattle.table.specs.Listing.{Appended}
-use Rattle.table.specs.ListingLaws.{appended_join}
-use Rattle.edit_rules.specs.Edges.{edges_in, others}
+use Rattle.edit_rules.specs.Edges.{others}
 use Rattle.edit_rules.specs.EditParts.{edges_part}
-use Rattle.edit_rules.proofs.SearchLaws.{edges_below, others_few, others_start, part_low, part_high, others_part}
+use Rattle.edit_rules.proofs.SearchLaws.{edges_below}
 use Rattle.edit_rules.proofs.listing.list_others.Given as goal
 
 abbrev pub invariant-loop-j : goal.invariant-loop-j

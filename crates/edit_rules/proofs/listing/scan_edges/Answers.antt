@@ -1,8 +1,5 @@
 -- Invariant: the scan holds before edge j.
-use mathlib.Core.Path.{◌≡◌}
-use Prim.Native.Nat.{◌-◌, ◌≤◌}
 use native.Mathlib.Omega.{arith}
-use Rattle.edit_rules.specs.EditParts.{Scanning}
 use Rattle.edit_rules.proofs.ScanLaws.{scan_start, scan_both, scan_end}
 use Rattle.std.proofs.Common.{rules}
 use Rattle.edit_rules.proofs.listing.scan_edges.Goals as goal
