@@ -4,11 +4,10 @@ use Rattle.reduction.proofs.TableCallLaws.{sized, table_handed}
 use Rattle.reduction.proofs.write_quotient.Goals as goal
 
 pub returns-in_default : goal.returns-in_default
-returns-in_default c = let t = c.enum_told-1.given in
-    table_handed _ _ _ _ _ _ _ _ _ t.1 c.read_sizes-reading.ensures c.refusal_of.ensures
+returns-in_default c = table_handed _ _ _ _ _ _ _ _ _ c.in_default.is c.read_sizes-reading.ensures c.refusal_of.ensures
 
 pub tabulate_classes-requires : goal.tabulate_classes-requires
-tabulate_classes-requires c = sized c.reading-1.given.1 c.read_sizes-reading.ensures
+tabulate_classes-requires c = sized c.in-Accepted.is c.read_sizes-reading.ensures
 
 pub returns : goal.returns
 unfolding game_by

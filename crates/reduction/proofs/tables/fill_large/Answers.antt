@@ -10,4 +10,4 @@ use Rattle.reduction.proofs.tables.fill_large.Goals as goal
 pub fill_within-requires : goal.fill_within-requires
 fill_within-requires c = let n = c.requires.well_formed.0.vertices in
     let w : words_for (vertex_count c.args.game.now) ≤ 8 = omega (arith, n) in
-    record { well_formed = c.requires.well_formed; game_in_bounds = c.requires.game_in_bounds; workspace = record { vertices_fit = n; rows_fit = mul-le-mul n w; zeros = zeros 4096; stops_fit = n }; }
+    record { well_formed = c.requires.well_formed; game_in_bounds = c.requires.game_in_bounds; workspace = record { vertices_fit = n; rows_fit = mul-le-mul n w; zeros = zeros 4096; stops_fit = n } }

@@ -15,7 +15,7 @@ loop-i-init c = (search rules, search rules, placed_start _ _ _)
 
 pub loop-i-preserved : goal.loop-i-preserved
 loop-i-preserved c = let l = c.loop-i in
-    (search rules, simp length-set l.inv.1, again_more c.args.at c.args.count l.i c.args.words.now _ c.loop-i-test.true c.requires l.inv.2)
+    (search rules, simp length-set l.invariant.1, again_more c.args.at c.args.count l.i c.args.words.now _ c.loop-i-test.true c.requires l.invariant.2)
 
 pub returns : goal.returns
 returns c = let e : c.loop-i.i ≡ c.args.count = omega arith in
