@@ -1,14 +1,13 @@
 -- Laws of chains and links: a chain grows by a pair, and a row is linked along its chain, from the last pair back.
-use Rattle.std.specs.Prelude.{◌≡◌, Bool, List, eqb, leb, length, get_or, set}
+use Rattle.std.specs.Prelude.{◌≡◌, Bool, List, leb, length, get_or, set}
 use Rattle.std.proofs.Math.Path.{refl, ap}
-use Rattle.std.proofs.Common.{sym, ◌∙◌, subst, add-one, get_or-set_other}
+use Rattle.std.proofs.Common.{sym, ◌∙◌, add-one, get_or-set_other}
 use Rattle.std.proofs.Math.Bool.{true, false, cond, So}
 use Prim.Native.Nat.{ℕ, zero, suc, ◌+◌, ◌-◌, ◌≤◌, ◌<◌, max}
 use Rattle.std.proofs.Math.Decide.{ℕ_discrete, dec_lt}
 use native.Mathlib.Omega.{arith}
 use Rattle.std.proofs.Math.Seq.{get_or-set_same}
 use borrow.Author.Tests.{eqb-true, eq-eqb, ne_eqb, le-leb, lt-leb}
-use Rattle.theory.specs.Logic.Bools.{◌&◌}
 use Rattle.theory.proofs.Logic.BoolsLaws.{clash, So_not, and_in, and_out}
 use Rattle.theory.specs.Logic.Range.{first, tabulate}
 use Rattle.theory.proofs.Logic.RangeLaws.{first_step, first_hit, first_end_lem, first_skip}

@@ -1,9 +1,7 @@
-use mathlib.Core.Path.{◌≡◌, refl, ◌∙◌}
-use Prim.Native.Nat.{◌-◌, ◌≤◌, ◌<◌}
-use native.Mathlib.Omega.{arith}
-use lib.ListN.{length, get_or, length-set}
+use mathlib.Core.Path.{◌≡◌}
+use Prim.Native.Nat.{◌-◌, ◌≤◌}
+use lib.ListN.{length}
 use Rattle.edit_links.specs.Links.{Chained}
-use Rattle.edit_links.specs.LinksLaws.{chained_none, chained_more}
 use Rattle.edit_links.proofs.chain.Given as goal
 
 abbrev pub invariant-loop-x : goal.invariant-loop-x

@@ -1,5 +1,4 @@
 -- A case for each branch.
-use mathlib.Core.Path.{sym}
 use borrow.Author.Tests.{le-leb, lt-leb}
 use Rattle.edit_links.proofs.entry_or.Goals as goal
 

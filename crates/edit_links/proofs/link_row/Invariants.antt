@@ -1,11 +1,6 @@
-use mathlib.Core.Path.{◌≡◌, refl, sym, ap, ◌∙◌}
-use mathlib.Core.Bool.{cond}
-use Prim.Native.Nat.{◌+◌, ◌-◌, ◌≤◌, ◌<◌}
-use native.Mathlib.Omega.{arith}
-use lib.Dec.{leb}
-use lib.ListN.{length, get_or, length-set}
-use Rattle.edit_links.specs.Links.{last_of, of_source}
-use Rattle.edit_links.specs.LinksLaws.{Walk, walk_start, walk_on, walk_end, last_le}
+use mathlib.Core.Path.{◌≡◌}
+use lib.ListN.{length}
+use Rattle.edit_links.specs.LinksLaws.{Walk}
 use Rattle.edit_links.proofs.link_row.Given as goal
 
 abbrev pub invariant-loop-p : goal.invariant-loop-p

@@ -1,8 +1,7 @@
-use mathlib.Core.Path.{◌≡◌, refl, sym, ap, ◌∙◌}
-use Prim.Native.Nat.{◌+◌, ◌-◌, ◌≤◌, ◌<◌}
-use native.Mathlib.Omega.{arith}
-use lib.ListN.{length, get_or}
-use Rattle.edit_links.specs.LinksLaws.{filled_with, LinkedBelow, linked_more, linked_all}
+use mathlib.Core.Path.{◌≡◌}
+use Prim.Native.Nat.{◌-◌, ◌≤◌}
+use lib.ListN.{length}
+use Rattle.edit_links.specs.LinksLaws.{LinkedBelow}
 use Rattle.edit_links.proofs.link_rows.Given as goal
 
 abbrev pub invariant-loop-v : goal.invariant-loop-v
