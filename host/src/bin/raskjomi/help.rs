@@ -132,7 +132,7 @@ const OPTIONS: &str =
 const MORE: &str =
     "docs/CONTRACT.md has the definitions, the formats and every refusal; docs/WORKFLOW.md shows the way \
      from a model through a solver to a plan; docs/JSON.md has each answer as JSON. ./raskjomi proves and builds what has changed; all of it \
-     takes about 5 minutes on two idle cores.";
+     can take an hour or more on two idle cores.";
 
 /// The output of the commands that write a game.
 const TABLES: &str = "Text and words are game tables, which every command reads. The edges are \
