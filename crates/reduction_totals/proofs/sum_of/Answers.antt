@@ -11,16 +11,13 @@ use Rattle.reduction_totals.proofs.sum_of.Goals as goal
 pub loop-c-init : goal.loop-c-init
 loop-c-init c = (search rules, search rules, sum_none _)
 
-pub overflow_cast-total : goal.overflow_cast-total
-overflow_cast-total c = omega (arith, c.shared_slice_known-1.given c.loop-c.c)
-
 pub overflow_add-total : goal.overflow_add-total
 overflow_add-total c = let l = c.loop-c in
-    omega (arith, l.invariant.1, c.shared_slice_known-1.given l.c)
+    omega (arith, l.invariant.1, c.type_inv.values l.c)
 
 pub loop-c-preserved : goal.loop-c-preserved
 loop-c-preserved c = let l = c.loop-c in
-    (search rules, omega (arith, l.invariant.1, c.shared_slice_known-1.given l.c), omega (arith, l.invariant.2, sum_next (λ i. get_or c.args.values.now i 0) l.c))
+    (search rules, omega (arith, l.invariant.1, c.type_inv.values l.c), omega (arith, l.invariant.2, sum_next (λ i. get_or c.args.values.now i 0) l.c))
 
 pub returns : goal.returns
 returns c = let l = c.loop-c in

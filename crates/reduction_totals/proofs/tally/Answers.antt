@@ -6,7 +6,7 @@ use Rattle.table.specs.PlacingLaws.{placed_written}
 use Rattle.reduction_totals.proofs.tally.Goals as goal
 
 pub count_sources-requires : goal.count_sources-requires
-count_sources-requires c = let p = c.requires in record { column = p.0; n_in_bounds = p.1.0; by_index = zeros vertex_limit; }
+count_sources-requires c = let p = c.requires in record { column = p.column; n_in_bounds = p.k_le_vertex_limit.0; by_index = zeros vertex_limit }
 
 pub returns : goal.returns
 returns c = c.copy.ensures

@@ -12,12 +12,9 @@ overflow_cast-k c = omega (arith, classes_few c.requires.tabulated)
 pub bounds-reduced-1 : goal.bounds-reduced-1
 bounds-reduced-1 c = omega (arith, table_long c.requires.tabulated)
 
-pub overflow_cast-e : goal.overflow_cast-e
-overflow_cast-e c = omega (arith, c.shared_slice_known-6-1.given 1)
-
 pub tally-requires : goal.tally-requires
 tally-requires c = let p = c.requires in
-    record { column = class_column_read p.0; k_le_vertex_limit = (classes_few p.0, omega (arith, table_vertices p.0, p.1.0)); }
+    record { column = class_column_read p.tabulated; k_le_vertex_limit = (classes_few p.tabulated, omega (arith, table_vertices p.tabulated, p.game_in_bounds.0)) }
 
 pub overflow_mul-k : goal.overflow_mul-k
 overflow_mul-k c = omega (arith, classes_few c.requires.tabulated)
@@ -27,15 +24,15 @@ overflow_add-k c = omega (arith, classes_few c.requires.tabulated)
 
 pub tally-requires-2 : goal.tally-requires-2
 tally-requires-2 c = let p = c.requires in
-    record { column = edge_column_read p.0; k_le_vertex_limit = (classes_few p.0, omega (arith, table_vertices p.0, p.1.1)); }
+    record { column = edge_column_read p.tabulated; k_le_vertex_limit = (classes_few p.tabulated, omega (arith, table_vertices p.tabulated, p.game_in_bounds.1)) }
 
 pub sum_of-requires : goal.sum_of-requires
 sum_of-requires c = let p = c.requires in
-    (classes_few p.0, omega (arith, table_vertices p.0, p.1.0))
+    (classes_few p.tabulated, omega (arith, table_vertices p.tabulated, p.game_in_bounds.0))
 
 pub sum_of-requires-2 : goal.sum_of-requires-2
 sum_of-requires-2 c = let p = c.requires in
-    (classes_few p.0, omega (arith, table_vertices p.0, p.1.1))
+    (classes_few p.tabulated, omega (arith, table_vertices p.tabulated, p.game_in_bounds.1))
 
 pub returns : goal.returns
 returns c = totalled c.requires.tabulated _ _ _ _ _ _ c.tally.ensures c.tally-2.ensures c.sum_of.ensures c.sum_of-2.ensures
