@@ -1,5 +1,5 @@
 -- Laws of a table with zeros behind it, in a buffer.
-use Rattle.std.specs.Prelude.{◌≡◌, refl, List, ◌++◌, ℕ, ◌+◌, ◌-◌, ◌≤◌, ◌<◌, max, get_or, take, drop}
+use Rattle.std.specs.Prelude.{◌≡◌, refl, List, ℕ, ◌+◌, ◌-◌, ◌≤◌, ◌<◌, max, get_or, take}
 use Rattle.std.proofs.Common.{sym, ◌∙◌, append-nil, append_assoc, length-append, take-append-drop, ext_get_or, get_or-append-add, length-take-le, take_at}
 use Rattle.std.proofs.Math.Decide.{dec_lt}
 use native.Mathlib.Omega.{arith}

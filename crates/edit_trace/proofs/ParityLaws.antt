@@ -8,7 +8,7 @@ use Rattle.std.proofs.Math.Bool.{true, false, not, cond, So}
 use mathlib.Core.List.{List, [], ◌∷◌}
 use Rattle.theory.specs.Logic.Bools.{◌&◌, bit}
 use Rattle.theory.proofs.Logic.BoolsLaws.{clash, So_ext, So_not, and_in, and_out, bit_in, bit_out, bit_le}
-use Rattle.table.specs.Table.{vertex_count, table_edges, priority_at, owner_at, table_length, game_of}
+use Rattle.table.specs.Table.{vertex_count, priority_at, owner_at, game_of}
 use Rattle.table.specs.Answers.{Clean}
 use Rattle.table.specs.AnswersLaws.{judge_clean, not_both}
 use Rattle.table.specs.WellFormed.{WellFormed}
@@ -16,7 +16,7 @@ use Rattle.edit_rules.specs.Edges.{edited}
 use Rattle.edit_rules.proofs.EditedLaws.{edited_vertices, edited_priority, edited_owner, arrived_edge, left_edge, edited_well}
 use Rattle.edit_rules.specs.declared.Edit.TheVariants.{Arrival, Leaving}
 use Rattle.edit_trace.specs.Trace.{entries_of}
-use Rattle.edit_trace.specs.Run.{toggle, toggled, Run, run_from, run_over}
+use Rattle.edit_trace.specs.Run.{toggle, toggled, Run, run_over}
 use Rattle.edit_trace.proofs.RunLaws.{RunView, ends, goes, stops, run_view}
 
 -- ---- an entry

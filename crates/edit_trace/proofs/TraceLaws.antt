@@ -1,15 +1,15 @@
 -- Laws of a trace: its row at each way out of the code, and its entries one by one.
-use Rattle.std.specs.Prelude.{◌≡◌, refl, Bool, true, false, ℕ, suc, ◌+◌, ◌-◌, ◌*◌, ◌≤◌, ◌<◌, eqb, ltb, length}
+use Rattle.std.specs.Prelude.{◌≡◌, ℕ, suc, ◌+◌, ◌-◌, ◌*◌, ◌≤◌, ◌<◌, eqb, ltb, length}
 use Rattle.std.proofs.Math.Path.{sym, ap}
-use Rattle.std.proofs.Common.{ap₂, ◌∙◌, arith}
-use Rattle.std.proofs.Math.Bool.{not, So}
+use Rattle.std.proofs.Common.{ap₂, arith}
+use Rattle.std.proofs.Math.Bool.{not}
 use mathlib.Core.List.{List, [], ◌∷◌}
 use borrow.Author.Tests.{eqb-true, ltb-false, not-false, eq-eqb, ne_eqb, lt-ltb, le-ltb}
 use Rattle.theory.specs.Logic.Bools.{◌or◌}
 use Rattle.theory.proofs.Logic.BoolsLaws.{not_in, or_left, or_right, or_fails}
 use Rattle.theory.specs.Logic.Range.{tabulate}
 use Rattle.theory.proofs.Logic.ListLaws.{tabulate_ext}
-use Rattle.table.specs.Answers.{row, accepted, refused, judge, Clean}
+use Rattle.table.specs.Answers.{accepted, refused, judge, Clean}
 use Rattle.table.specs.AnswersLaws.{judge_hit, judge_clean}
 use Rattle.edit_trace.specs.Trace.{entry_limit, entry_count, entry_at, entries_in, entries_from, trace_rows}
 

@@ -1,20 +1,19 @@
 -- Row 40 renders its rule, an entry's rows decide by its rules, and a run ends as the rules say.
-use Rattle.std.specs.Prelude.{◌≡◌, refl, ◌⊎◌, ◌↔◌, Bool, not, cond, ℕ, ◌+◌, ◌*◌, ◌≤◌, ◌<◌, max, eqb, ltb, leb, length}
-use Rattle.std.proofs.Common.{sym, ◌∙◌, inl, inr, add-one, eqb-true, eq-eqb, ne_eqb, leb-true, le-leb, ltb-true, lt-ltb}
+use Rattle.std.specs.Prelude.{◌≡◌, refl, ◌↔◌, Bool, not, cond, ℕ, ◌+◌, ◌*◌, ◌≤◌, ◌<◌, max, eqb, ltb, leb, length}
+use Rattle.std.proofs.Common.{sym, ◌∙◌, add-one, eqb-true, eq-eqb, leb-true, le-leb, ltb-true, lt-ltb}
 use Rattle.std.proofs.Math.Path.{ap}
 use Rattle.std.proofs.Math.Bool.{true, false, So}
 use mathlib.Core.List.{List, [], ◌∷◌, ◌++◌, append-nil}
 use native.Mathlib.Omega.{arith}
-use Rattle.std.proofs.lemmas.Bool.{eqb-false}
 use Rattle.theory.specs.Logic.Bools.{◌&◌, ◌or◌}
 use Rattle.theory.proofs.Logic.BoolsLaws.{clash, So_not, not_in, not_out, and_in, and_out, or_says, or_false}
 use Rattle.table.specs.Limits.{edge_limit}
 use Rattle.table.specs.Table.{vertex_count, table_edges, table_length, game_of}
 use Rattle.table.specs.TableLaws.{edge_in, edge_out}
-use Rattle.table.specs.Answers.{Row, row, Answer, accepted, refused, judge, Clean}
+use Rattle.table.specs.Answers.{Row, row, refused, judge, Clean}
 use Rattle.table.specs.AnswersLaws.{judge_clean, judge_accepted, not_both}
 use Rattle.table.specs.Reading.{lacks_edge}
-use Rattle.table.specs.Rules.{Rule, Rendered, none, next}
+use Rattle.table.specs.Rules.{Rendered, none, next}
 use Rattle.table.specs.RulesLaws.{renders_placed}
 use Rattle.table.specs.Decisions.{Decides}
 use Rattle.table.specs.DecisionsLaws.{rendered_decides}

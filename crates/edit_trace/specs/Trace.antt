@@ -1,6 +1,6 @@
 -- A recorded list of edits: change request 9, "Editors save a session as a trace: its count (at most 4,096), then two parallel arrays of
 -- sources and targets."
-use Rattle.std.specs.Prelude.{Bool, not, cond, List, [], ◌∷◌, ℕ, ◌+◌, ◌-◌, ◌*◌, eqb, ltb, length, get_or}
+use Rattle.std.specs.Prelude.{not, List, [], ◌∷◌, ℕ, ◌+◌, ◌-◌, ◌*◌, eqb, ltb, length, get_or}
 use Rattle.theory.specs.Logic.Bools.{◌&◌, ◌or◌, bit}
 use Rattle.theory.specs.Logic.Range.{tabulate}
 use Rattle.table.specs.Answers.{Row, row}

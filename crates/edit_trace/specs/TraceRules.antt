@@ -4,7 +4,7 @@ use Rattle.table.specs.Limits.{edge_limit}
 use Rattle.table.specs.Table.{vertex_count, table_edges, table_length, Listed}
 use Rattle.table.specs.Rules.{Rule, placed, FirstRule, NoRule}
 use Rattle.edit_trace.specs.Trace.{entry_limit, entry_count}
-use Rattle.edit_trace.specs.Run.{toggled, Run}
+use Rattle.edit_trace.specs.Run.{toggled}
 
 -- 40
 abbrev pub trace_rules : List ℕ → List Rule

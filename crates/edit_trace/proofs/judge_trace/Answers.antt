@@ -1,19 +1,9 @@
 -- Each way out is row 40, or its passing.
-use native.Mathlib.Omega.{arith}
 use Rattle.edit_trace.proofs.TraceLaws.{no_words, other_length, too_many, trace_accepted}
 use Rattle.edit_trace.proofs.judge_trace.Goals as goal
 
 pub returns-then-len-eq0 : goal.returns-then-len-eq0
 returns-then-len-eq0 c = rw c.refused.ensures (no_words _ c.if-len-eq0.true)
-
-pub overflow_cast-count : goal.overflow_cast-count
-overflow_cast-count c = omega (arith, c.shared_slice_known-2-1.given 0)
-
-pub overflow_mul-count : goal.overflow_mul-count
-overflow_mul-count c = omega (arith, c.shared_slice_known-2-1.given 0)
-
-pub overflow_add-count : goal.overflow_add-count
-overflow_add-count c = omega (arith, c.shared_slice_known-2-1.given 0)
 
 pub returns-then-len-count : goal.returns-then-len-count
 returns-then-len-count c = rw c.refused-then-len-count.ensures (other_length _ c.if-len-count.true)
