@@ -20,7 +20,8 @@ use Rattle.reduction.specs.TableRules.{TableFits}
 use Rattle.plan.specs.WinningLaws.{plan_accepted, plan_accepts}
 use Rattle.carry.proofs.CarryCallLaws.{reduced_well}
 use Rattle.verdict.specs.VerdictCall.{VerdictCall}
-use Rattle.verdict.proofs.ConfirmedLaws.{Wins, wins_exactly, confirmed}
+use Rattle.verdict.specs.VerdictAnswers.{Wins}
+use Rattle.verdict.proofs.ConfirmedLaws.{wins_exactly, confirmed}
 use Rattle.claims_winners.specs.Winners.{winner_of, Decided}
 use Rattle.claims_winners.proofs.WinnersLaws.{decided}
 use Rattle.claims_winners.specs.VerdictWinners.{WinnerShown}

@@ -3,7 +3,7 @@
 use Rattle.std.specs.Prelude.{◌≡◌, List, ℕ}
 use Rattle.table.specs.Answers.{Answer}
 use Rattle.verdict.specs.VerdictCall.{VerdictCall}
-use Rattle.verdict.proofs.ConfirmedLaws.{Wins}
+use Rattle.verdict.specs.VerdictAnswers.{Wins}
 use Rattle.claims_winners.specs.Winners.{winner_of}
 
 -- some plan makes it say "wins" for the winner, and none for the other

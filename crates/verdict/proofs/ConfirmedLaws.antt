@@ -16,15 +16,9 @@ use Rattle.reduction.specs.TableCall.{table_counts, class_table}
 use Rattle.plan_links.specs.PlanTable.{vertex_at, plan_of}
 use Rattle.claims.specs.Demands.{reduced_faithful, class_word, table_leaves_classes, passed, table_is, table_winner}
 use Rattle.verdict.specs.VerdictCall.{shown_for, VerdictCall}
+use Rattle.verdict.specs.VerdictAnswers.{Wins, NotShown}
 use Rattle.verdict.specs.VerdictRules.{VerdictFits}
 use Rattle.verdict.proofs.VerdictRulesLaws.{front_fits, verdict_table, verdict_accepted, verdict_accepts}
-
--- the answers: with the counts of the classes and of the reduction, 1 for "wins" and 0 for "not shown"
-abbrev pub Wins : List ℕ → Answer → Type 0
-Wins game answer = answer ≡ accepted (table_counts reduced game ++ (1 ∷ []))
-
-abbrev pub NotShown : List ℕ → Answer → Type 0
-NotShown game answer = answer ≡ accepted (table_counts reduced game ++ (0 ∷ []))
 
 module _ {game : List ℕ} {vertex player : ℕ} {plan marks spare classes reduction : List ℕ} {answer : Answer} {marks' spare' classes' reduction' : List ℕ}
     (call : VerdictCall game vertex player plan marks spare classes reduction answer marks' spare' classes' reduction') where

@@ -14,7 +14,8 @@ use Rattle.claims.proofs.SentencesLaws.{once_map, tabulates}
 use Rattle.verdict.specs.VerdictCall.{before_plan_rows, verdict_rows, shown_for, VerdictCall}
 use Rattle.verdict.specs.VerdictRules.{VerdictFits, OfPlan}
 use Rattle.verdict.proofs.VerdictRulesLaws.{verdict_accepted, verdict_passed, verdict_table}
-use Rattle.verdict.proofs.ConfirmedLaws.{Wins, wins_exactly, confirmed}
+use Rattle.verdict.specs.VerdictAnswers.{Wins}
+use Rattle.verdict.proofs.ConfirmedLaws.{wins_exactly, confirmed}
 use Rattle.verdict.specs.Verdicts.{AnswerSentences, Verdicts}
 
 module _ {game : List ℕ} {vertex player : ℕ} {plan marks spare classes reduction : List ℕ} {answer : Answer} {marks' spare' classes' reduction' : List ℕ}

@@ -1,3 +1,4 @@
 pub mod VerdictCall
+pub mod VerdictAnswers
 pub mod VerdictRules
 pub mod Verdicts
