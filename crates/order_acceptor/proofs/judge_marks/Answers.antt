@@ -69,7 +69,7 @@ pub returns-then-has_unused : goal.returns-then-has_unused
 returns-then-has_unused c = rw (c.refused-then-has_unused.ensures, needed c.before.before.before.before.before) (relation_unused _ _ _ c.requires.0 (fit c.before.before.before.before) (sym (unused c.before.before.before) ∙ c.if-has_unused.true))
 
 pub failing_pair-failing-requires : goal.failing_pair-failing-requires
-failing_pair-failing-requires c = record { well_formed = c.requires.0; game_in_bounds = fit c.before.before.before; }
+failing_pair-failing-requires c = record { well_formed = c.requires.0; game_in_bounds = fit c.before.before.before }
 
 pub overflow_mul-place : goal.overflow_mul-place
 overflow_mul-place c = omega (arith, place c.before.before, limit c.before.before)

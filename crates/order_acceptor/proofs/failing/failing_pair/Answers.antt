@@ -6,4 +6,4 @@ use Rattle.table.specs.Limits.{vertex_limit}
 use Rattle.order_acceptor.proofs.failing.failing_pair.Goals as goal
 
 pub of_edges-requires : goal.of_edges-requires
-of_edges-requires c = let p = c.requires in record { well_formed = p.0; game_in_bounds = (omega arith, p.0.edges); by_index = zeros (vertex_limit + 1); }
+of_edges-requires c = let p = c.requires in record { well_formed = p.well_formed; game_in_bounds = (omega arith, p.well_formed.edges); by_index = zeros (vertex_limit + 1) }

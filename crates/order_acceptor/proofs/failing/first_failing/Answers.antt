@@ -7,25 +7,19 @@ use Rattle.order_acceptor.specs.RowSearch.{failing_from}
 use Rattle.order_acceptor.specs.RowSearchLaws.{failing_start, failing_step, failing_hit, failing_row, failing_end}
 use Rattle.std.proofs.Common.{rules}
 use Rattle.order_acceptor.proofs.failing.first_failing.Goals as goal
-use Rattle.order_acceptor.proofs.failing.first_failing.Lts as lts
-use Rattle.order_acceptor.proofs.failing.first_failing.Reads as reads
-use Rattle.order_acceptor.proofs.failing.first_failing.Tie as tie
 
 pub rows-init : goal.rows-init
 rows-init c = (search rules, failing_start _ _ _)
 
-abbrev at-start : lts.In-loop tie.the-claims reads.Pre reads.Post goal.the-invariant-loop-w goal.the-decreases-loop-w goal.the-invariant-rows goal.the-decreases-rows tie.handed_clauses → lts.Start tie.the-claims reads.Pre reads.Post goal.the-invariant-loop-w goal.the-decreases-loop-w goal.the-invariant-rows goal.the-decreases-rows tie.handed_clauses
-at-start c = search
-
 pub pair_fails-requires : goal.pair_fails-requires
-pair_fails-requires c = let p = (at-start c.before).requires in
-    record { game = p.0; index = p.1.0; row = c.if-v-n.false; column = c.loop-w-test.true; fits = p.1.1 }
+pair_fails-requires c = let p = c.requires in
+    record { game = p.well_formed; index = p.edge_index; row = c.if-v-n.false; column = c.loop-w-test.true; fits = p.game_in_bounds }
 
 pub loop-w-preserved : goal.loop-w-preserved
 loop-w-preserved c = (
-      search rules,
-      c.loop-w.invariant.1 ∙ failing_step _ _ _ _ _ c.if-v-n.false c.loop-w-test.true (rw (← c.pair_fails.ensures) c.if-pair_fails.false),
-    )
+  search rules,
+  c.loop-w.invariant.1 ∙ failing_step _ _ _ _ _ c.if-v-n.false c.loop-w-test.true (rw (← c.pair_fails.ensures) c.if-pair_fails.false),
+)
 
 pub rows-preserved : goal.rows-preserved
 rows-preserved c = (search rules, c.loop-w.invariant.1 ∙ failing_row _ _ _ _ _ (omega arith))
