@@ -16,7 +16,7 @@ at-start c = search
 
 pub fill_classes-requires : goal.fill_classes-requires
 fill_classes-requires c = let s = at-start c.before in
-    let p = s.pre in
+    let p = s.requires in
     record { preorder_marks = held_preorder s.args.mirror _ (held_done s.args.mirror p.0.order_fits.marks_fit c.fill_relation.ensures) p.1 p.0.order_fits.game; n_in_bounds = omega (arith, p.1, p.0.words_fit); }
 
 abbrev returns-start : lts.After-slice_known6 tie.the-claims reads.Pre reads.Post tie.handed_clauses → lts.Start tie.the-claims reads.Pre reads.Post tie.handed_clauses
@@ -27,4 +27,4 @@ at-fill-relation c = search
 
 pub returns : goal.returns
 returns c = let s = returns-start c.before in
-    relation_classes _ _ _ _ s.args.mirror s.pre.0 _ _ _ _ _ _ s.pre.1 (at-fill-relation c.before).fill-relation.ensures c.fill_classes.ensures.value c.fill_classes.ensures.classes_value
+    relation_classes _ _ _ _ s.args.mirror s.requires.0 _ _ _ _ _ _ s.requires.1 (at-fill-relation c.before).fill_relation.ensures c.fill_classes.ensures.value c.fill_classes.ensures.classes_value

@@ -11,8 +11,8 @@ use Rattle.classes.proofs.judge_memory.Reads as reads
 use Rattle.classes.proofs.judge_memory.Tie as tie
 
 -- marks, spare and class words are long enough
-marks_fit_lem : (c : lts.Else1 tie.the-claims reads.Pre reads.Post) → let a = c.args in ltb a.marks (marks_length a.n) ≡ false
-marks_fit_lem c = le-ltb _ _ (rw c.length_for-needed.ensures at c.if-marks-needed.false)
+marks_fit : (c : lts.Else1 tie.the-claims reads.Pre reads.Post) → let a = c.args in ltb a.marks (marks_length a.n) ≡ false
+marks_fit c = le-ltb _ _ (rw c.length_for-needed.ensures at c.if-marks-needed.false)
 
 spare_fits : (c : lts.Else2 tie.the-claims reads.Pre reads.Post) → let a = c.args in ltb a.spare (marks_length a.n) ≡ false
 spare_fits c = le-ltb _ _ (rw c.length_for-needed.ensures at c.if-spare-needed.false)
@@ -23,11 +23,11 @@ returns-then-marks-needed c = let l = c.length_for-needed.ensures in
 
 pub returns-then-spare-needed : goal.returns-then-spare-needed
 returns-then-spare-needed c = let l = c.length_for-needed.ensures in
-    rw (c.short-then-spare-needed.ensures, l) (sym (judge_next _ _ _ (marks_fit_lem c.before.before) ∙ judge_hit _ _ _ (lt-ltb _ _ (rw l at c.if-spare-needed.true))))
+    rw (c.short-then-spare-needed.ensures, l) (sym (judge_next _ _ _ (marks_fit c.before.before) ∙ judge_hit _ _ _ (lt-ltb _ _ (rw l at c.if-spare-needed.true))))
 
 pub returns-then-classes-n : goal.returns-then-classes-n
 returns-then-classes-n c = rw c.short-then-classes-n.ensures
-    (sym (judge_next _ _ _ (marks_fit_lem c.before.before.before) ∙ judge_next _ _ _ (spare_fits c.before.before) ∙ judge_hit _ _ _ (lt-ltb _ _ c.if-classes-n.true)))
+    (sym (judge_next _ _ _ (marks_fit c.before.before.before) ∙ judge_next _ _ _ (spare_fits c.before.before) ∙ judge_hit _ _ _ (lt-ltb _ _ c.if-classes-n.true)))
 
 pub returns : goal.returns
-returns c = sym (judge_clean _ _ (marks_fit_lem c.before.before, (spare_fits c.before, (le-ltb _ _ c.if-classes-n.false, tt))))
+returns c = sym (judge_clean _ _ (marks_fit c.before.before, (spare_fits c.before, (le-ltb _ _ c.if-classes-n.false, tt))))

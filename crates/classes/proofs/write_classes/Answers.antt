@@ -3,24 +3,16 @@ use Rattle.theory.specs.Order.Governed.{marks_by, relation_by}
 use Rattle.theory.specs.Classes.Reduction.{class_of}
 use Rattle.table.specs.Table.{game_of}
 use Rattle.classes.specs.ClassesCall.{class_total, class_words, total_of, words_of, total_answer}
-use Rattle.table.specs.WellFormed.{WellSized}
 use Rattle.table.specs.ReadingLaws.{reading_accepted}
 use Rattle.classes.specs.ClassesCallLaws.{classes_handed}
 use Rattle.classes.proofs.write_classes.Goals as goal
-use Rattle.classes.proofs.write_classes.Lts as lts
-use Rattle.classes.proofs.write_classes.Reads as reads
-use Rattle.classes.proofs.write_classes.Tie as tie
-
--- the reader accepted
-sized : (c : lts.After-reading tie.the-claims reads.Pre reads.Post) → WellSized c.args.game.now c.reading-1.given.0.0
-sized c = reading_accepted _ _ (rw c.reading-1.given.1 at c.read_sizes-reading.ensures)
 
 pub returns-in_default : goal.returns-in_default
-returns-in_default c = let t = c.enum_told-1.given in
-    rw (c.refusal_of.ensures, t.1) (classes_handed _ _ _ _ t.0.0 (rw t.1 at c.read_sizes-reading.ensures))
+returns-in_default c = let t = c.in_default in
+    rw (c.refusal_of.ensures, t.is) (classes_handed _ _ _ _ t.field-0 (rw t.is at c.read_sizes-reading.ensures))
 
 pub write_numbered-requires : goal.write_numbered-requires
-write_numbered-requires c = let s = sized c.before.before.before.before.before in (s.well, s.vertices)
+write_numbered-requires c = let s = reading_accepted _ _ (rw c.in-Accepted.is at c.read_sizes-reading.ensures) in (s.well, s.vertices)
 
 pub returns : goal.returns
 unfolding marks_by relation_by game_of class_total class_words class_of total_of words_of total_answer
