@@ -3,4 +3,4 @@ use Rattle.classes.specs.NumberingLaws.{numbered_total}
 use Rattle.classes.proofs.numbering.fill_classes.Goals as goal
 
 pub returns : goal.returns
-returns c = let n = c.number_classes.ensures in record { value = numbered_total n.1; classes_value = n.0; }
+returns c = let n = c.number_classes.ensures in record { value = numbered_total n.numbered; classes_value = n.classes_value }

@@ -18,8 +18,8 @@ unfolding lowest
 loop-w-init c = (search rules, refl)
 
 -- the part that was searched
-part : (c : lts.After-lowest_between tie.the-claims reads.Pre reads.Post goal.the-invariant-loop-w goal.the-decreases-loop-w tie.handed_clauses) → let e = c.end_of_lem.result in (c.loop-w.w < e) × (e ≤ c.args.n)
-part c = let t = c.loop-w-test.true in let e = c.end_of_lem.ensures in (omega (arith, t, e), omega (arith, e))
+part : (c : lts.After-lowest_between tie.the-claims reads.Pre reads.Post goal.the-invariant-loop-w goal.the-decreases-loop-w tie.handed_clauses) → let e = c.end_of-end.result in (c.loop-w.w < e) × (e ≤ c.args.n)
+part c = let t = c.loop-w-test.true in let e = c.end_of-end.ensures in (omega (arith, t, e), omega (arith, e))
 
 pub returns-then-low-end : goal.returns-then-low-end
 returns-then-low-end c = let p = part c.before.before in

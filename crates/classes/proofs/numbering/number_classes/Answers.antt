@@ -18,7 +18,7 @@ loop-v-init c = (search rules, search rules, search rules, written_start _ _, nu
 
 pub number_vertex-k-requires : goal.number_vertex-k-requires
 number_vertex-k-requires c = let p = c.requires in
-    record { preorder_marks = p.0; v_lt_n = (c.loop-v-test.true, omega arith, omega arith); numbered = c.loop-v.invariant.4; }
+    record { preorder_marks = p.preorder_marks; v_lt_n = (c.loop-v-test.true, omega arith, omega arith); numbered = c.loop-v.invariant.4 }
 
 pub loop-v-preserved : goal.loop-v-preserved
 loop-v-preserved c = let l = c.loop-v in
@@ -33,4 +33,4 @@ loop-v-preserved c = let l = c.loop-v in
 pub returns : goal.returns
 returns c = let l = c.loop-v in
     let e : l.v ≡ c.args.n = omega arith in
-    record { classes_value = rw e at l.invariant.3; numbered = rw e at l.invariant.4; }
+    record { classes_value = rw e at l.invariant.3; numbered = rw e at l.invariant.4 }

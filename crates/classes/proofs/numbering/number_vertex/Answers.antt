@@ -54,7 +54,7 @@ pub overflow_add-result : goal.overflow_add-result
 overflow_add-result c = omega (arith, few c.before.before.before.before.before.before)
 
 pub returns-then-low-v : goal.returns-then-low-v
-returns-then-low-v c = let e = sym c.lowest_member-low.ensures ∙ c.if-low-v.true in record { classes_value = ap (set c.args.classes.now c.args.v) (class_new (preorder c.before.before.before.before.before.before) (numbered c.before.before.before.before.before.before) (vertex c.before.before.before.before.before.before) e); numbered_2 = numbered_new (preorder c.before.before.before.before.before.before) (numbered c.before.before.before.before.before.before) (vertex c.before.before.before.before.before.before) e (omega arith) (omega (arith, few c.before.before.before.before.before.before)); }
+returns-then-low-v c = let e = sym c.lowest_member-low.ensures ∙ c.if-low-v.true in record { classes_value = ap (set c.args.classes.now c.args.v) (class_new (preorder c.before.before.before.before.before.before) (numbered c.before.before.before.before.before.before) (vertex c.before.before.before.before.before.before) e); numbered_2 = numbered_new (preorder c.before.before.before.before.before.before) (numbered c.before.before.before.before.before.before) (vertex c.before.before.before.before.before.before) e (omega arith) (omega (arith, few c.before.before.before.before.before.before)) }
 
 pub offset_bounds-classes-low : goal.offset_bounds-classes-low
 offset_bounds-classes-low c = omega (arith, earlier c.before)
@@ -63,4 +63,4 @@ pub bounds-classes-low : goal.bounds-classes-low
 bounds-classes-low c = omega (arith, earlier c.before.before)
 
 pub returns : goal.returns
-returns c = let e = class c.before.before in record { classes_value = ap (set c.args.classes.now c.args.v) e; numbered_2 = numbered_old (preorder c.before.before.before.before.before.before.before) (numbered c.before.before.before.before.before.before.before) (vertex c.before.before.before.before.before.before.before) (λ q. c.if-low-v.false (c.lowest_member-low.ensures ∙ q)) _ e (omega arith); }
+returns c = let e = class c.before.before in record { classes_value = ap (set c.args.classes.now c.args.v) e; numbered_2 = numbered_old (preorder c.before.before.before.before.before.before.before) (numbered c.before.before.before.before.before.before.before) (vertex c.before.before.before.before.before.before.before) (λ q. c.if-low-v.false (c.lowest_member-low.ensures ∙ q)) _ e (omega arith) }
