@@ -1,17 +1,15 @@
 -- Laws of an entry's rows by the edges before it: what is held gives them.
 use Rattle.std.specs.Prelude.{◌≡◌, refl, Bool, true, false, cond, ℕ, ◌+◌, ◌-◌, ◌≤◌, ◌<◌, max, eqb, ltb, get_or}
-use Rattle.std.proofs.Common.{sym, ◌∙◌, arith, ne_eqb, lt-ltb, le-ltb, leb-false, ltb-false}
+use Rattle.std.proofs.Common.{◌∙◌, arith, ne_eqb, lt-ltb, le-ltb, leb-false, ltb-false}
 use Rattle.std.proofs.Math.Path.{ap}
 use mathlib.Core.List.{List, [], ◌∷◌}
 use Rattle.std.proofs.Math.Decide.{ℕ_discrete}
 use Rattle.std.proofs.Math.Numerals.{add-one}
 use Rattle.std.proofs.Math.ListN.{length}
-use Rattle.theory.specs.Logic.Bools.{bit}
 use Rattle.theory.proofs.Logic.BoolsLaws.{bit_le, or_fails}
 use Rattle.table.specs.Limits.{edge_limit}
 use Rattle.table.specs.Table.{table_length}
-use Rattle.table.specs.Answers.{Row, row, accepted, refused, judge, Clean}
-use Rattle.table.specs.Acceptance.{acceptance_answer}
+use Rattle.table.specs.Answers.{refused, judge, Clean}
 use Rattle.table.specs.declared.Acceptance.{Acceptance}
 use Rattle.table.specs.declared.NoCounts.{NoCounts}
 use Rattle.table.specs.declared.Refusal.{Refusal}

@@ -3,7 +3,7 @@ use Rattle.std.specs.Prelude.{◌≡◌, Bool, List, ◌∷◌, ◌++◌, ℕ, �
 use Rattle.theory.specs.Logic.Bools.{◌or◌}
 use Rattle.theory.specs.Logic.Range.{tabulate}
 use Rattle.table.specs.Table.{vertex_count, priority_at, owner_at, source_at, target_at}
-use Rattle.edit_trace.specs.Trace.{entry_count, entry_at}
+use Rattle.edit_trace.specs.Trace.{entry_at}
 
 -- entry i has an end not below n
 abbrev pub outside : List ℕ → ℕ → ℕ → Bool

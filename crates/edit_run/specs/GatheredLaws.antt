@@ -1,16 +1,15 @@
 -- Laws of words put one behind another, and of the words of a table with other edges.
-use Rattle.std.specs.Prelude.{◌≡◌, refl, List, [], ◌∷◌, ◌++◌, ℕ, ◌+◌, ◌-◌, ◌*◌, ◌≤◌, ◌<◌, length, get_or, take, drop, set}
-use Rattle.std.proofs.Common.{sym, ap, ◌∙◌, append_assoc, arith, length-append, get_or-append-add, get_or-take, get_or-drop}
+use Rattle.std.specs.Prelude.{◌≡◌, refl, List, ◌++◌, ℕ, ◌+◌, ◌-◌, ◌*◌, ◌≤◌, ◌<◌, length, get_or, take, drop, set}
+use Rattle.std.proofs.Common.{sym, ap, ◌∙◌, arith, length-append, get_or-append-add, get_or-take, get_or-drop}
 use Rattle.std.proofs.Math.ListN.{get_or-append}
-use Rattle.std.proofs.lemmas.List.{set-get_or}
 use Rattle.theory.specs.Logic.Range.{tabulate}
-use Rattle.theory.proofs.Logic.ListLaws.{length_tabulate, get_d_tabulate, tabulate_ext, drop_tabulate}
-use Rattle.table.specs.Table.{vertex_count, table_edges, priority_at, owner_at, source_at, target_at, table_length, table_in}
+use Rattle.theory.proofs.Logic.ListLaws.{length_tabulate, get_d_tabulate}
+use Rattle.table.specs.Table.{vertex_count, table_edges, table_length, table_in}
 use Rattle.table.specs.TableLaws.{in_word}
 use Rattle.table.specs.Answers.{written}
 use Rattle.table.specs.AnswersLaws.{get_d_written}
 use Rattle.table.specs.Placing.{placed}
-use Rattle.table.specs.PlacingLaws.{placed_written, placed_join, written_two, written_join}
+use Rattle.table.specs.PlacingLaws.{placed_written, placed_join, written_join}
 use Rattle.edit_rules.specs.EditParts.{Formed}
 use Rattle.edit_rules.proofs.EditPartsLaws.{formed_room}
 use Rattle.edit_rules.proofs.BufferLaws.{in_vertices, in_edges}

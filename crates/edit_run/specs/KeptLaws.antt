@@ -1,6 +1,6 @@
 -- Laws of the pairs that are kept: they are listed one by one.
 use Rattle.std.specs.Prelude.{◌≡◌, refl, Bool, true, false, cond, List, [], ◌∷◌, ◌++◌, ℕ, zero, suc, ◌+◌, ◌≤◌, ◌<◌, eqb, leb, length, get_or, set}
-use Rattle.std.proofs.Common.{sym, ap, ◌∙◌, arith, length-append}
+use Rattle.std.proofs.Common.{ap, ◌∙◌, arith, length-append}
 use Rattle.theory.specs.Logic.Bools.{◌&◌}
 use Rattle.theory.specs.Logic.Range.{tabulate}
 use Rattle.table.specs.Placing.{placed}

@@ -1,10 +1,10 @@
 -- The run over pairs is the run over tables: before each entry the table has the edges then, and the longest table so far the most edges.
-use Rattle.std.specs.Prelude.{◌≡◌, refl, Bool, true, false, not, cond, eqb, ltb, leb, get_or}
+use Rattle.std.specs.Prelude.{◌≡◌, refl, Bool, true, false, not, cond, eqb, ltb}
 use Rattle.std.proofs.Common.{sym, ◌∙◌, inl, inr, add-one, arith, lt-ltb, le-ltb, ltb-true, leb-true}
 use Rattle.std.proofs.Math.Path.{ap, ap₂, subst}
 use Rattle.std.proofs.Math.Bool.{So}
 use mathlib.Core.List.{List, [], ◌∷◌}
-use Prim.Native.Nat.{ℕ, zero, suc, ◌+◌, ◌*◌, ◌≤◌, ◌<◌, max}
+use Prim.Native.Nat.{ℕ, zero, suc, ◌+◌, ◌≤◌, ◌<◌, max}
 use Rattle.std.proofs.Math.ListN.{length}
 use Rattle.theory.specs.Logic.Bools.{◌or◌, bit}
 use Rattle.theory.proofs.Logic.BoolsLaws.{So_ext, or_false, or_out}
@@ -12,8 +12,8 @@ use Rattle.theory.specs.Logic.Range.{any_below, count, first, tabulate}
 use Rattle.theory.proofs.Logic.RangeLaws.{first_passes}
 use Rattle.theory.proofs.Logic.ListLaws.{tabulate_ext}
 use Rattle.theory.proofs.Plans.LinkLaws.{pair_is_lem}
-use Rattle.table.specs.Table.{vertex_count, table_edges, source_at, target_at, table_length, game_of}
-use Rattle.table.specs.Answers.{Row, accepted, refused, judge, Clean}
+use Rattle.table.specs.Table.{table_edges, source_at, target_at, table_length, game_of}
+use Rattle.table.specs.Answers.{Row, refused, judge, Clean}
 use Rattle.table.specs.Acceptance.{acceptance_answer}
 use Rattle.table.specs.declared.Acceptance.{Acceptance}
 use Rattle.table.specs.Reading.{lacks_edge}
@@ -31,7 +31,7 @@ use Rattle.edit_trace.proofs.TraceLaws.{entries_all, entries_next, entries_none}
 use Rattle.edit_trace.specs.Run.{toggle, toggled, entry_rows, run_from, run_over}
 use Rattle.edit_trace.proofs.RunLaws.{toggle_is, run_next, run_stops, run_ends}
 use Rattle.edit_run.specs.Gathered.{outside, Gathered}
-use Rattle.edit_run.specs.Turned.{leaving, turned, pair_at, edges_after}
+use Rattle.edit_run.specs.Turned.{leaving, pair_at, edges_after}
 use Rattle.edit_run.specs.TurnedLaws.{leaving_tabulate, leaving_left, linked_counted, toggled_turned}
 use Rattle.edit_run.specs.Tally.{facts_at, most_after, Halted}
 use Rattle.edit_run.specs.declared.Halt.{Halt}

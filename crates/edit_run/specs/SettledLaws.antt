@@ -1,7 +1,6 @@
 -- What a run over pairs leaves in the buffer is what the run over tables does.
-use Rattle.std.specs.Prelude.{◌≡◌, refl, List, [], ◌∷◌, ◌++◌, leb, get_or}
-use Rattle.std.proofs.Common.{sym, ap, ap₂, ◌∙◌, subst, append_assoc, leb-false}
-use Rattle.std.proofs.Math.Bool.{So}
+use Rattle.std.specs.Prelude.{◌≡◌, List, ◌∷◌, ◌++◌}
+use Rattle.std.proofs.Common.{sym, ap, ap₂, ◌∙◌, subst, leb-false}
 use Prim.Native.Nat.{ℕ, zero, suc, ◌+◌, ◌-◌, ◌*◌, ◌≤◌, ◌<◌, max}
 use Rattle.std.proofs.Math.Decide.{dec_lt, ℕ_discrete}
 use native.Mathlib.Omega.{arith}
@@ -10,8 +9,8 @@ use Rattle.theory.proofs.Logic.BoolsLaws.{or_fails}
 use Rattle.theory.specs.Logic.Range.{first, tabulate}
 use Rattle.theory.proofs.Logic.RangeLaws.{first_le, first_before}
 use Rattle.theory.proofs.Logic.ListLaws.{length_tabulate, tabulate_ext}
-use Rattle.table.specs.Limits.{vertex_limit, edge_limit}
-use Rattle.table.specs.Table.{vertex_count, table_edges, priority_at, owner_at, table_length, table_in}
+use Rattle.table.specs.Limits.{edge_limit}
+use Rattle.table.specs.Table.{vertex_count, priority_at, owner_at, table_length, table_in}
 use Rattle.table.specs.TableLaws.{in_word}
 use Rattle.table.specs.Answers.{Clean, written}
 use Rattle.table.specs.Listing.{Appended}
@@ -25,7 +24,7 @@ use Rattle.edit_rules.specs.EditParts.{Formed}
 use Rattle.edit_links.specs.Links.{Pairs, Linked}
 use Rattle.edit_trace.proofs.PaddedLaws.{padded_in}
 use Rattle.edit_run.specs.RunResult.{RunResult}
-use Rattle.edit_trace.specs.Trace.{entry_count, entry_at, entries_of}
+use Rattle.edit_trace.specs.Trace.{entry_count, entries_of}
 use Rattle.edit_trace.specs.Run.{padded}
 use Rattle.edit_run.specs.Gathered.{outside, Gathered, edge_words}
 use Rattle.edit_run.specs.Turned.{turned, pair_at, edges_after, kept_pairs}

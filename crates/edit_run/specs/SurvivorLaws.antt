@@ -1,6 +1,6 @@
 -- The edges after some entries are the edges that no entry names and the arrivals that no later entry names, in sequence: an entry leaves out the
 -- equal pairs before it, and is there itself if it arrives.
-use Rattle.std.specs.Prelude.{◌≡◌, ◌⊎◌, Bool, not, leb, ltb, length, get_or}
+use Rattle.std.specs.Prelude.{◌≡◌, ◌⊎◌, Bool, not, leb, get_or}
 use Rattle.std.proofs.Math.Path.{refl, sym, ap, ap₂}
 use Rattle.std.proofs.Common.{◌∙◌, inl, inr, add-one}
 use Rattle.std.proofs.Math.Bool.{true, false, cond, So}
@@ -9,7 +9,7 @@ use Prim.Native.Nat.{ℕ, zero, suc, ◌+◌, ◌≤◌, ◌<◌, max}
 use Rattle.std.proofs.Math.Decide.{ℕ_discrete}
 use native.Mathlib.Omega.{arith}
 use Rattle.std.proofs.Math.Dec.{eqb}
-use borrow.Author.Tests.{eqb-true, eqb-false, eq-eqb, ne_eqb, le-leb, lt-leb, leb-true, leb-false, le-ltb}
+use borrow.Author.Tests.{eqb-true, eq-eqb, le-leb, lt-leb, leb-true, le-ltb}
 use Rattle.theory.specs.Logic.Bools.{◌&◌}
 use Rattle.theory.proofs.Logic.BoolsLaws.{decide, clash, So_ext, So_not, and_in, and_out, not_in, not_out}
 use Rattle.theory.specs.Logic.Range.{first, tabulate}
@@ -17,11 +17,10 @@ use Rattle.theory.proofs.Logic.RangeLaws.{first_ge, first_passes, first_least}
 use Rattle.theory.proofs.Logic.ListLaws.{tabulate_snoc}
 use Rattle.edit_rules.specs.Edges.{others}
 use Rattle.edit_rules.proofs.EdgesLaws.{others_append, others_all}
-use Rattle.edit_links.specs.Links.{pair_is, link_of, Linked}
+use Rattle.edit_links.specs.Links.{pair_is, Linked}
 use Rattle.edit_trace.specs.Trace.{entries_of}
 use Rattle.edit_run.specs.Turned.{turned, pair_at, edges_after, passing_below}
 use Rattle.edit_run.specs.TurnedLaws.{linked_counted}
-use Rattle.edit_run.specs.Tally.{Tallied}
 use Rattle.edit_run.specs.TallyLaws.{equal, equals}
 
 -- ---- pairs that pass

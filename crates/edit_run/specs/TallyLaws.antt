@@ -1,24 +1,24 @@
 -- Laws of a tally: it starts from counts of the links and of the sources, and takes an entry.
-use Rattle.std.specs.Prelude.{◌≡◌, refl, Bool, true, false, cond, List, length, get_or, set}
+use Rattle.std.specs.Prelude.{◌≡◌, refl, cond, List, length, get_or, set}
 use Rattle.std.proofs.Math.Path.{sym}
-use Rattle.std.proofs.Common.{ap, ap₂, ◌∙◌, inl, inr, add-one, get_or-set_same, get_or-set_other}
+use Rattle.std.proofs.Common.{◌∙◌, inl, inr, add-one, get_or-set_same, get_or-set_other}
 use Rattle.std.proofs.Math.Bool.{So}
-use Prim.Native.Nat.{ℕ, zero, suc, ◌+◌, ◌≤◌, ◌<◌, max}
-use Rattle.std.proofs.Math.Decide.{ℕ_discrete, dec_lt}
+use Prim.Native.Nat.{ℕ, ◌+◌, ◌≤◌, ◌<◌, max}
+use Rattle.std.proofs.Math.Decide.{ℕ_discrete}
 use native.Mathlib.Omega.{arith}
 use Rattle.std.proofs.Math.Dec.{eqb}
 use borrow.Author.Tests.{eqb-true, eq-eqb, ne_eqb}
-use Rattle.theory.specs.Logic.Bools.{◌&◌, bit}
-use Rattle.theory.proofs.Logic.BoolsLaws.{decide, clash, So_ext, So_not, and_in, and_out}
-use Rattle.theory.specs.Logic.Range.{first, count, tabulate}
+use Rattle.theory.specs.Logic.Bools.{◌&◌}
+use Rattle.theory.proofs.Logic.BoolsLaws.{decide, clash, So_ext, and_in, and_out}
+use Rattle.theory.specs.Logic.Range.{first}
 use Rattle.theory.proofs.Logic.RangeLaws.{first_ge, first_le, first_passes, first_hit, first_step}
 use Rattle.theory.proofs.Logic.CountLaws.{count_ext, count_none}
 use Rattle.theory.proofs.Logic.ListLaws.{length_tabulate}
-use Rattle.table.specs.Limits.{edge_limit, link_limit}
+use Rattle.table.specs.Limits.{edge_limit}
 use Rattle.index.specs.Index.{from, source_count, Column}
-use Rattle.edit_links.specs.Links.{pair_is, link_of, Pairs, Linked}
+use Rattle.edit_links.specs.Links.{pair_is, Pairs, Linked}
 use Rattle.edit_trace.specs.Trace.{entries_of}
-use Rattle.edit_run.specs.Turned.{leaving, turned, stepped, pair_at, edges_after}
+use Rattle.edit_run.specs.Turned.{turned, stepped, pair_at, edges_after}
 use Rattle.edit_run.specs.TurnedLaws.{entries_tabulate, leaving_tabulate, length_turned, leaving_turned, leaving_same, entries_turned, entries_same}
 use Rattle.edit_run.specs.Tally.{Tallied}
 

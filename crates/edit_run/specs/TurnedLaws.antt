@@ -1,5 +1,5 @@
 -- Laws of the edges of a run: their counts after an entry, and that they are the edges of the run's tables.
-use Rattle.std.specs.Prelude.{◌≡◌, Bool, not, ℕ, zero, suc, ◌+◌, ◌-◌, ◌≤◌, ◌<◌}
+use Rattle.std.specs.Prelude.{◌≡◌, Bool, ℕ, zero, suc, ◌+◌, ◌-◌, ◌≤◌, ◌<◌}
 use Rattle.std.proofs.Math.Path.{refl, ap}
 use Rattle.std.proofs.Common.{sym, ap₂, ◌∙◌}
 use Rattle.std.proofs.Math.Bool.{true, false, cond, So}
@@ -9,14 +9,13 @@ use Rattle.std.proofs.Math.Dec.{eqb, ltb}
 use Rattle.std.proofs.Math.ListN.{length, length-append}
 use borrow.Author.Tests.{eqb-true, eqb-false, eq-eqb, ne_eqb, lt-ltb, le-ltb}
 use Rattle.theory.specs.Logic.Bools.{◌&◌, ◌or◌, bit}
-use Rattle.theory.proofs.Logic.BoolsLaws.{clash, So_not, and_in, and_out}
+use Rattle.theory.proofs.Logic.BoolsLaws.{and_in, and_out}
 use Rattle.theory.specs.Logic.Range.{tabulate, count}
 use Rattle.theory.proofs.Logic.ListLaws.{tabulate_snoc}
 use Rattle.theory.specs.Plans.Plan.{linked}
 use Rattle.table.specs.Table.{game_of}
-use Rattle.edit_rules.specs.Edges.{edges_in, with_edges, others, edited_edges, edited}
+use Rattle.edit_rules.specs.Edges.{with_edges, others, edited_edges, edited}
 use Rattle.edit_rules.proofs.EdgesLaws.{edges_with, with_linked, with_with}
-use Rattle.edit_rules.specs.declared.Edit.{Edit}
 use Rattle.edit_rules.specs.declared.Edit.TheVariants.{Arrival, Leaving}
 use Rattle.edit_trace.specs.Trace.{entries_of}
 use Rattle.edit_trace.specs.Run.{toggle, toggled}

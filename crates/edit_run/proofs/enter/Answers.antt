@@ -1,106 +1,122 @@
 -- Each way out is what the judge says of the entry by what is held, and the counts are taken over to the next.
-use mathlib.Core.Path.{◌≡◌, refl, sym, ap, ◌∙◌}
-use mathlib.Core.List.{List, []}
-use Prim.Native.Nat.{ℕ, ◌+◌, ◌≤◌, ◌<◌}
-use native.Mathlib.Omega.{arith}
-use lib.ListN.{length, get_or}
-use Rattle.table.specs.Answers.{Row, judge, Clean}
+use Rattle.std.proofs.Common.{◌+◌, ◌≤◌, ◌<◌, ℕ, List, [], length, get_or, refl, sym, ap, ◌∙◌, arith}
+use Rattle.table.specs.Answers.{Row, judge}
 use Rattle.table.specs.AnswersLaws.{judge_accepted}
-use Rattle.table.specs.Acceptance.{acceptance_answer}
-use Rattle.edit_run.specs.Tally.{facts_at}
+use Rattle.edit_links.specs.Links.{Pairs, Linked}
+use Rattle.edit_run.specs.Tally.{Tallied}
 use Rattle.edit_run.specs.TallyLaws.{link_high, tallied_more}
 use Rattle.edit_run.specs.EnterLaws.{stepped_le, counts_few, facts_are}
 use Rattle.edit_run.proofs.enter.Goals as goal
-use Rattle.edit_run.proofs.enter.Lts as lts
-use Rattle.edit_run.proofs.enter.Reads as reads
-use Rattle.edit_run.proofs.enter.Tie as tie
 
--- the source is a vertex, and its degree is held
-source : (s : lts.Start tie.the-claims reads.Pre reads.Post tie.handed_clauses) → let a = s.args in get_or a.sources.now (a.m + a.i) 0 < a.n
-source s = s.requires.pairs.0.source (s.args.m + s.args.i) s.requires.pairs.3
+-- both ends are vertices, and the source's degree is held; no more copies than edges of the source, and no more of these than edges
+record Fit (S T : List ℕ) (m N n i : ℕ) (links copies degrees : List ℕ) (edges : ℕ) : Type 0 where
+  pub source : get_or S (m + i) 0 < n
+  pub target : get_or T (m + i) 0 < n
+  pub wide : get_or S (m + i) 0 < length degrees
+  pub copies_few : get_or copies (m + i) 0 ≤ get_or degrees (get_or S (m + i) 0) 0
+  pub edges_few : get_or degrees (get_or S (m + i) 0) 0 ≤ edges
+  pub next_few : get_or links (m + i) 0 ≤ N
 
-target : (s : lts.Start tie.the-claims reads.Pre reads.Post tie.handed_clauses) → let a = s.args in get_or a.targets.now (a.m + a.i) 0 < a.n
-target s = s.requires.pairs.0.target (s.args.m + s.args.i) s.requires.pairs.3
-
-wide : (s : lts.Start tie.the-claims reads.Pre reads.Post tie.handed_clauses) → let a = s.args in get_or a.sources.now (a.m + a.i) 0 < length a.degrees.now
-wide s = omega (arith, source s, s.requires.n_le_vertex_limit.4)
-
-few : (s : lts.Start tie.the-claims reads.Pre reads.Post tie.handed_clauses)
-    → let a = s.args in
-    let v = get_or a.sources.now (a.m + a.i) 0 in
-    (get_or a.copies.now (a.m + a.i) 0 ≤ get_or a.degrees.now v 0) × (get_or a.degrees.now v 0 ≤ a.edges)
-few s =
-    let p = s.requires in
-    counts_few _ _ _ _ p.0.1 _ p.0.2 _ p.0.3 _ _ _ p.1.1 p.1.0.3 (wide s)
-
-next_few : (s : lts.Start tie.the-claims reads.Pre reads.Post tie.handed_clauses) → let a = s.args in get_or a.links.now (a.m + a.i) 0 ≤ a.count
-next_few s =
-    let p = s.requires in
-    link_high _ _ _ _ p.0.1 _ p.0.2 _ p.0.3 _ _ _ p.1.1 p.1.0.3 (wide s)
-
--- what the judge said
-judged : (c : lts.After-judge_edit tie.the-claims reads.Pre reads.Post tie.handed_clauses)
-    → let s : lts.Start tie.the-claims reads.Pre reads.Post tie.handed_clauses = search in
-    let a = s.args in
-    acceptance_answer c.judge_edit-judged.result ≡ judge (facts_at a.sources.now a.targets.now a.m a.n a.size a.i) []
-judged c =
-    let s : lts.Start tie.the-claims reads.Pre reads.Post tie.handed_clauses = search in
-    let p = s.pre in
-    c.judge_edit-judged.ensures
-    ∙ ap (λ (rs : List Row). judge rs [])
-    (facts_are _ _ _ _ p.0.1 _ p.0.2 _ p.0.3 _ _ _ p.1.1 p.1.0.3 (wide s) _ _ _ c.find_edit.ensures)
+fit : {S T : List ℕ} {m N n i : ℕ} {links copies degrees : List ℕ} {edges : ℕ} → Pairs S T N n → m ≤ N → Linked S T m N links → m + i < N
+    → Tallied S T m N i copies degrees edges → N < length copies → n ≤ length degrees → Fit S T m N n i links copies degrees edges
+fit {S} {T} {m} {N} {n} {i} {links} {copies} {degrees} pairs le linked below tally long high =
+    let source = pairs.source (m + i) below in
+    let wide : get_or S (m + i) 0 < length degrees = omega (arith, source, high) in
+    let few = counts_few _ _ _ _ le _ linked _ below _ _ _ tally long wide in
+    record {
+      source = source;
+      target = pairs.target (m + i) below;
+      wide = wide;
+      copies_few = few.0;
+      edges_few = few.1;
+      next_few = link_high _ _ _ _ le _ linked _ below _ _ _ tally long wide;
+    }
 
 pub overflow_cast-k : goal.overflow_cast-k
-overflow_cast-k c = omega (arith, few c.before.before.before.before.before.before.before, c.requires.n_le_vertex_limit)
+overflow_cast-k c =
+    let p = c.requires.pairs in
+    let q = c.requires.n_le_vertex_limit in
+    omega (arith, fit p.0 p.1 p.2 p.3 c.requires.tallied q.3 q.4, q)
 
 pub overflow_cast-s : goal.overflow_cast-s
-overflow_cast-s c = omega (arith, source c.before.before.before.before.before.before.before.before, c.requires.n_le_vertex_limit)
+overflow_cast-s c = omega (arith, c.requires.pairs.0.source _ c.requires.pairs.3, c.requires.n_le_vertex_limit)
 
 pub overflow_cast-t : goal.overflow_cast-t
-overflow_cast-t c = omega (arith, target c.before.before.before.before.before.before.before.before.before, c.requires.n_le_vertex_limit)
+overflow_cast-t c = omega (arith, c.requires.pairs.0.target _ c.requires.pairs.3, c.requires.n_le_vertex_limit)
 
 pub offset_bounds-degrees-s : goal.offset_bounds-degrees-s
-offset_bounds-degrees-s c = omega (arith, source c.before.before.before.before.before.before.before.before.before, c.requires.n_le_vertex_limit)
+offset_bounds-degrees-s c = omega (arith, c.requires.pairs.0.source _ c.requires.pairs.3, c.requires.n_le_vertex_limit)
 
 pub bounds-degrees-s : goal.bounds-degrees-s
-bounds-degrees-s c = wide c.before.before.before.before.before.before.before.before.before.before
+bounds-degrees-s c = omega (arith, c.requires.pairs.0.source _ c.requires.pairs.3, c.requires.n_le_vertex_limit)
 
 pub overflow_cast-degree : goal.overflow_cast-degree
-overflow_cast-degree c = omega (arith, few c.before.before.before.before.before.before.before.before.before.before, c.requires.n_le_vertex_limit)
+overflow_cast-degree c =
+    let p = c.requires.pairs in
+    let q = c.requires.n_le_vertex_limit in
+    omega (arith, fit p.0 p.1 p.2 p.3 c.requires.tallied q.3 q.4, q)
 
 pub returns-in-Refused : goal.returns-in-Refused
-returns-in-Refused c = (ap acceptance_answer (sym c.judged-1.given.1) ∙ judged c.before.before.before.before, refl, refl)
+returns-in-Refused c =
+    let p = c.requires.pairs in
+    let q = c.requires.n_le_vertex_limit in
+    let f = fit p.0 p.1 p.2 p.3 c.requires.tallied q.3 q.4 in
+    let facts = facts_are _ _ _ _ p.1 _ p.2 _ p.3 _ _ _ c.requires.tallied q.3 f.wide _ _ _ c.find_edit.ensures in
+    (rw c.in-Refused.is at c.judge_edit-judged.ensures ∙ ap (λ (rs : List Row). judge rs []) facts, refl, refl)
 
 pub overflow_cast-next : goal.overflow_cast-next
-overflow_cast-next c = omega (arith, next_few c.before.before.before.before.before.before.before.before.before.before.before.before.before.before.before, c.requires.pairs.0.few)
+overflow_cast-next c =
+    let p = c.requires.pairs in
+    let q = c.requires.n_le_vertex_limit in
+    omega (arith, fit p.0 p.1 p.2 p.3 c.requires.tallied q.3 q.4, p.0.few)
 
 pub offset_bounds-copies-next : goal.offset_bounds-copies-next
-offset_bounds-copies-next c = omega (arith, next_few c.before.before.before.before.before.before.before.before.before.before.before.before.before.before.before.before, c.requires.pairs.0.few)
+offset_bounds-copies-next c =
+    let p = c.requires.pairs in
+    let q = c.requires.n_le_vertex_limit in
+    omega (arith, fit p.0 p.1 p.2 p.3 c.requires.tallied q.3 q.4, p.0.few)
 
 pub bounds-copies-next : goal.bounds-copies-next
-bounds-copies-next c = omega (arith, next_few c.before.before.before.before.before.before.before.before.before.before.before.before.before.before.before.before, c.requires.n_le_vertex_limit.3)
+bounds-copies-next c =
+    let p = c.requires.pairs in
+    let q = c.requires.n_le_vertex_limit in
+    omega (arith, fit p.0 p.1 p.2 p.3 c.requires.tallied q.3 q.4, q)
 
 pub step-requires : goal.step-requires
-step-requires c = ((few c.before.before.before.before.before.before.before.before.before.before.before.before.before.before.before).0, omega (arith, few c.before.before.before.before.before.before.before.before.before.before.before.before.before.before.before, c.requires.n_le_vertex_limit))
+step-requires c =
+    let p = c.requires.pairs in
+    let q = c.requires.n_le_vertex_limit in
+    let f = fit p.0 p.1 p.2 p.3 c.requires.tallied q.3 q.4 in
+    (f.copies_few, omega (arith, f, q))
 
 pub overflow_cast-degrees : goal.overflow_cast-degrees
-overflow_cast-degrees c = let a = c.args in
+overflow_cast-degrees c =
+    let a = c.args in
+    let p = c.requires.pairs in
+    let q = c.requires.n_le_vertex_limit in
     let y = a.m + a.i in
     let le = stepped_le (get_or a.degrees.now (get_or a.sources.now y 0) 0) (get_or a.copies.now y 0) in
-    omega (arith, c.step.ensures, le, few c.before.before.before.before.before.before.before.before.before.before.before.before.before.before.before.before.before, c.requires.n_le_vertex_limit)
+    omega (arith, c.step.ensures, le, fit p.0 p.1 p.2 p.3 c.requires.tallied q.3 q.4, q)
 
 pub offset_bounds-degrees-s-2 : goal.offset_bounds-degrees-s-2
-offset_bounds-degrees-s-2 c = omega (arith, source c.before.before.before.before.before.before.before.before.before.before.before.before.before.before.before.before.before, c.requires.n_le_vertex_limit)
+offset_bounds-degrees-s-2 c = omega (arith, c.requires.pairs.0.source _ c.requires.pairs.3, c.requires.n_le_vertex_limit)
 
 pub bounds-degrees-s-2 : goal.bounds-degrees-s-2
-bounds-degrees-s-2 c = wide c.before.before.before.before.before.before.before.before.before.before.before.before.before.before.before.before.before
+bounds-degrees-s-2 c = omega (arith, c.requires.pairs.0.source _ c.requires.pairs.3, c.requires.n_le_vertex_limit)
 
 pub step-requires-2 : goal.step-requires-2
-step-requires-2 c = (omega (arith, few c.before.before.before.before.before.before.before.before.before.before.before.before.before.before.before.before), c.requires.n_le_vertex_limit.1)
+step-requires-2 c =
+    let p = c.requires.pairs in
+    let q = c.requires.n_le_vertex_limit in
+    (omega (arith, fit p.0 p.1 p.2 p.3 c.requires.tallied q.3 q.4), q.1)
 
 pub returns : goal.returns
-returns c = let p = c.requires in (
-      (judge_accepted _ [] [] (sym (ap acceptance_answer (sym c.enum_told-1.given.1) ∙ judged c.before.before.before.before.before.before.before))).0,
+returns c =
+    let p = c.requires.pairs in
+    let q = c.requires.n_le_vertex_limit in
+    let f = fit p.0 p.1 p.2 p.3 c.requires.tallied q.3 q.4 in
+    let facts = facts_are _ _ _ _ p.1 _ p.2 _ p.3 _ _ _ c.requires.tallied q.3 f.wide _ _ _ c.find_edit.ensures in (
+      (judge_accepted _ [] [] (sym (rw c.in_default.is at c.judge_edit-judged.ensures ∙ ap (λ (rs : List Row). judge rs []) facts))).0,
       rw (c.flip.ensures, c.step.ensures, c.step-2.ensures)
-          (tallied_more _ _ _ _ p.0.1 _ p.0.2 _ p.0.3 _ _ _ p.1.1 p.1.0.3 (wide c.before.before.before.before.before.before.before.before.before.before.before.before.before.before.before.before.before.before)),
+          (tallied_more _ _ _ _ p.1 _ p.2 _ p.3 _ _ _ c.requires.tallied q.3 f.wide),
     )

@@ -1,64 +1,45 @@
 -- Invariant: the first is the first from i on.
-use mathlib.Core.Path.{◌≡◌, refl, sym, ◌∙◌}
-use Prim.Native.Nat.{◌+◌, ◌-◌, ◌*◌, ◌≤◌}
+use mathlib.Core.Path.{refl, sym, ◌∙◌}
 use native.Mathlib.Omega.{arith}
-use lib.ListN.{length, get_or}
 use borrow.Author.Tests.{le-leb, lt-leb}
 use Rattle.theory.proofs.Logic.BoolsLaws.{or_left, or_right, or_fails}
-use Rattle.theory.specs.Logic.Range.{first}
 use Rattle.theory.proofs.Logic.RangeLaws.{first_step, first_hit, first_end_lem}
-use Rattle.edit_trace.specs.Trace.{entry_count}
 use Rattle.edit_trace.proofs.TraceLaws.{trace_length, trace_few}
-use Rattle.edit_run.specs.Gathered.{outside}
 use Rattle.std.proofs.Common.{rules}
 use Rattle.edit_run.proofs.find_outside.Goals as goal
-use Rattle.edit_run.proofs.find_outside.Lts as lts
-use Rattle.edit_run.proofs.find_outside.Reads as reads
-
-size : (s : lts.Start reads.Pre reads.Post goal.the-invariant-loop-i goal.the-decreases-loop-i) → length s.args.trace.now ≡ 1 + 2 * entry_count s.args.trace.now
-size s = trace_length s.args.trace.now s.requires
-
-few : (s : lts.Start reads.Pre reads.Post goal.the-invariant-loop-i goal.the-decreases-loop-i) → entry_count s.args.trace.now ≤ 4096
-few s = trace_few s.args.trace.now s.requires
 
 pub bounds-trace-0 : goal.bounds-trace-0
-bounds-trace-0 c = omega (arith, size c.before.before)
+bounds-trace-0 c = omega (arith, trace_length c.args.trace.now c.requires)
 
 pub overflow_cast-count : goal.overflow_cast-count
-overflow_cast-count c = omega (arith, few c.before.before)
+overflow_cast-count c = omega (arith, trace_few c.args.trace.now c.requires)
 
 pub loop-i-init : goal.loop-i-init
 loop-i-init c = (search rules, refl)
 
 pub overflow_add-i : goal.overflow_add-i
-overflow_add-i c = omega (arith, few c.before.before.before.before, c.if-count-i.false)
+overflow_add-i c = omega (arith, trace_few c.args.trace.now c.requires, c.if-count-i.false)
 
 pub offset_bounds-trace-i : goal.offset_bounds-trace-i
-offset_bounds-trace-i c = omega (arith, few c.before.before.before.before, c.if-count-i.false)
+offset_bounds-trace-i c = omega (arith, trace_few c.args.trace.now c.requires, c.if-count-i.false)
 
 pub bounds-trace-i : goal.bounds-trace-i
-bounds-trace-i c = omega (arith, size c.before.before.before.before.before, c.if-count-i.false)
-
-pub overflow_cast-trace : goal.overflow_cast-trace
-overflow_cast-trace c = omega (arith, c.shared_slice_known-in-loop-i-1.given (1 + c.loop-i.i))
+bounds-trace-i c = omega (arith, trace_length c.args.trace.now c.requires, c.if-count-i.false)
 
 pub overflow_add-count : goal.overflow_add-count
-overflow_add-count c = omega (arith, few c.before.before.before.before.before.before)
+overflow_add-count c = omega (arith, trace_few c.args.trace.now c.requires)
 
 pub overflow_add-count-in-loop-i : goal.overflow_add-count-in-loop-i
-overflow_add-count-in-loop-i c = omega (arith, few c.before.before.before.before.before.before, c.if-count-i.false)
+overflow_add-count-in-loop-i c = omega (arith, trace_few c.args.trace.now c.requires, c.if-count-i.false)
 
 pub offset_bounds-trace-count : goal.offset_bounds-trace-count
-offset_bounds-trace-count c = omega (arith, few c.before.before.before.before.before.before, c.if-count-i.false)
+offset_bounds-trace-count c = omega (arith, trace_few c.args.trace.now c.requires, c.if-count-i.false)
 
 pub bounds-trace-count : goal.bounds-trace-count
-bounds-trace-count c = omega (arith, size c.before.before.before.before.before.before.before, c.if-count-i.false)
-
-pub overflow_cast-trace-in-loop-i : goal.overflow_cast-trace-in-loop-i
-overflow_cast-trace-in-loop-i c = omega (arith, c.shared_slice_known-in-loop-i-2-1.given (1 + get_or c.args.trace.now 0 0 + c.loop-i.i))
+bounds-trace-count c = omega (arith, trace_length c.args.trace.now c.requires, c.if-count-i.false)
 
 pub overflow_add-i-in-loop-i : goal.overflow_add-i-in-loop-i
-overflow_add-i-in-loop-i c = omega (arith, few c.before.before.before.before.before.before.before.before, c.if-count-i.false)
+overflow_add-i-in-loop-i c = omega (arith, trace_few c.args.trace.now c.requires, c.if-count-i.false)
 
 pub loop-i-smaller : goal.loop-i-smaller
 loop-i-smaller c = omega (arith, c.if-count-i.false)

@@ -1,13 +1,6 @@
-use mathlib.Core.Path.{◌≡◌, refl, sym, ◌∙◌}
-use Prim.Native.Nat.{◌+◌, ◌-◌, ◌*◌, ◌≤◌}
-use native.Mathlib.Omega.{arith}
-use lib.ListN.{length, get_or}
-use borrow.Author.Tests.{le-leb, lt-leb}
-use Rattle.theory.proofs.Logic.BoolsLaws.{or_left, or_right, or_fails}
+use mathlib.Core.Path.{◌≡◌}
+use Prim.Native.Nat.{◌-◌, ◌≤◌}
 use Rattle.theory.specs.Logic.Range.{first}
-use Rattle.theory.proofs.Logic.RangeLaws.{first_step, first_hit, first_end_lem}
-use Rattle.edit_trace.specs.Trace.{entry_count}
-use Rattle.edit_trace.proofs.TraceLaws.{trace_length, trace_few}
 use Rattle.edit_run.specs.Gathered.{outside}
 use Rattle.edit_run.proofs.find_outside.Given as goal
 

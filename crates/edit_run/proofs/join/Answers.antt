@@ -1,5 +1,4 @@
 -- One behind the other.
-use native.Mathlib.Omega.{arith}
 use Rattle.edit_run.specs.GatheredLaws.{joined}
 use Rattle.edit_run.proofs.join.Goals as goal
 

@@ -1,12 +1,8 @@
-use mathlib.Core.Path.{◌≡◌, refl, sym, ap, ◌∙◌}
-use mathlib.Core.List.{List, [], ◌∷◌}
-use Prim.Native.Nat.{◌+◌, ◌-◌, ◌≤◌, ◌<◌}
-use native.Mathlib.Omega.{arith}
-use lib.ListN.{length, get_or}
+use mathlib.Core.Path.{◌≡◌}
+use Prim.Native.Nat.{◌-◌, ◌≤◌}
+use lib.ListN.{length}
 use Rattle.table.specs.Listing.{Appended}
-use Rattle.table.specs.ListingLaws.{appended_join}
 use Rattle.edit_run.specs.Turned.{kept_pairs}
-use Rattle.edit_run.specs.KeptLaws.{kept_start, kept_few, kept_more}
 use Rattle.edit_run.proofs.keep_pairs.Given as goal
 
 abbrev pub invariant-loop-x : goal.invariant-loop-x

@@ -12,7 +12,7 @@ pub overflow_cast-count : goal.overflow_cast-count
 overflow_cast-count c = omega (arith, trace_few c.args.trace.now c.requires.1)
 
 pub run_first-requires : goal.run_first-requires
-run_first-requires c = record { formed = c.requires; k_value = (c.find_outside-k.ensures, sym (lt-ltb _ _ c.if-k-count.true)); }
+run_first-requires c = record { formed = c.requires; k_value = (c.find_outside-k.ensures, sym (lt-ltb _ _ c.if-k-count.true)) }
 
 pub run_first-requires-2 : goal.run_first-requires-2
-run_first-requires-2 c = record { formed = c.requires; k_value = (c.find_outside-k.ensures, sym (le-ltb _ _ c.if-k-count.false)); }
+run_first-requires-2 c = record { formed = c.requires; k_value = (c.find_outside-k.ensures, sym (le-ltb _ _ c.if-k-count.false)) }

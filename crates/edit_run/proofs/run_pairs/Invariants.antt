@@ -1,8 +1,7 @@
-use mathlib.Core.Path.{◌≡◌, refl}
-use Prim.Native.Nat.{◌+◌, ◌-◌, ◌≤◌, ◌<◌}
-use native.Mathlib.Omega.{arith}
+use mathlib.Core.Path.{◌≡◌}
+use Prim.Native.Nat.{◌-◌}
 use lib.ListN.{length}
-use Rattle.edit_run.specs.EnterLaws.{Going, going_start, going_next, going_end, going_stop}
+use Rattle.edit_run.specs.EnterLaws.{Going}
 use Rattle.edit_run.proofs.run_pairs.Given as goal
 
 abbrev pub invariant-loop-done : goal.invariant-loop-done
