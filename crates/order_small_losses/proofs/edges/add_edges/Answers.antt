@@ -1,13 +1,11 @@
 -- The first j edges are in the words, both ways. Their ends are below 64, so the words of successors and of predecessors do not overlap.
 use mathlib.Core.Path.{◌≡◌, refl}
-use Prim.Native.Nat.{◌+◌, ◌-◌, ◌≤◌, ◌<◌}
+use Prim.Native.Nat.{◌+◌, ◌<◌}
 use native.Mathlib.Omega.{arith}
 use lib.ListN.{length}
 use Rattle.table.specs.Table.{table_edges, source_at, target_at}
 use Rattle.words.specs.Word.{word_bits}
-use Rattle.order_sets.specs.Losses.{EdgesIn}
 use Rattle.order_sets.specs.EdgesLaws.{edges_start, edges_next}
-use Rattle.order_small_losses.specs.Words.{bit}
 use Rattle.order_small_losses.specs.EdgeWordsLaws.{word_added}
 use Rattle.std.proofs.Common.{rules}
 use Rattle.order_small_losses.proofs.edges.add_edges.Goals as goal

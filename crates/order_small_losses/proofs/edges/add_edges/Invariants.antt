@@ -1,13 +1,9 @@
-use mathlib.Core.Path.{◌≡◌, refl}
-use Prim.Native.Nat.{◌+◌, ◌-◌, ◌≤◌, ◌<◌}
-use native.Mathlib.Omega.{arith}
+use mathlib.Core.Path.{◌≡◌}
+use Prim.Native.Nat.{◌-◌, ◌≤◌}
 use lib.ListN.{length}
-use Rattle.table.specs.Table.{table_edges, source_at, target_at}
 use Rattle.words.specs.Word.{word_bits}
 use Rattle.order_sets.specs.Losses.{EdgesIn}
-use Rattle.order_sets.specs.EdgesLaws.{edges_start, edges_next}
 use Rattle.order_small_losses.specs.Words.{bit}
-use Rattle.order_small_losses.specs.EdgeWordsLaws.{word_added}
 use Rattle.order_small_losses.proofs.edges.add_edges.Given as goal
 
 abbrev pub invariant-loop-j : goal.invariant-loop-j

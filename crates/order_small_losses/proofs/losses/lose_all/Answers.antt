@@ -3,13 +3,10 @@ use mathlib.Core.Path.{◌≡◌, refl, ap}
 use Prim.Native.Nat.{ℕ, ◌+◌, ◌<◌}
 use native.Mathlib.Nat.{zero-add}
 use native.Mathlib.Omega.{arith}
-use lib.ListN.{length}
 use Rattle.words.specs.Word.{word_bits, digit, lowest_bit}
 use Rattle.words.specs.WordLaws.{digit_zero}
-use Rattle.words.specs.LeftLaws.{Onward, onward_start, onward_here, onward_next, lowest_none}
-use Rattle.order_sets.specs.Losses.{GameLosses}
+use Rattle.words.specs.LeftLaws.{onward_start, onward_here, onward_next, lowest_none}
 use Rattle.order_sets.specs.LossesLaws.{losses_start, losses_step, word_start, word_next}
-use Rattle.order_small_losses.specs.Words.{bit}
 use Rattle.order_small_losses.specs.EdgeWordsLaws.{word_put}
 use Rattle.std.proofs.Common.{rules}
 use Rattle.order_small_losses.proofs.losses.lose_all.Goals as goal

@@ -6,8 +6,8 @@ use Rattle.theory.specs.Logic.Bools.{◌&◌, ◌or◌}
 use Rattle.theory.proofs.Logic.RangeLaws.{any_ext}
 use Rattle.words.specs.Word.{word_bits, digit}
 use Rattle.words.specs.WordLaws.{digit_zero, digit_and}
-use Rattle.words.specs.LeftLaws.{Left, left_start, left_next, picked, picked_start, picked_next, picked_end}
-use Rattle.order_sets.specs.Sets.{Is, apart_in}
+use Rattle.words.specs.LeftLaws.{left_start, left_next, picked_start, picked_next, picked_end}
+use Rattle.order_sets.specs.Sets.{apart_in}
 use Rattle.order_small_losses.specs.Words.{bit}
 use Rattle.order_small_losses.proofs.sets.apart_of.Goals as goal
 use Rattle.order_small_losses.proofs.sets.apart_of.Lts as lts

@@ -1,11 +1,5 @@
-use mathlib.Core.Path.{◌≡◌, sym, ap, ap₂, ◌∙◌}
-use mathlib.Core.Bool.{not}
-use lib.Dec.{eqb}
-use Rattle.theory.specs.Logic.Bools.{◌&◌, ◌or◌}
-use Rattle.theory.proofs.Logic.RangeLaws.{any_ext}
 use Rattle.words.specs.Word.{word_bits, digit}
-use Rattle.words.specs.WordLaws.{digit_zero, digit_and}
-use Rattle.words.specs.LeftLaws.{Left, left_start, left_next, picked, picked_start, picked_next, picked_end}
+use Rattle.words.specs.LeftLaws.{Left, picked}
 use Rattle.order_sets.specs.Sets.{Is, apart_in}
 use Rattle.order_small_losses.specs.Words.{bit}
 use Rattle.order_small_losses.proofs.sets.apart_of.Given as goal

@@ -7,7 +7,7 @@ use native.Mathlib.Nat.{zero-add}
 use Rattle.theory.specs.Logic.Bools.{◌&◌}
 use Rattle.words.specs.Word.{word_bits, digit}
 use Rattle.words.specs.WordLaws.{digit_zero}
-use Rattle.words.specs.LeftLaws.{Left, left_start, left_next, done, not_start, not_next, not_end, not_early}
+use Rattle.words.specs.LeftLaws.{left_start, left_next, done, not_start, not_next, not_end, not_early}
 use Rattle.order_sets.specs.Sets.{Is, united_in}
 use Rattle.order_small_losses.specs.Words.{bit}
 use Rattle.order_small_losses.proofs.sets.strip.Goals as goal

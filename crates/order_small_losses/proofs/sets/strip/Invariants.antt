@@ -1,12 +1,9 @@
-use mathlib.Core.Path.{◌≡◌, sym, ap, ap₂, ◌∙◌}
-use mathlib.Core.Bool.{not, false}
-use Prim.Native.Nat.{ℕ, ◌+◌}
-use native.Mathlib.Nat.{zero-add}
+use mathlib.Core.Bool.{not}
+use Prim.Native.Nat.{◌+◌}
 use Rattle.theory.specs.Logic.Bools.{◌&◌}
 use Rattle.words.specs.Word.{word_bits, digit}
-use Rattle.words.specs.WordLaws.{digit_zero}
-use Rattle.words.specs.LeftLaws.{Left, left_start, left_next, done, not_start, not_next, not_end, not_early}
-use Rattle.order_sets.specs.Sets.{Is, united_in}
+use Rattle.words.specs.LeftLaws.{Left, done}
+use Rattle.order_sets.specs.Sets.{Is}
 use Rattle.order_small_losses.specs.Words.{bit}
 use Rattle.order_small_losses.proofs.sets.strip.Given as goal
 

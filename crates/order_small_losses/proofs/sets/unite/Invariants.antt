@@ -1,11 +1,8 @@
-use mathlib.Core.Path.{ap, ◌∙◌}
 use Prim.Native.Nat.{◌+◌}
 use Rattle.theory.specs.Logic.Bools.{◌or◌}
-use Rattle.theory.proofs.Logic.BoolsLaws.{or_first}
 use Rattle.words.specs.Word.{word_bits, digit}
-use Rattle.words.specs.WordLaws.{digit_zero, digit_or}
-use Rattle.words.specs.LeftLaws.{Left, left_start, left_next, done, or_start, or_next, or_end}
-use Rattle.order_sets.specs.Sets.{Is, united_in}
+use Rattle.words.specs.LeftLaws.{Left, done}
+use Rattle.order_sets.specs.Sets.{Is}
 use Rattle.order_small_losses.specs.Words.{bit}
 use Rattle.order_small_losses.proofs.sets.unite.Given as goal
 
