@@ -1,12 +1,5 @@
 -- Each way out is a row of the call's table of refusals, or what the relation and its classes leave.
-use mathlib.Core.Path.{◌≡◌, sym, ap, ◌∙◌}
-use mathlib.Core.List.{[]}
 use native.Mathlib.Omega.{arith}
-use lib.ListN.{length}
-use Rattle.table.specs.Answers.{judge}
-use Rattle.table.specs.Table.{vertex_count}
-use Rattle.classes.specs.ClassesCall.{memory_rows, memory_answer}
-use Rattle.classes.specs.ClassesRules.{ClassesFit}
 use Rattle.classes.specs.ClassesCallLaws.{memory_fits, classes_short, classes_done}
 use Rattle.classes.proofs.write_numbered.Goals as goal
 

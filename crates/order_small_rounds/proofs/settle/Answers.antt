@@ -1,16 +1,14 @@
 -- The rows are the relation after pass `passes` and what that pass took out. A round that takes a pair out is the next pass;
 -- there are at most as many such passes as pairs, which gives the measure. A round that takes nothing out is the last pass.
-use mathlib.Core.Path.{◌≡◌, refl, ◌∙◌}
-use Prim.Native.Nat.{◌+◌, ◌-◌, ◌≤◌}
+use mathlib.Core.Path.{refl, ◌∙◌}
+use Prim.Native.Nat.{◌+◌, ◌≤◌}
 use native.Mathlib.Nat.{mul-le-mul}
 use native.Mathlib.Omega.{arith}
-use lib.ListN.{length}
 use Rattle.theory.specs.Order.Rows.{AfterRound}
 use Rattle.table.specs.Limits.{pair_limit}
 use Rattle.table.specs.Table.{pair_count, game_of}
 use Rattle.words.specs.Word.{word_bits, digit}
 use Rattle.order_sets.specs.Sets.{struck}
-use Rattle.order_sets.specs.Losses.{FellIn}
 use Rattle.order_sets.specs.Rounds.{RoundIn}
 use Rattle.order_sets.specs.RoundsLaws.{after_more, after_last}
 use Rattle.order_small_losses.specs.Words.{bit}

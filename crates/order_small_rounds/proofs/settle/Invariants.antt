@@ -1,16 +1,11 @@
-use mathlib.Core.Path.{◌≡◌, refl, ◌∙◌}
-use Prim.Native.Nat.{◌+◌, ◌-◌, ◌≤◌}
-use native.Mathlib.Nat.{mul-le-mul}
-use native.Mathlib.Omega.{arith}
+use mathlib.Core.Path.{◌≡◌}
+use Prim.Native.Nat.{◌-◌}
 use lib.ListN.{length}
 use Rattle.theory.specs.Order.Rows.{AfterRound}
-use Rattle.table.specs.Limits.{pair_limit}
 use Rattle.table.specs.Table.{pair_count, game_of}
 use Rattle.words.specs.Word.{word_bits, digit}
 use Rattle.order_sets.specs.Sets.{struck}
 use Rattle.order_sets.specs.Losses.{FellIn}
-use Rattle.order_sets.specs.Rounds.{RoundIn}
-use Rattle.order_sets.specs.RoundsLaws.{after_more, after_last}
 use Rattle.order_small_losses.specs.Words.{bit}
 use Rattle.order_small_rounds.proofs.settle.Given as goal
 

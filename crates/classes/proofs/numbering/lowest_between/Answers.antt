@@ -3,11 +3,10 @@ use mathlib.Core.Path.{sym, ◌∙◌}
 use Prim.Native.Nat.{◌+◌, ◌*◌, ◌<◌, ◌≤◌}
 use native.Mathlib.Omega.{arith}
 use native.Mathlib.Nat.{mul-le-mul}
-use Rattle.words.specs.Word.{lowest_bit}
-use Rattle.words.specs.LeftLaws.{Onward, onward_start, onward_next}
+use Rattle.words.specs.LeftLaws.{onward_start, onward_next}
 use Rattle.table.specs.Limits.{pair_limit}
 use Rattle.marks.specs.MarkWritingLaws.{row_inside}
-use Rattle.classes.specs.MemberSearchLaws.{NoneBefore, none_start, bit_inside, first_here, none_next, first_past}
+use Rattle.classes.specs.MemberSearchLaws.{none_start, bit_inside, first_here, none_next, first_past}
 use Rattle.classes.proofs.numbering.lowest_between.Goals as goal
 use Rattle.classes.proofs.numbering.lowest_between.Lts as lts
 use Rattle.classes.proofs.numbering.lowest_between.Reads as reads

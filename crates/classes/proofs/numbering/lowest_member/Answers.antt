@@ -1,11 +1,9 @@
 -- Invariant: the search from w on finds what the whole search finds.
 use mathlib.Core.Path.{◌≡◌, refl, sym, ◌∙◌}
-use Prim.Native.Nat.{◌-◌, ◌<◌, ◌≤◌}
+use Prim.Native.Nat.{◌<◌, ◌≤◌}
 use native.Mathlib.Omega.{arith}
 use Rattle.theory.proofs.Logic.RangeLaws.{first_end_lem}
-use Rattle.theory.specs.Logic.Range.{first}
-use Rattle.theory.specs.Classes.Reduction.{same_class, lowest}
-use Rattle.marks.specs.Marks.{relation}
+use Rattle.theory.specs.Classes.Reduction.{lowest}
 use Rattle.classes.specs.MemberSearchLaws.{first_part, first_rest}
 use Rattle.std.proofs.Common.{rules}
 use Rattle.classes.proofs.numbering.lowest_member.Goals as goal

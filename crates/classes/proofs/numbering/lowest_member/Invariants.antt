@@ -1,11 +1,8 @@
-use mathlib.Core.Path.{◌≡◌, refl, sym, ◌∙◌}
-use Prim.Native.Nat.{◌-◌, ◌<◌, ◌≤◌}
-use native.Mathlib.Omega.{arith}
-use Rattle.theory.proofs.Logic.RangeLaws.{first_end_lem}
+use mathlib.Core.Path.{◌≡◌}
+use Prim.Native.Nat.{◌-◌, ◌≤◌}
 use Rattle.theory.specs.Logic.Range.{first}
 use Rattle.theory.specs.Classes.Reduction.{same_class, lowest}
 use Rattle.marks.specs.Marks.{relation}
-use Rattle.classes.specs.MemberSearchLaws.{first_part, first_rest}
 use Rattle.classes.proofs.numbering.lowest_member.Given as goal
 
 abbrev pub invariant-loop-w : goal.invariant-loop-w

@@ -1,14 +1,8 @@
 -- Invariant: the vertices below v have their class numbers, and the k classes among them their lowest members.
 use mathlib.Core.Path.{◌≡◌, ap, ◌∙◌}
-use Prim.Native.Nat.{◌-◌, ◌≤◌}
 use native.Mathlib.Omega.{arith}
 use lib.ListN.{length, length-set}
-use Rattle.theory.specs.Logic.Range.{tabulate}
-use Rattle.theory.specs.Classes.Reduction.{class_number}
-use Rattle.table.specs.Answers.{written}
 use Rattle.table.specs.AnswersLaws.{written_start, written_more}
-use Rattle.marks.specs.Marks.{relation}
-use Rattle.classes.specs.Numbering.{Numbered}
 use Rattle.classes.specs.NumberingLaws.{numbered_start}
 use Rattle.std.proofs.Common.{rules}
 use Rattle.classes.proofs.numbering.number_classes.Goals as goal

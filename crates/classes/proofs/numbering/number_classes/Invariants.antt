@@ -1,14 +1,11 @@
-use mathlib.Core.Path.{◌≡◌, ap, ◌∙◌}
+use mathlib.Core.Path.{◌≡◌}
 use Prim.Native.Nat.{◌-◌, ◌≤◌}
-use native.Mathlib.Omega.{arith}
-use lib.ListN.{length, length-set}
+use lib.ListN.{length}
 use Rattle.theory.specs.Logic.Range.{tabulate}
 use Rattle.theory.specs.Classes.Reduction.{class_number}
 use Rattle.table.specs.Answers.{written}
-use Rattle.table.specs.AnswersLaws.{written_start, written_more}
 use Rattle.marks.specs.Marks.{relation}
 use Rattle.classes.specs.Numbering.{Numbered}
-use Rattle.classes.specs.NumberingLaws.{numbered_start}
 use Rattle.classes.proofs.numbering.number_classes.Given as goal
 
 abbrev pub invariant-loop-v : goal.invariant-loop-v

@@ -1,9 +1,6 @@
 -- Invariants: the search from (v, 0), and from (v, w), on finds what the whole search finds.
 use native.Mathlib.Omega.{arith}
-use mathlib.Core.Path.{◌≡◌, sym, ◌∙◌}
-use Prim.Native.Nat.{◌-◌, ◌≤◌}
-use Rattle.order_acceptor.specs.RelationCall.{pair_by, first_failing}
-use Rattle.order_acceptor.specs.RowSearch.{failing_from}
+use mathlib.Core.Path.{sym, ◌∙◌}
 use Rattle.order_acceptor.specs.RowSearchLaws.{failing_start, failing_step, failing_hit, failing_row, failing_end}
 use Rattle.std.proofs.Common.{rules}
 use Rattle.order_acceptor.proofs.failing.first_failing.Goals as goal

@@ -1,9 +1,7 @@
-use native.Mathlib.Omega.{arith}
-use mathlib.Core.Path.{◌≡◌, sym, ◌∙◌}
+use mathlib.Core.Path.{◌≡◌}
 use Prim.Native.Nat.{◌-◌, ◌≤◌}
 use Rattle.order_acceptor.specs.RelationCall.{pair_by, first_failing}
 use Rattle.order_acceptor.specs.RowSearch.{failing_from}
-use Rattle.order_acceptor.specs.RowSearchLaws.{failing_start, failing_step, failing_hit, failing_row, failing_end}
 use Rattle.order_acceptor.proofs.failing.first_failing.Given as goal
 
 abbrev pub invariant-loop-w : goal.invariant-loop-w

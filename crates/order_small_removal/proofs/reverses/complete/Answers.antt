@@ -1,14 +1,13 @@
 -- The reverses of the losses in the words before v are losses too. A loss that word v gained meanwhile is the reverse of one at the start,
 -- so its own reverse is a loss already.
-use mathlib.Core.Path.{◌≡◌, refl, ap, ◌∙◌}
+use mathlib.Core.Path.{refl, ap, ◌∙◌}
 use mathlib.Core.Bool.{not}
-use Prim.Native.Nat.{◌+◌, ◌-◌}
+use Prim.Native.Nat.{◌+◌}
 use native.Mathlib.Omega.{arith}
-use lib.ListN.{length}
 use Rattle.theory.proofs.Logic.RangeLaws.{first_ge}
 use Rattle.words.specs.Word.{word_bits, digit}
-use Rattle.order_sets.specs.MembersLaws.{Reached, reached_start, reached_next}
-use Rattle.order_sets.specs.ReversesLaws.{MirrorTo, mirror_start, mirror_next, mirror_end, mirror_none}
+use Rattle.order_sets.specs.MembersLaws.{reached_start, reached_next}
+use Rattle.order_sets.specs.ReversesLaws.{mirror_start, mirror_next, mirror_end, mirror_none}
 use Rattle.order_small_losses.specs.Words.{bit}
 use Rattle.order_small_removal.proofs.reverses.complete.Goals as goal
 

@@ -1,11 +1,9 @@
-use mathlib.Core.Path.{◌≡◌, refl, ◌∙◌}
-use Prim.Native.Nat.{◌+◌, ◌-◌}
-use native.Mathlib.Omega.{arith}
+use mathlib.Core.Path.{◌≡◌}
+use Prim.Native.Nat.{◌-◌}
 use lib.ListN.{length}
-use Rattle.theory.proofs.Logic.RangeLaws.{first_ge}
 use Rattle.words.specs.Word.{word_bits, digit}
-use Rattle.order_sets.specs.MembersLaws.{Reached, reached_start, reached_next}
-use Rattle.order_sets.specs.ReversesLaws.{MirrorTo, mirror_start, mirror_next, mirror_end, mirror_none}
+use Rattle.order_sets.specs.MembersLaws.{Reached}
+use Rattle.order_sets.specs.ReversesLaws.{MirrorTo}
 use Rattle.order_small_losses.specs.Words.{bit}
 use Rattle.order_small_removal.proofs.reverses.complete.Given as goal
 

@@ -1,11 +1,9 @@
-use mathlib.Core.Path.{◌≡◌, refl, ◌∙◌}
-use native.Mathlib.Omega.{arith}
+use mathlib.Core.Path.{◌≡◌}
 use lib.ListN.{length}
 use Rattle.words.specs.Word.{word_bits, digit}
-use Rattle.words.specs.LeftLaws.{Left, left_start, left_next}
-use Rattle.order_sets.specs.ReversesLaws.{WordTo, word_start, word_next, word_end}
+use Rattle.words.specs.LeftLaws.{Left}
+use Rattle.order_sets.specs.ReversesLaws.{WordTo}
 use Rattle.order_small_losses.specs.Words.{bit}
-use Rattle.order_small_removal.specs.ColumnWordLaws.{pair_base, column_word}
 use Rattle.order_small_removal.proofs.reverses.lose_column.Given as goal
 
 abbrev pub invariant-loop-left : goal.invariant-loop-left

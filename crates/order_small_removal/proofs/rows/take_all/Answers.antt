@@ -1,16 +1,14 @@
 -- The words of `losing` before a are taken out, and a is in `losing` or 64. There are at most 64 × 64 pairs, which fit 32 bits.
 use mathlib.Core.Path.{◌≡◌, refl, ◌∙◌}
-use Prim.Native.Nat.{◌+◌, ◌-◌}
+use Prim.Native.Nat.{◌+◌}
 use native.Mathlib.Omega.{arith}
-use lib.ListN.{length}
 use Rattle.theory.specs.Logic.Range.{count}
 use Rattle.theory.proofs.Logic.RangeLaws.{first_ge}
 use Rattle.theory.proofs.Logic.CountLaws.{count_le}
 use Rattle.theory.proofs.Logic.SumLaws.{sum_le}
 use Rattle.words.specs.Word.{word_bits, digit}
 use Rattle.order_sets.specs.Sets.{struck}
-use Rattle.order_sets.specs.MembersLaws.{Reached, reached_start, reached_next}
-use Rattle.order_sets.specs.Removal.{TakenIn}
+use Rattle.order_sets.specs.MembersLaws.{reached_start, reached_next}
 use Rattle.order_sets.specs.RemovalLaws.{taken_start, taken_next}
 use Rattle.order_small_losses.specs.Words.{bit}
 use Rattle.order_small_removal.proofs.rows.take_all.Goals as goal

@@ -1,16 +1,9 @@
-use mathlib.Core.Path.{◌≡◌, refl, ◌∙◌}
-use Prim.Native.Nat.{◌+◌, ◌-◌}
-use native.Mathlib.Omega.{arith}
+use mathlib.Core.Path.{◌≡◌}
+use Prim.Native.Nat.{◌-◌}
 use lib.ListN.{length}
-use Rattle.theory.specs.Logic.Range.{count}
-use Rattle.theory.proofs.Logic.RangeLaws.{first_ge}
-use Rattle.theory.proofs.Logic.CountLaws.{count_le}
-use Rattle.theory.proofs.Logic.SumLaws.{sum_le}
 use Rattle.words.specs.Word.{word_bits, digit}
-use Rattle.order_sets.specs.Sets.{struck}
-use Rattle.order_sets.specs.MembersLaws.{Reached, reached_start, reached_next}
+use Rattle.order_sets.specs.MembersLaws.{Reached}
 use Rattle.order_sets.specs.Removal.{TakenIn}
-use Rattle.order_sets.specs.RemovalLaws.{taken_start, taken_next}
 use Rattle.order_small_losses.specs.Words.{bit}
 use Rattle.order_small_removal.proofs.rows.take_all.Given as goal
 

@@ -1,14 +1,12 @@
 -- The rows before v are those of pass 0, and `changed` holds those that lost something.
 -- Each vertex has a successor, so under all pairs every pair passes, which the state after pass 0 asks.
 use mathlib.Core.Path.{◌≡◌, refl, ◌∙◌}
-use Prim.Native.Nat.{◌-◌, ◌<◌, ◌≤◌}
+use Prim.Native.Nat.{◌<◌}
 use native.Mathlib.Omega.{arith}
-use lib.ListN.{length}
 use Rattle.table.specs.Table.{vertex_count, game_of}
 use Rattle.table.specs.TableLaws.{game_total}
-use Rattle.words.specs.Word.{word_bits, digit}
+use Rattle.words.specs.Word.{word_bits}
 use Rattle.words.specs.WordLaws.{digit_zero}
-use Rattle.order_sets.specs.Rounds.{PartedIn, StartedIn}
 use Rattle.order_sets.specs.RoundsLaws.{all_row, parted_none, started_none, started_next, begun}
 use Rattle.order_small_losses.specs.Words.{bit}
 use Rattle.order_small_losses.specs.EdgeWordsLaws.{word_differs}

@@ -1,15 +1,10 @@
-use mathlib.Core.Path.{◌≡◌, refl, ◌∙◌}
-use Prim.Native.Nat.{◌-◌, ◌<◌, ◌≤◌}
-use native.Mathlib.Omega.{arith}
+use mathlib.Core.Path.{◌≡◌}
+use Prim.Native.Nat.{◌-◌, ◌≤◌}
 use lib.ListN.{length}
-use Rattle.table.specs.Table.{vertex_count, game_of}
-use Rattle.table.specs.TableLaws.{game_total}
+use Rattle.table.specs.Table.{game_of}
 use Rattle.words.specs.Word.{word_bits, digit}
-use Rattle.words.specs.WordLaws.{digit_zero}
 use Rattle.order_sets.specs.Rounds.{PartedIn, StartedIn}
-use Rattle.order_sets.specs.RoundsLaws.{all_row, parted_none, started_none, started_next, begun}
 use Rattle.order_small_losses.specs.Words.{bit}
-use Rattle.order_small_losses.specs.EdgeWordsLaws.{word_differs}
 use Rattle.order_small_rounds.proofs.start.begin.Given as goal
 
 abbrev pub invariant-loop-v : goal.invariant-loop-v
