@@ -4,26 +4,16 @@ use lib.ListN.{get_or}
 use Rattle.plan_blocks.specs.Blocks.{gone}
 use Rattle.plan_blocks.specs.RefiningLaws.{fits_gone, fits_unnumbered, fits_below, fits_links}
 use Rattle.plan_blocks.proofs.fits.Goals as goal
-use Rattle.plan_blocks.proofs.fits.Lts as lts
-use Rattle.plan_blocks.proofs.fits.Reads as reads
-use Rattle.plan_blocks.proofs.fits.Tie as tie
 
 pub returns-then-word_at : goal.returns-then-word_at
 returns-then-word_at c = sym (fits_gone _ _ _ _ _ _ _ (sym c.word_at.ensures ∙ c.if-word_at.true))
 
--- position u is in a block, and its number is one
-live : (c : lts.After-word_at2 tie.the-claims reads.Pre reads.Post) → let e = c.args in get_or e.blocks.now e.u 0 ≡ gone → ⊥
-live c e = c.if-word_at.false (c.word_at.ensures ∙ e)
-
-one : (c : lts.Else2 tie.the-claims reads.Pre reads.Post) → let e = c.args in get_or e.numbers.now e.u 0 ≡ gone → ⊥
-one c e = c.if-number.false (c.word_at-number.ensures ∙ e)
-
 pub returns-then-number : goal.returns-then-number
-returns-then-number c = sym (fits_unnumbered _ _ _ _ _ _ _ (live c.before.before) (sym c.word_at-number.ensures ∙ c.if-number.true))
+returns-then-number c = sym (fits_unnumbered _ _ _ _ _ _ _ (λ e. c.if-word_at.false (c.word_at.ensures ∙ e)) (sym c.word_at-number.ensures ∙ c.if-number.true))
 
 pub returns-then-word_at-2 : goal.returns-then-word_at-2
-returns-then-word_at-2 c = sym (fits_below _ _ _ _ _ _ _ (live c.before.before.before.before.before) (one c.before.before.before.before) (rw (c.word_at-2.ensures, c.word_at-3.ensures, c.word_at-number.ensures) at c.if-word_at-2.true))
+returns-then-word_at-2 c = sym (fits_below _ _ _ _ _ _ _ (λ e. c.if-word_at.false (c.word_at.ensures ∙ e)) (λ e. c.if-number.false (c.word_at-number.ensures ∙ e)) (rw (c.word_at-2.ensures, c.word_at-3.ensures, c.word_at-number.ensures) at c.if-word_at-2.true))
 
 pub returns : goal.returns
 returns c = rw (c.leads_to.ensures, c.word_at-number.ensures)
-    (sym (fits_links _ _ _ _ _ _ _ (live c.before.before.before.before.before.before) (one c.before.before.before.before.before) (rw (c.word_at-2.ensures, c.word_at-3.ensures, c.word_at-number.ensures) at c.if-word_at-2.false)))
+    (sym (fits_links _ _ _ _ _ _ _ (λ e. c.if-word_at.false (c.word_at.ensures ∙ e)) (λ e. c.if-number.false (c.word_at-number.ensures ∙ e)) (rw (c.word_at-2.ensures, c.word_at-3.ensures, c.word_at-number.ensures) at c.if-word_at-2.false)))

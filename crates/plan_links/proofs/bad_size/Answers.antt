@@ -9,12 +9,6 @@ pub returns-then-len-lt2 : goal.returns-then-len-lt2
 unfolding bad_size ◌or◌
 returns-then-len-lt2 c = rw (lt-ltb _ _ c.if-len-lt2.true)
 
-pub overflow_cast-p : goal.overflow_cast-p
-overflow_cast-p c = omega (arith, c.shared_slice_known-1.given 0)
-
-pub overflow_cast-l : goal.overflow_cast-l
-overflow_cast-l c = omega (arith, c.shared_slice_known-2-1.given 1)
-
 pub returns-then-p-eq0 : goal.returns-then-p-eq0
 unfolding bad_size ◌or◌
 returns-then-p-eq0 c = rw (le-ltb _ _ c.if-len-lt2.false, eq-eqb _ _ c.if-p-eq0.true)

@@ -9,14 +9,8 @@ use Rattle.theory.proofs.Logic.RangeLaws.{first_step, first_hit, first_end_lem}
 use Rattle.plan_links.specs.Refusals.{beyond, first_beyond}
 use Rattle.plan_links.proofs.first_beyond.Goals as goal
 
-pub overflow_cast-p : goal.overflow_cast-p
-overflow_cast-p c = omega (arith, c.shared_slice_known-2-1.given 0)
-
 pub limit-requires : goal.limit-requires
 limit-requires c = c.requires.positions
-
-pub overflow_cast-plan : goal.overflow_cast-plan
-overflow_cast-plan c = omega (arith, c.shared_slice_known-in-loop-k-1.given c.loop-k.k)
 
 pub returns-then-limit-plan : goal.returns-then-limit-plan
 unfolding first_beyond beyond

@@ -1,32 +1,20 @@
 -- The ends of the link stand at vertices of the game, and the flag of their pair says whether it is an edge.
 use mathlib.Core.Path.{◌≡◌, ap, ap₂, ◌∙◌}
 use mathlib.Core.Bool.{not}
-use Prim.Native.Nat.{◌<◌}
-use Rattle.table.specs.Table.{vertex_count, game_of}
-use Rattle.plan_links.specs.PlanTable.{vertex_at, link_source, link_target}
+use mathlib.Core.List.{List}
+use Prim.Native.Nat.{ℕ, ◌<◌}
+use Rattle.table.specs.Table.{game_of}
+use Rattle.plan_links.specs.PlanTable.{link_count, vertex_at, link_source, link_target}
+use Rattle.plan_links.specs.PlanFormed.{PlanFormed}
 use Rattle.plan_links.specs.Refusals.{strays}
 use Rattle.plan_links.proofs.strays.Goals as goal
-use Rattle.plan_links.proofs.strays.Lts as lts
-use Rattle.plan_links.proofs.strays.Reads as reads
-use Rattle.plan_links.proofs.strays.Tie as tie
 
--- the vertices of the link's source and of its target
-source_is : (c : lts.After-vertex_of tie.the-claims reads.Pre reads.Post) → let a = c.args in c.vertex_of-v.result ≡ vertex_at a.plan.now (link_source a.plan.now a.k)
-source_is c = c.vertex_of-v.ensures ∙ ap (vertex_at c.args.plan.now) c.source_of.ensures
+-- the ends of link k stand at vertices of the game
+source_lt : {n : ℕ} {plan : List ℕ} {k : ℕ} → PlanFormed n plan → k < link_count plan → vertex_at plan (link_source plan k) < n
+source_lt {k = k} f h = f.vertices _ (f.sources k h)
 
-target_is : (c : lts.After-vertex_of2 tie.the-claims reads.Pre reads.Post)
-    → let a = c.args in c.vertex_of-x.result ≡ vertex_at a.plan.now (link_target a.plan.now a.k)
-target_is c = c.vertex_of-x.ensures ∙ ap (vertex_at c.args.plan.now) c.target_of.ensures
-
-source_lt : (c : lts.After-vertex_of tie.the-claims reads.Pre reads.Post) → c.vertex_of-v.result < vertex_count c.args.game.now
-source_lt c =
-    let f = c.requires.0.formed in
-    rw (source_is c) (f.vertices _ (f.sources c.args.k c.requires.1))
-
-target_lt : (c : lts.After-vertex_of2 tie.the-claims reads.Pre reads.Post) → c.vertex_of-x.result < vertex_count c.args.game.now
-target_lt c =
-    let f = c.requires.0.formed in
-    rw (target_is c) (f.vertices _ (f.targets c.args.k c.requires.1))
+target_lt : {n : ℕ} {plan : List ℕ} {k : ℕ} → PlanFormed n plan → k < link_count plan → vertex_at plan (link_target plan k) < n
+target_lt {k = k} f h = f.vertices _ (f.targets k h)
 
 pub vertex_of-v-requires : goal.vertex_of-v-requires
 vertex_of-v-requires c = let f = c.requires.0.formed in
@@ -37,9 +25,24 @@ vertex_of-x-requires c = let f = c.requires.0.formed in
     (f.sized, rw c.target_of.ensures (f.targets c.args.k c.requires.1))
 
 pub is_edge-requires : goal.is_edge-requires
-is_edge-requires c = let p = c.requires.0 in
-    (source_lt c.before.before.before, target_lt c.before, p.game.vertices, p.flags.long)
+is_edge-requires c =
+    let p = c.requires.0 in
+    let h = c.requires.1 in (
+      rw (c.vertex_of-v.ensures, c.source_of.ensures) (source_lt p.formed h),
+      rw (c.vertex_of-x.ensures, c.target_of.ensures) (target_lt p.formed h),
+      p.game.vertices,
+      p.flags.long,
+    )
 
 pub returns : goal.returns
 unfolding strays
-returns c = ap not (c.is_edge.ensures ∙ c.requires.0.flags.edge _ _ (source_lt c.before.before.before.before) (target_lt c.before.before) ∙ ap₂ (game_of c.args.game.now).edge (source_is c.before.before.before.before) (target_is c.before.before))
+returns c =
+    let a = c.args in
+    let p = c.requires.0 in
+    let h = c.requires.1 in
+    let v : c.vertex_of-v.result ≡ vertex_at a.plan.now (link_source a.plan.now a.k) = c.vertex_of-v.ensures ∙ ap (vertex_at a.plan.now) c.source_of.ensures in
+    let x : c.vertex_of-x.result ≡ vertex_at a.plan.now (link_target a.plan.now a.k) = c.vertex_of-x.ensures ∙ ap (vertex_at a.plan.now) c.target_of.ensures in
+    ap not
+    (c.is_edge.ensures
+    ∙ p.flags.edge _ _ (rw v (source_lt p.formed h)) (rw x (target_lt p.formed h))
+    ∙ ap₂ (game_of a.game.now).edge v x)

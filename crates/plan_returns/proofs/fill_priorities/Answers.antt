@@ -2,26 +2,26 @@
 use native.Mathlib.Omega.{arith}
 use Prim.Native.Nat.{ℕ, ◌≤◌, ◌<◌, ◌-◌, ◌+◌}
 use mathlib.Core.Path.{◌≡◌}
+use mathlib.Core.List.{List}
 use lib.ListN.{length, get_or, length-set}
+use Rattle.plan_links.specs.PlanTable.{position_count, vertex_at}
+use Rattle.plan_links.specs.PlanFormed.{PlanFormed}
 use Rattle.plan_returns.specs.Returns.{position_priority}
 use Rattle.theory.proofs.Logic.ListLaws.{after_set}
 use Rattle.plan_returns.proofs.fill_priorities.Goals as goal
-use Rattle.plan_returns.proofs.fill_priorities.Lts as lts
-use Rattle.plan_returns.proofs.fill_priorities.Reads as reads
-use Rattle.plan_returns.proofs.fill_priorities.Tie as tie
 
 -- the vertex of a turn's position
-below : (c : lts.After-vertex_of tie.the-claims reads.Pre reads.Post goal.the-invariant-loop-j goal.the-decreases-loop-j tie.handed_clauses) → c.vertex_of.result < get_or c.args.game.now 0 0
-below c = rw c.vertex_of.ensures (c.requires.well_formed.1.vertices c.loop-j.j c.loop-j-test.true)
+below : {n : ℕ} {plan : List ℕ} {j v : ℕ} → PlanFormed n plan → j < position_count plan → v ≡ vertex_at plan j → v < n
+below {j = j} f h e = rw e (f.vertices j h)
 
 pub overflow_add-priorities : goal.overflow_add-priorities
-overflow_add-priorities c = omega (arith, below c.before, c.requires.well_formed.0.vertices)
+overflow_add-priorities c = omega (arith, below c.requires.well_formed.1 c.loop-j-test.true c.vertex_of.ensures, c.requires.well_formed.0.vertices)
 
 pub offset_bounds-game-vertex_of : goal.offset_bounds-game-vertex_of
-offset_bounds-game-vertex_of c = omega (arith, below c.before, c.requires.well_formed.0.vertices)
+offset_bounds-game-vertex_of c = omega (arith, below c.requires.well_formed.1 c.loop-j-test.true c.vertex_of.ensures, c.requires.well_formed.0.vertices)
 
 pub bounds-game-vertex_of : goal.bounds-game-vertex_of
-bounds-game-vertex_of c = omega (arith, below c.before.before, c.requires.well_formed.0.size)
+bounds-game-vertex_of c = omega (arith, below c.requires.well_formed.1 c.loop-j-test.true c.vertex_of.ensures, c.requires.well_formed.0.size)
 
 pub loop-j-preserved : goal.loop-j-preserved
 unfolding position_priority
