@@ -158,7 +158,8 @@ fn the_header_declares_the_exports() {
 fn answer_has_the_fields_of_the_exports() {
     let head = "pub struct RaskjomiAnswer {";
     let source = plain(&rattle(&root().join("crates")));
-    assert!(source.contains(&format!("#[repr(C)] {head}")), "the answer is laid out as C does");
+    let attributes = "#[repr(C)] #[derive(Clone, Copy)]";
+    assert!(source.contains(&format!("{attributes} {head}")), "the answer is laid out as C does");
     let declarations = declarations_in_rust();
     let fields = parts(between(&declarations, head, "}"));
     assert_eq!(fields, parts(between(&source, head, "}")));
