@@ -1,7 +1,8 @@
 -- Laws of the calls that edit a table: their promise at each way out.
-use Rattle.std.specs.Prelude.{◌≡◌, List, [], ◌∷◌, ◌++◌, ℕ, ◌≤◌, length, take}
+use Rattle.std.specs.Prelude.{◌≡◌, List, [], ◌∷◌, ◌++◌, ℕ, ◌≤◌, ltb, length, take}
 use Rattle.std.proofs.Math.Path.{sym}
 use Rattle.std.proofs.Common.{ap, ◌∙◌, append-nil, arith, length-take}
+use Rattle.table.specs.Limits.{vertex_limit, edge_limit}
 use Rattle.table.specs.Table.{vertex_count, table_length, table_in}
 use Rattle.table.specs.Answers.{Row, accepted, refused, judge, Clean, written}
 use Rattle.table.specs.AnswersLaws.{judge_clean, judge_accepted, judge_past, judge_stays, after_clean, after_refused, clean_append}
@@ -24,7 +25,10 @@ use Rattle.reduction.specs.declared.TableCounts.{TableCounts}
 use Rattle.edit_rules.specs.Buffer.{buffer_rows}
 use Rattle.edit_rules.proofs.BufferLaws.{in_vertices, buffer_judge, buffer_clean}
 use Rattle.edit_rules.specs.Edges.{edited, edited_words, edit_rows}
-use Rattle.edit_rules.specs.EditParts.{Formed, Made}
+use Rattle.edit_rules.specs.EditParts.{Formed, Scanned, Made, edit_facts}
+use Rattle.edit_rules.proofs.EditPartsLaws.{formed_part}
+use Rattle.edit_rules.proofs.JudgeLaws.{scanned_rows}
+use Rattle.edit_rules.specs.declared.Scan.{Scan}
 use Rattle.edit_rules.proofs.EditedLaws.{edited_vertices, edited_well, edited_part}
 use Rattle.edit_rules.specs.declared.Edit.{Edit}
 use Rattle.edit.specs.EditCall.{call_counts, EditedBy}
@@ -130,6 +134,19 @@ module _ (rest : List Row) (e : Edit) (game : List ℕ) (s t : ℕ) (buffer mark
           → EditedBy rows e g s t buffer marks spare classes (accepted (c.classes ∷ c.vertices ∷ c.edges ∷ [])) buffer' marks' spare' classes'
       call_done clean = call_made rows e g s t buffer marks spare classes (rows_clean clean)
 
+-- ---- a scan of the part that is lent is one of the table, and what the judge said goes by the table
+
+module _ (e : Edit) (buffer : List ℕ) (s t : ℕ) {n m : ℕ} (form : Formed (table_in buffer) n m) {scan : Scan}
+    (lent : Scanned (take (table_length n m) buffer) m s t scan) where
+  pub lent_scanned : Scanned (table_in buffer) m s t scan
+  lent_scanned = rw (formed_part buffer n m form) at lent
+
+  pub lent_judged : {judged given : Acceptance} → judged ≡ given
+      → acceptance_answer judged ≡ judge (edit_facts e n m (length buffer) s t (ltb scan.copy m) scan.another) []
+      → acceptance_answer given ≡ judge (edit_rows e (table_in buffer) (length buffer) s t) []
+  lent_judged is a =
+      ap acceptance_answer (sym is) ∙ a ∙ ap (λ (rs : List Row). judge rs []) (scanned_rows form s t lent_scanned (length buffer) e)
+
 -- ---- the edit is made: the new table begins the buffer, and the memory fits it
 
 module _ (e : Edit) (buffer : List ℕ) (s t : ℕ) {n m : ℕ} (form : Formed (table_in buffer) n m)
@@ -151,11 +168,18 @@ module _ (e : Edit) (buffer : List ℕ) (s t : ℕ) {n m : ℕ} (form : Formed (
       }
 
   module _ {m' : ℕ} {buffer' : List ℕ} (made : Made e buffer s t m' buffer') where
+    pub made_few : (m' ≤ edge_limit) × (n ≤ vertex_limit)
+    made_few = (omega (arith, made.count, made_well.edges), omega (arith, form.vertices, form.well.vertices))
+
     made_size : table_length n m' ≡ length after
     made_size = rw (made_vertices, made.count) (sym made_well.size)
 
     pub made_part : take (table_length n m') buffer' ≡ after
     made_part = rw (made_size, made.buffer_after) (edited_part e (table_in buffer) s t buffer)
+
+    pub made_memory : {marks spare classes : List ℕ} → ClassesFit (table_in buffer) marks spare classes
+        → ClassesFit (take (table_length n m') buffer') marks spare classes × (n ≡ vertex_count (take (table_length n m') buffer'))
+    made_memory f = rw made_part (made_fits f, made_vertices)
 
     -- it is there whole
     pub made_room : table_length n m' ≤ length buffer'
