@@ -1,7 +1,0 @@
--- The fields are those of the call's answer.
-use mathlib.Core.Path.{ap, ◌∙◌}
-use Rattle.abi_answer.specs.Fields.{accept_fields}
-use Rattle.abi_large.proofs.raskjomi_large_reduction.Goals as goal
-
-pub returns : goal.returns
-returns c = c.of_acceptance.ensures ∙ ap accept_fields c.check_reduction.ensures
