@@ -141,11 +141,12 @@ module _ (e : Edit) (buffer : List ℕ) (s t : ℕ) {n m : ℕ} (form : Formed (
   pub lent_scanned : Scanned (table_in buffer) m s t scan
   lent_scanned = rw (formed_part buffer n m form) at lent
 
-  pub lent_judged : {judged given : Acceptance} → judged ≡ given
-      → acceptance_answer judged ≡ judge (edit_facts e n m (length buffer) s t (ltb scan.copy m) scan.another) []
-      → acceptance_answer given ≡ judge (edit_rows e (table_in buffer) (length buffer) s t) []
-  lent_judged is a =
-      ap acceptance_answer (sym is) ∙ a ∙ ap (λ (rs : List Row). judge rs []) (scanned_rows form s t lent_scanned (length buffer) e)
+  -- in a buffer of any size
+  pub lent_judged : (size : ℕ) {judged given : Acceptance} → judged ≡ given
+      → acceptance_answer judged ≡ judge (edit_facts e n m size s t (ltb scan.copy m) scan.another) []
+      → acceptance_answer given ≡ judge (edit_rows e (table_in buffer) size s t) []
+  lent_judged size is a =
+      ap acceptance_answer (sym is) ∙ a ∙ ap (λ (rs : List Row). judge rs []) (scanned_rows form s t lent_scanned size e)
 
 -- ---- the edit is made: the new table begins the buffer, and the memory fits it
 

@@ -28,17 +28,17 @@ judge_edit-judged-requires c =
 pub returns-in-Refused : goal.returns-in-Refused
 returns-in-Refused c =
     call_judged _ _ _ _ _ _ _ _ _ c.requires (rw c.in_default.is at c.judge_memory-memory.ensures) _
-    (lent_judged c.args.edit c.args.buffer.now _ _ c.requires c.scan_edges-scan.ensures c.in-Refused.is c.judge_edit-judged.ensures)
+    (lent_judged c.args.edit c.args.buffer.now _ _ c.requires c.scan_edges-scan.ensures _ c.in-Refused.is c.judge_edit-judged.ensures)
 
 pub apply_edit-counts-requires : goal.apply_edit-counts-requires
 apply_edit-counts-requires c = record {
   formed = (c.requires, call_fits _ _ _ _ c.requires (rw c.in_default.is at c.judge_memory-memory.ensures));
   copy_value = (lent_scanned c.args.edit c.args.buffer.now _ _ c.requires c.scan_edges-scan.ensures).found;
-  clean = passed_clean _ (lent_judged c.args.edit c.args.buffer.now _ _ c.requires c.scan_edges-scan.ensures c.in_default-judged.is c.judge_edit-judged.ensures);
+  clean = passed_clean _ (lent_judged c.args.edit c.args.buffer.now _ _ c.requires c.scan_edges-scan.ensures _ c.in_default-judged.is c.judge_edit-judged.ensures);
 }
 
 pub returns : goal.returns
 returns c =
     call_done _ _ _ _ _ _ _ _ _ c.requires (rw c.in_default.is at c.judge_memory-memory.ensures)
-    (passed_clean _ (lent_judged c.args.edit c.args.buffer.now _ _ c.requires c.scan_edges-scan.ensures c.in_default-judged.is c.judge_edit-judged.ensures))
+    (passed_clean _ (lent_judged c.args.edit c.args.buffer.now _ _ c.requires c.scan_edges-scan.ensures _ c.in_default-judged.is c.judge_edit-judged.ensures))
     _ refl refl _ _ _ _ _ c.apply_edit-counts.ensures

@@ -3,7 +3,7 @@ use Rattle.edit.proofs.EditCallLaws.{formed, call_handed}
 use Rattle.edit_preview.proofs.preview_add.Goals as goal
 
 pub returns-in_default : goal.returns-in_default
-returns-in_default c = call_handed _ _ _ _ _ _ _ _ _ _ _ _ c.enum_told-1.given.1 c.read_in-reading.ensures c.refusal_of.ensures
+returns-in_default c = call_handed _ _ _ _ _ _ _ _ _ _ _ _ c.in_default.is c.read_in-reading.ensures c.refusal_of.ensures
 
 pub preview_table-requires : goal.preview_table-requires
-preview_table-requires c = formed c.args.game.now c.reading-1.given.1 c.read_in-reading.ensures
+preview_table-requires c = formed c.args.game.now c.in-Accepted.is c.read_in-reading.ensures
