@@ -1,6 +1,6 @@
 -- Laws of the moves of a pair.
 use Rattle.std.specs.Prelude.{◌≡◌, refl, ◌⊎◌, Bool, true, false, cond, ℕ, ◌+◌, ◌≤◌, ◌<◌, length, take}
-use Rattle.std.proofs.Common.{ap, ◌∙◌, inl, inr, not-suc-le-zero, arith, length-append}
+use Rattle.std.proofs.Common.{ap, inl, inr, not-suc-le-zero, arith, length-append}
 use mathlib.Core.List.{List, [], ◌∷◌, ◌++◌, append-nil}
 use Rattle.theory.specs.Logic.Range.{first}
 use Rattle.theory.specs.Games.Game.{own}

@@ -4,7 +4,7 @@ use Rattle.theory.specs.Games.Game.{own}
 use Rattle.theory.specs.Carry.Carry.{moves_below, moves_of, found_from}
 use Rattle.theory.specs.Carry.BreadthFirst.{Found}
 use Rattle.table.specs.Limits.{position_limit, link_limit}
-use Rattle.table.specs.Table.{vertex_count, player_of, game_of}
+use Rattle.table.specs.Table.{player_of, game_of}
 use Rattle.plan_links.specs.PlanTable.{position_count}
 use Rattle.carry_replies.specs.Replies.{seated, needed, move_to}
 use Rattle.carry_search.specs.declared.Counts.{Counts}

@@ -1,6 +1,6 @@
 -- What an accepted call leaves in the buffer: the new table, which the reader accepts with its m, and whose game has exactly the edges asked for,
 -- and no other priority and owner; and that a leaving of the edge that just arrived gives the old words back, and two zeros behind them.
-use Rattle.std.specs.Prelude.{◌≡◌, refl, ◌⊎◌, ◌↔◌, false, List, [], ◌∷◌, ◌++◌, ℕ, ◌+◌, ◌-◌, ◌<◌, length, drop}
+use Rattle.std.specs.Prelude.{◌≡◌, refl, ◌⊎◌, ◌↔◌, false, List, [], ◌∷◌, ◌++◌, ℕ, ◌+◌, ◌<◌, length, drop}
 use Rattle.std.proofs.Math.Path.{sym}
 use Rattle.std.proofs.Common.{ap, ◌∙◌, length-append}
 use Rattle.std.proofs.Math.Bool.{So}

@@ -1,5 +1,5 @@
 -- Laws of marks that are written from rows of bits: byte by byte, word by word, row by row.
-use Rattle.std.specs.Prelude.{◌≡◌, Bool, false, List, ℕ, ◌+◌, ◌-◌, ◌*◌, ◌/◌, ◌%◌, ◌^◌, ◌≤◌, ◌<◌, min, length, get_or, set}
+use Rattle.std.specs.Prelude.{◌≡◌, Bool, false, List, ℕ, ◌+◌, ◌-◌, ◌*◌, ◌/◌, ◌%◌, ◌^◌, ◌≤◌, ◌<◌, length, get_or, set}
 use Rattle.std.proofs.Math.Path.{refl, sym, ap}
 use Rattle.std.proofs.Common.{◌∙◌, add-zero, suc-mul, mul-le-mul_right, div-add-mod', mod-lt, lt_of_lt_of_le, one-mul, mul-one, add-one, arith, eq-eqb, ne_eqb, length-set, pow_pos, pow_mono, shl_lt, shl_exact, shr-shr, ext_get_or}
 use Rattle.std.proofs.Math.Decide.{dec_lt, ℕ_discrete}

@@ -2,7 +2,7 @@
 use Rattle.std.specs.Prelude.{◌≡◌, List, [], ◌∷◌, ◌++◌, ℕ, zero, suc, ◌+◌, ◌-◌, ◌*◌, ◌≤◌, ◌<◌, length, get_or}
 use Rattle.theory.specs.Logic.Range.{tabulate}
 use Rattle.theory.specs.Games.Game.{Game, edge_count}
-use Rattle.table.specs.Table.{vertex_count, table_edges, game_of}
+use Rattle.table.specs.Table.{vertex_count, game_of}
 use Rattle.table.specs.Answers.{written}
 use Rattle.order.specs.OrderWritten.{OrderDone}
 use Rattle.reduction_rows.specs.Reached.{words_for}

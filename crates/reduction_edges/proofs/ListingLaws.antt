@@ -23,7 +23,7 @@ use Rattle.table.specs.Table.{table_edges, owner_at, player_of, game_of}
 use Rattle.table.specs.TableLaws.{edges_listed}
 use Rattle.table.specs.TableWordsLaws.{length_edges_of}
 use Rattle.table.specs.PlacingLaws.{placed_start, placed_one, placed_join}
-use Rattle.classes.specs.Numbering.{Classed, classes_in}
+use Rattle.classes.specs.Numbering.{classes_in}
 use Rattle.reduction_rows.specs.Reached.{in_row, RowsFit, RowsReach}
 use Rattle.reduction_rows.specs.MetLaws.{row_bit}
 use Rattle.reduction_edges.specs.LittleBrothers.{dropped_by}

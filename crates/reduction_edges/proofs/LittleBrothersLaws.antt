@@ -1,6 +1,6 @@
 -- Laws of little brothers: what is dropped because of one in the row after another, and that by the marks of the order and the row of a class's
 -- quotient edges those edges are dropped that the reduced game drops.
-use Rattle.std.specs.Prelude.{◌≡◌, Bool, cond, List, map, ℕ, ◌+◌, ◌-◌, ◌/◌, ◌%◌, ◌≤◌, ◌<◌, eqb, length, get_or}
+use Rattle.std.specs.Prelude.{◌≡◌, Bool, cond, List, ℕ, ◌+◌, ◌-◌, ◌/◌, ◌%◌, ◌≤◌, ◌<◌, eqb, get_or}
 use Rattle.std.proofs.Math.Path.{refl, sym, ap, ap₂}
 use Rattle.std.proofs.Common.{◌∙◌, arith, eqb-true, eq-eqb}
 use Rattle.std.proofs.Math.Bool.{true, false, not, So}
@@ -8,13 +8,11 @@ use Rattle.theory.specs.Logic.Bools.{◌&◌, ◌or◌}
 use Rattle.theory.proofs.Logic.BoolsLaws.{So_ext, So_not, clash, eqb_flip, and_in, and_out, and_one, and_first, and_fails, and_assoc, and_true, or_false}
 use Rattle.theory.specs.Logic.Range.{any_below, first}
 use Rattle.theory.proofs.Logic.RangeLaws.{any_in, any_out, any_ext, any_more, any_append, first_ge, first_before}
-use Rattle.theory.specs.Order.Passes.{Rel}
-use Rattle.theory.specs.Games.Game.{Player, even, odd, Game}
+use Rattle.theory.specs.Games.Game.{even, odd, Game}
 use Rattle.theory.specs.Order.Order.{order}
 use Rattle.theory.specs.Classes.Reduction.{is_lowest, no_better, quotient_edge, dropped, reduced_edge}
 use Rattle.words.specs.WordLaws.{digit_zero}
 use Rattle.words.specs.Words.{has}
-use Rattle.table.specs.Table.{player_of}
 use Rattle.marks.specs.Marks.{relation}
 use Rattle.reduction_edges.specs.LittleBrothers.{below_other, beaten, drops, dropped_by}
 use Rattle.reduction_edges.specs.Rows.{keeps}

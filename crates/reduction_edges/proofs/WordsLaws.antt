@@ -1,14 +1,14 @@
 -- Laws of a row of marks that is compared or united with a row of bits, word by word.
-use Rattle.std.specs.Prelude.{◌≡◌, refl, Bool, true, false, List, ℕ, ◌+◌, ◌-◌, ◌*◌, ◌/◌, ◌%◌, ◌≤◌, ◌<◌, min, eqb, ltb, length, get_or, set}
+use Rattle.std.specs.Prelude.{◌≡◌, refl, false, List, ℕ, ◌+◌, ◌-◌, ◌*◌, ◌/◌, ◌%◌, ◌≤◌, ◌<◌, min, eqb, ltb, length, get_or, set}
 use Rattle.std.proofs.Math.Path.{sym, ap, ap₂}
-use Rattle.std.proofs.Common.{◌∙◌, inl, inr, get_or-set_same, get_or-set_other}
+use Rattle.std.proofs.Common.{◌∙◌, get_or-set_same, get_or-set_other}
 use Rattle.std.proofs.Math.Bool.{So, not}
 use Rattle.std.proofs.Math.Decide.{dec_lt, ℕ_discrete}
 use native.Mathlib.Omega.{arith}
 use Rattle.std.specs.Int.Bits.{bit_and, bit_or, bit_xor}
-use borrow.Author.Tests.{eqb-true, eqb-false, eq-eqb, ne_eqb, ltb-true, lt-ltb, le-ltb}
+use borrow.Author.Tests.{eqb-true, eq-eqb, ltb-true, lt-ltb, le-ltb}
 use Rattle.theory.specs.Logic.Bools.{◌&◌, ◌or◌}
-use Rattle.theory.proofs.Logic.BoolsLaws.{So_ext, So_not, clash, and_in, and_out, and_first, and_fails, and_flip, not_in, not_out, or_left, or_right, or_out, or_false}
+use Rattle.theory.proofs.Logic.BoolsLaws.{So_ext, So_not, clash, and_in, and_out, and_first, and_fails, and_flip, or_false}
 use Rattle.theory.specs.Logic.Range.{any_below}
 use Rattle.theory.proofs.Logic.RangeLaws.{any_in, any_out, any_ext, any_fails}
 use Rattle.words.specs.Word.{word_bits, digit}

@@ -13,7 +13,7 @@ use Rattle.theory.proofs.Logic.RangeLaws.{all_in, all_out, all_more}
 use Rattle.theory.proofs.Logic.CountLaws.{digits_one}
 use Rattle.theory.specs.Games.Game.{Game}
 use Rattle.theory.specs.Order.Order.{order}
-use Rattle.theory.specs.Classes.Reduction.{lowest, is_lowest}
+use Rattle.theory.specs.Classes.Reduction.{is_lowest}
 use Rattle.theory.proofs.Classes.ClassLaws.{is_lowest_lowest}
 use Rattle.theory.proofs.Classes.QuotientLaws.{order_preorder}
 use Rattle.words.specs.Word.{digit}

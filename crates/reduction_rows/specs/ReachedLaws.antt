@@ -1,5 +1,5 @@
 -- Laws of what is reached: the places of the edges are the rows' bits, and met rows hold the quotient edges.
-use Rattle.std.specs.Prelude.{◌≡◌, Bool, true, false, List, ℕ, ◌+◌, ◌*◌, ◌/◌, ◌%◌, ◌≤◌, ◌<◌, eqb, length, get_or}
+use Rattle.std.specs.Prelude.{◌≡◌, Bool, List, ℕ, ◌+◌, ◌*◌, ◌/◌, ◌%◌, ◌≤◌, ◌<◌, eqb, length, get_or}
 use Rattle.std.proofs.Math.Path.{refl, ap, ap₂}
 use Rattle.std.proofs.Common.{sym, ◌∙◌, mul_assoc, arith}
 use Rattle.std.proofs.Math.Bool.{So}
@@ -8,22 +8,21 @@ use borrow.Author.Tests.{eqb-true, eq-eqb}
 use Rattle.theory.specs.Logic.Bools.{◌&◌, ◌or◌, imp}
 use Rattle.theory.proofs.Logic.BoolsLaws.{So_ext, and_in, and_out, imp_out}
 use Rattle.theory.specs.Logic.Range.{all_below, any_below}
-use Rattle.theory.proofs.Logic.RangeLaws.{all_in, all_out, all_ext, any_in, any_out, any_ext, any_more}
+use Rattle.theory.proofs.Logic.RangeLaws.{all_out, all_ext, any_in, any_out, any_ext, any_more}
 use Rattle.theory.proofs.Logic.CountLaws.{digits_one}
 use Rattle.theory.specs.Games.Game.{Game}
 use Rattle.theory.specs.Order.Order.{any_next, order}
 use Rattle.theory.proofs.Order.OrderLaws.{any_next_in, any_next_out}
 use Rattle.theory.specs.Classes.Reduction.{same_class, lowest, is_lowest, class_number, representative, quotient_edge}
-use Rattle.theory.proofs.Classes.ClassLaws.{same_class_sym, same_class_trans, lowest_lt, lowest_same, lowest_one, is_lowest_lowest, class_number_lt, class_count_le, representative_at, representative_class}
+use Rattle.theory.proofs.Classes.ClassLaws.{same_class_sym, lowest_lt, lowest_same, lowest_one, is_lowest_lowest, class_number_lt, representative_at, representative_class}
 use Rattle.theory.proofs.Classes.QuotientLaws.{order_preorder}
 use Rattle.words.specs.WordLaws.{digit_zero}
 use Rattle.words.specs.Words.{has}
 use Rattle.table.specs.Limits.{pair_limit}
 use Rattle.table.specs.Table.{vertex_count, table_edges, source_at, target_at, game_of}
 use Rattle.table.specs.TableLaws.{game_n, edge_in, edge_out, edge_succ}
-use Rattle.table.specs.WellFormed.{WellFormed}
 use Rattle.table.specs.Flags.{Raised}
-use Rattle.classes.specs.Numbering.{Classed, Represented, classes_in}
+use Rattle.classes.specs.Numbering.{classes_in}
 use Rattle.reduction_rows.specs.Reached.{words_for, in_row, RowsFit, lowest_of, Grouped, reaches, edge_place, Reaching, MembersMet, RowsReach}
 
 -- ---- the lowest member of a vertex's class, by class numbers and representatives

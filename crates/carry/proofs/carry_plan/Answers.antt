@@ -1,8 +1,6 @@
 -- Each way out is a row of the order call, a row of the plan acceptor, or what is left once both are passed.
-use Rattle.std.proofs.Common.{◌≡◌, ℕ, List, length, ap, ◌∙◌, arith}
+use Rattle.std.proofs.Common.{ap, ◌∙◌, arith}
 use Rattle.theory.specs.Order.Order.{order_marks, order_passes}
-use Rattle.table.specs.Table.{vertex_count}
-use Rattle.table.specs.WellFormed.{WellSized}
 use Rattle.table.specs.ReadingLaws.{reading_accepted}
 use Rattle.marks.specs.Marks.{marks_length}
 use Rattle.order.specs.OrderRules.{OrderFits}

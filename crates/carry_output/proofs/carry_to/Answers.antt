@@ -2,7 +2,6 @@
 use mathlib.Core.Path.{◌≡◌, sym, ◌∙◌}
 use native.Mathlib.Omega.{arith}
 use Prim.Native.Nat.{ℕ}
-use borrow.Author.Tests.{not-true, not-false}
 use lib.ListN.{get_or, length-replicate}
 use Rattle.table.specs.Table.{game_of}
 use Rattle.plan_links.specs.PlanTable.{vertex_at}
@@ -50,7 +49,7 @@ pub returns-then-not-no_better : goal.returns-then-not-no_better
 returns-then-not-no_better c = arrives_not _ _ _ _ _ _ _ (seat c.before.before.before.before) c.if-n-y.false (sym (told c.before.before) ∙ c.if-not-no_better.true)
 
 pub carry_seated-requires : goal.carry_seated-requires
-carry_seated-requires c = record { seated = seated c.before.before.before.before.before.before; y_bound = c.if-n-y.false; }
+carry_seated-requires c = record { seated = seated c.before.before.before.before.before.before; y_bound = c.if-n-y.false }
 
 pub returns : goal.returns
 returns c = arrives _ _ _ _ _ _ _ c.requires.0.well c.seat_positions.ensures c.if-n-y.false (rw (seat c.before.before.before.before.before.before.before.before.before) at (sym (told c.before.before.before.before.before.before.before) ∙ c.if-not-no_better.false)) _ _

@@ -29,7 +29,7 @@ readable c =
 
 pub flag_edges-requires : goal.flag_edges-requires
 flag_edges-requires c = let w = c.requires.seated.well in
-    record { sized = (well_sized w, well_inside w); pair_words_in_bounds = (omega (arith, length-replicate {A = ℕ} pair_words 0), filled pair_words 0); }
+    record { sized = (well_sized w, well_inside w); pair_words_in_bounds = (omega (arith, length-replicate {A = ℕ} pair_words 0), filled pair_words 0) }
 
 pub find_pairs-requires : goal.find_pairs-requires
-find_pairs-requires c = record { readable = readable c.before.before.before.before.before.before.before; w_bound = (c.requires.y_bound.0, c.requires.y_bound.1); }
+find_pairs-requires c = record { readable = readable c.before.before.before.before.before.before.before; w_bound = (c.requires.y_bound.0, c.requires.y_bound.1) }

@@ -1,13 +1,13 @@
 -- The walk goes along the chain of i: no link before k is the one to follow.
 use native.Mathlib.Omega.{arith}
 use mathlib.Core.Path.{◌≡◌, sym, ◌∙◌}
-use Prim.Native.Nat.{◌-◌, ◌<◌}
+use Prim.Native.Nat.{◌<◌}
 use lib.ListN.{get_or}
 use Rattle.theory.specs.Logic.Range.{first}
 use Rattle.table.specs.Table.{vertex_count}
 use Rattle.plan_links.specs.PlanTable.{link_count, link_source}
 use Rattle.carry_replies.specs.Replies.{link_to}
-use Rattle.carry_replies.specs.ChainLaws.{good, Passed, pass_start, pass_next, chain_ascends, pass_hit, pass_own, pass_end}
+use Rattle.carry_replies.specs.ChainLaws.{good, pass_start, pass_next, chain_ascends, pass_hit, pass_own, pass_end}
 use Rattle.carry_replies.specs.RepliesLaws.{link_keeps, link_to_is}
 use Rattle.carry_replies.proofs.answer.Goals as goal
 use Rattle.carry_replies.proofs.answer.Lts as lts
@@ -40,7 +40,7 @@ pub loop-k-init : goal.loop-k-init
 loop-k-init c = pass_start _ _ _ _ _ _ _ _ c.requires.linked.chains c.requires.i_bound.0
 
 pub link_keeps-requires : goal.link_keeps-requires
-link_keeps-requires c = record { seated = c.requires.linked.board; k_bound = (c.loop-k-test.true, c.requires.i_bound.1); }
+link_keeps-requires c = record { seated = c.requires.linked.board; k_bound = (c.loop-k-test.true, c.requires.i_bound.1) }
 
 pub returns-then-link_keeps : goal.returns-then-link_keeps
 returns-then-link_keeps c = pass_hit _ _ _ _ _ c.loop-k.k c.loop-k-test.true c.loop-k.invariant (sym c.link_keeps.ensures ∙ c.if-link_keeps.true)

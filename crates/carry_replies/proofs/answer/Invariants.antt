@@ -1,13 +1,7 @@
-use native.Mathlib.Omega.{arith}
-use mathlib.Core.Path.{◌≡◌, sym, ◌∙◌}
-use Prim.Native.Nat.{◌-◌, ◌<◌}
-use lib.ListN.{get_or}
-use Rattle.theory.specs.Logic.Range.{first}
-use Rattle.table.specs.Table.{vertex_count}
+use Prim.Native.Nat.{◌-◌}
 use Rattle.plan_links.specs.PlanTable.{link_count, link_source}
-use Rattle.carry_replies.specs.Replies.{link_to}
-use Rattle.carry_replies.specs.ChainLaws.{good, Passed, pass_start, pass_next, chain_ascends, pass_hit, pass_own, pass_end}
-use Rattle.carry_replies.specs.RepliesLaws.{link_keeps, link_to_is}
+use Rattle.carry_replies.specs.ChainLaws.{Passed}
+use Rattle.carry_replies.specs.RepliesLaws.{link_keeps}
 use Rattle.carry_replies.proofs.answer.Given as goal
 
 abbrev pub invariant-loop-k : goal.invariant-loop-k

@@ -1,12 +1,10 @@
 -- The links from k on are chained.
 use native.Mathlib.Omega.{arith}
 use mathlib.Core.Path.{◌≡◌, refl}
-use mathlib.Core.List.{List}
 use Prim.Native.Nat.{ℕ, ◌+◌, ◌-◌, ◌≤◌, ◌<◌}
 use lib.ListN.{length, length-set}
 use Rattle.plan_links.specs.PlanTable.{position_count, link_count, link_source}
-use Rattle.carry_replies.specs.ChainLaws.{Chained, chained_none, chained_all, chained_more}
-use Rattle.carry_replies.proofs.chain_links.Invariants.{Inv}
+use Rattle.carry_replies.specs.ChainLaws.{chained_none, chained_all, chained_more}
 use Rattle.carry_replies.proofs.chain_links.Goals as goal
 use Rattle.carry_replies.proofs.chain_links.Lts as lts
 use Rattle.carry_replies.proofs.chain_links.Reads as reads

@@ -1,10 +1,9 @@
-use native.Mathlib.Omega.{arith}
-use mathlib.Core.Path.{◌≡◌, refl}
+use mathlib.Core.Path.{◌≡◌}
 use mathlib.Core.List.{List}
-use Prim.Native.Nat.{ℕ, ◌+◌, ◌-◌, ◌≤◌, ◌<◌}
-use lib.ListN.{length, length-set}
+use Prim.Native.Nat.{ℕ, ◌≤◌}
+use lib.ListN.{length}
 use Rattle.plan_links.specs.PlanTable.{position_count, link_count, link_source}
-use Rattle.carry_replies.specs.ChainLaws.{Chained, chained_none, chained_all, chained_more}
+use Rattle.carry_replies.specs.ChainLaws.{Chained}
 use Rattle.carry_replies.proofs.chain_links.Given as goal
 
 pub record Inv (plan firsts₀ follow₀ firsts follow : List ℕ) (k : ℕ) : Type 0 where

@@ -1,5 +1,4 @@
 -- The flag of (u, w) says whether there is an edge, and `reply_along` the position.
-use mathlib.Core.Bool.{So}
 use mathlib.Core.Path.{◌≡◌, sym, ◌∙◌}
 use Rattle.table.specs.Table.{game_of}
 use Rattle.carry_replies.specs.RepliesLaws.{reply_no}

@@ -1,17 +1,13 @@
 -- The moves to the vertices below w are made, and w is the next successor. The player's one move is a link more, which ends the loop.
 use mathlib.Core.Logic.{inl, inr}
-use mathlib.Core.Path.{◌≡◌, refl, ◌∙◌}
-use Prim.Native.Nat.{◌+◌, ◌-◌, ◌≤◌}
+use mathlib.Core.Path.{refl}
+use Prim.Native.Nat.{◌+◌, ◌≤◌}
 use native.Mathlib.Omega.{arith}
-use lib.ListN.{length}
 use Rattle.theory.specs.Carry.Carry.{moves_below}
 use Rattle.table.specs.Table.{vertex_count}
-use Rattle.plan_links.specs.PlanTable.{position_count}
 use Rattle.carry_replies.specs.SuccessorLaws.{successor_le, successor_ge}
-use Rattle.carry_search.specs.SearchMemory.{Within, Moved}
+use Rattle.carry_search.specs.SearchMemory.{Within}
 use Rattle.carry_search.specs.SearchMemoryLaws.{moved_none}
-use Rattle.carry_search.specs.Work.{memory_in, stored_pair}
-use Rattle.carry_search.specs.Search.{table_moves_below, most_links}
 use Rattle.carry_search.specs.ExpandLaws.{expandable_long, moved_on, moved_more, most_within, moved_few, expanded_pair}
 use Rattle.std.proofs.Common.{rules}
 use Rattle.carry_search.proofs.expand.Goals as goal
@@ -47,7 +43,7 @@ returns-then-most-links c = let l = c.loop-w in
 pub step-more-requires : goal.step-more-requires
 step-more-requires c = let x = c.requires.expandable in
     let b = most_within _ _ _ _ _ c.most_links-most.ensures x.within.few_links in
-    let within : Within c.loop-w.pairs c.loop-w.links = record { few_pairs = c.if-pairs-gt-POSITIONS.false; few_links = omega (arith, c.if-most-links.false, b) } in record { readable = c.requires.readable; search_room = (c.loop-w.invariant.2.ready, within, omega (arith, x.within.few_pairs, x.found)); i_bound = (x.inside.old_lt, x.inside.new_lt, c.loop-w-test.true); }
+    let within : Within c.loop-w.pairs c.loop-w.links = record { few_pairs = c.if-pairs-gt-POSITIONS.false; few_links = omega (arith, c.if-most-links.false, b) } in record { readable = c.requires.readable; search_room = (c.loop-w.invariant.2.ready, within, omega (arith, x.within.few_pairs, x.found)); i_bound = (x.inside.old_lt, x.inside.new_lt, c.loop-w-test.true) }
 
 pub overflow_add-w : goal.overflow_add-w
 overflow_add-w c = omega (arith, c.loop-w-test.true, c.requires.readable.links.board.well.vertices)

@@ -1,17 +1,10 @@
-use mathlib.Core.Logic.{inl, inr}
-use mathlib.Core.Path.{◌≡◌, refl, ◌∙◌}
+use mathlib.Core.Path.{◌≡◌}
 use Prim.Native.Nat.{◌+◌, ◌-◌, ◌≤◌}
-use native.Mathlib.Omega.{arith}
 use lib.ListN.{length}
-use Rattle.theory.specs.Carry.Carry.{moves_below}
-use Rattle.table.specs.Table.{vertex_count}
 use Rattle.plan_links.specs.PlanTable.{position_count}
-use Rattle.carry_replies.specs.SuccessorLaws.{successor_le, successor_ge}
-use Rattle.carry_search.specs.SearchMemory.{Within, Moved}
-use Rattle.carry_search.specs.SearchMemoryLaws.{moved_none}
-use Rattle.carry_search.specs.Work.{memory_in, stored_pair}
-use Rattle.carry_search.specs.Search.{table_moves_below, most_links}
-use Rattle.carry_search.specs.ExpandLaws.{expandable_long, moved_on, moved_more, most_within, moved_few, expanded_pair}
+use Rattle.carry_search.specs.SearchMemory.{Moved}
+use Rattle.carry_search.specs.Work.{memory_in}
+use Rattle.carry_search.specs.Search.{table_moves_below}
 use Rattle.carry_search.proofs.expand.Given as goal
 
 abbrev pub invariant-loop-w : goal.invariant-loop-w

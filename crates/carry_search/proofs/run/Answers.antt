@@ -1,11 +1,8 @@
 -- The pairs below k are done.
 use mathlib.Core.Logic.{inl, inr}
-use mathlib.Core.Path.{◌≡◌, refl, ◌∙◌}
-use Prim.Native.Nat.{◌-◌}
+use mathlib.Core.Path.{refl}
 use native.Mathlib.Omega.{arith}
-use lib.ListN.{length}
-use Rattle.table.specs.Limits.{position_limit}
-use Rattle.carry_search.specs.RunLaws.{Runs, runs_start, runs_expandable, runs_next, runs_over, runs_end}
+use Rattle.carry_search.specs.RunLaws.{runs_start, runs_expandable, runs_next, runs_over, runs_end}
 use Rattle.std.proofs.Common.{rules}
 use Rattle.carry_search.proofs.run.Goals as goal
 
@@ -14,7 +11,7 @@ loop-k-init c = (refl, runs_start _ _ _ _ _ _ _ _ c.requires.readable _ c.requir
 
 pub expand-more-requires : goal.expand-more-requires
 expand-more-requires c = let r = c.loop-k.invariant.1 in
-    record { readable = r.readable; expandable = runs_expandable _ _ _ _ _ _ _ _ _ _ _ _ r _ c.loop-k-test.true; }
+    record { readable = r.readable; expandable = runs_expandable _ _ _ _ _ _ _ _ _ _ _ _ r _ c.loop-k-test.true }
 
 pub returns-then-pairs-gt-POSITIONS : goal.returns-then-pairs-gt-POSITIONS
 returns-then-pairs-gt-POSITIONS c = runs_over _ _ _ _ _ _ _ _ _ _ _ _ c.loop-k.invariant.1 _ _ c.loop-k-test.true c.expand-more.ensures (inl c.if-pairs-gt-POSITIONS.true)

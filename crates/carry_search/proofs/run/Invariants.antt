@@ -1,10 +1,8 @@
-use mathlib.Core.Logic.{inl, inr}
-use mathlib.Core.Path.{◌≡◌, refl, ◌∙◌}
+use mathlib.Core.Path.{◌≡◌}
 use Prim.Native.Nat.{◌-◌}
-use native.Mathlib.Omega.{arith}
 use lib.ListN.{length}
 use Rattle.table.specs.Limits.{position_limit}
-use Rattle.carry_search.specs.RunLaws.{Runs, runs_start, runs_expandable, runs_next, runs_over, runs_end}
+use Rattle.carry_search.specs.RunLaws.{Runs}
 use Rattle.carry_search.proofs.run.Given as goal
 
 abbrev pub invariant-loop-k : goal.invariant-loop-k

@@ -1,7 +1,6 @@
 -- Each way out is a row of the call's table of refusals, or what the edit leaves.
-use Rattle.std.proofs.Common.{ap, sym, ◌∙◌, refl, length-take-le}
+use Rattle.std.proofs.Common.{sym, refl, length-take-le}
 use native.Mathlib.Omega.{arith}
-use Rattle.classes.specs.ClassesCall.{memory_answer}
 use Rattle.edit_rules.proofs.EditPartsLaws.{formed_room, formed_part}
 use Rattle.edit.proofs.EditCallLaws.{passed_clean, call_short, call_judged, call_fits, call_done, lent_scanned, lent_judged}
 use Rattle.edit.proofs.edit_table.Goals as goal

@@ -33,7 +33,7 @@ pub returns-in-Refused : goal.returns-in-Refused
 returns-in-Refused c = start_unfit _ _ _ _ _ c.requires (enough c.before.before.before.before.before) _ (ap acceptance_answer (sym c.judged-1.given.1) ∙ c.judge_trace-judged.ensures)
 
 pub apply_trace-requires : goal.apply_trace-requires
-apply_trace-requires c = let a = c.args in record { formed = (c.requires, start_fits a.buffer.now a.trace.now _ _ _ c.requires (enough c.before.before.before.before.before.before.before.before)); clean = trace_passed a.buffer.now a.trace.now a.marks.now a.spare.now a.classes.now c.requires (enough c.before.before.before.before.before.before.before.before) (passed c.before.before.before.before.before); }
+apply_trace-requires c = let a = c.args in record { formed = (c.requires, start_fits a.buffer.now a.trace.now _ _ _ c.requires (enough c.before.before.before.before.before.before.before.before)); clean = trace_passed a.buffer.now a.trace.now a.marks.now a.spare.now a.classes.now c.requires (enough c.before.before.before.before.before.before.before.before) (passed c.before.before.before.before.before) }
 
 pub returns : goal.returns
 returns c = start_done _ _ _ _ _ c.requires (enough c.before.before.before.before.before.before.before.before.before.before.before.before.before.before.before.before.before) (passed c.before.before.before.before.before.before.before.before.before.before.before.before.before.before) c.apply_trace.ensures

@@ -2,18 +2,14 @@
 -- there are at most as many such passes as pairs, which gives the measure. A round that takes nothing out is the last pass.
 use Rattle.std.specs.Prelude.{List, ℕ}
 use Rattle.table.specs.WellFormed.{WellFormed}
-use mathlib.Core.Path.{◌≡◌, refl, ◌∙◌}
-use Prim.Native.Nat.{◌+◌, ◌-◌, ◌≤◌}
+use mathlib.Core.Path.{refl, ◌∙◌}
+use Prim.Native.Nat.{◌≤◌}
 use native.Mathlib.Nat.{mul-le-mul}
 use native.Mathlib.Omega.{arith}
-use lib.ListN.{length}
-use Rattle.theory.specs.Order.Rows.{AfterRound}
 use Rattle.table.specs.Limits.{pair_limit}
 use Rattle.table.specs.Table.{pair_count, game_of}
 use Rattle.words.specs.Words.{has}
-use Rattle.order_rows.specs.Bits.{row_bits, cell}
-use Rattle.order_losses.specs.Losses.{struck, Fell}
-use Rattle.order_rounds.specs.Rounds.{RoundOf}
+use Rattle.order_rows.specs.Bits.{row_bits}
 use Rattle.order_sets.specs.RoundsLaws.{after_more, after_last}
 use Rattle.order_rounds.proofs.settle.Goals as goal
 

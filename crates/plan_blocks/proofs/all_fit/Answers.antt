@@ -1,9 +1,7 @@
 -- The numbers fit at each position before u.
 use native.Mathlib.Omega.{arith}
 use native.Mathlib.Nat.{not-suc-le-zero}
-use Prim.Native.Nat.{ℕ, ◌<◌, ◌-◌}
 use mathlib.Core.Path.{sym, ◌∙◌}
-use mathlib.Core.Bool.{So}
 use borrow.Author.Count.{below_more}
 use Rattle.theory.proofs.Logic.BoolsLaws.{So_not, clash}
 use Rattle.theory.proofs.Logic.RangeLaws.{all_in, all_out}

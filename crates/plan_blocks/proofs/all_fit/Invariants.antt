@@ -1,11 +1,5 @@
-use native.Mathlib.Omega.{arith}
-use native.Mathlib.Nat.{not-suc-le-zero}
 use Prim.Native.Nat.{ℕ, ◌<◌, ◌-◌}
-use mathlib.Core.Path.{sym, ◌∙◌}
 use mathlib.Core.Bool.{So}
-use borrow.Author.Count.{below_more}
-use Rattle.theory.proofs.Logic.BoolsLaws.{So_not, clash}
-use Rattle.theory.proofs.Logic.RangeLaws.{all_in, all_out}
 use Rattle.plan_blocks.specs.Refining.{fits}
 use Rattle.plan_blocks.proofs.all_fit.Given as goal
 

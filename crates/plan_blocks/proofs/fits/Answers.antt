@@ -1,7 +1,5 @@
 -- The tests, one after the other.
-use mathlib.Core.Path.{◌≡◌, sym, ◌∙◌}
-use lib.ListN.{get_or}
-use Rattle.plan_blocks.specs.Blocks.{gone}
+use mathlib.Core.Path.{sym, ◌∙◌}
 use Rattle.plan_blocks.specs.RefiningLaws.{fits_gone, fits_unnumbered, fits_below, fits_links}
 use Rattle.plan_blocks.proofs.fits.Goals as goal
 

@@ -1,9 +1,6 @@
 -- No link before t leads there: the rest of the search equals the whole.
 use native.Mathlib.Nat.{le_refl}
-use Prim.Native.Nat.{◌-◌}
-use mathlib.Core.Path.{◌≡◌, refl, sym, ◌∙◌}
-use lib.ListN.{get_or}
-use Rattle.theory.specs.Logic.Range.{any_from}
+use mathlib.Core.Path.{refl, sym, ◌∙◌}
 use Rattle.theory.proofs.Logic.RangeLaws.{from_in, from_step, from_end}
 use Rattle.index.specs.Index.{among}
 use Rattle.plan_blocks.specs.Refining.{numbered, leads_to}

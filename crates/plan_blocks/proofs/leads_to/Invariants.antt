@@ -1,10 +1,7 @@
-use native.Mathlib.Nat.{le_refl}
 use Prim.Native.Nat.{◌-◌}
-use mathlib.Core.Path.{◌≡◌, refl, sym, ◌∙◌}
+use mathlib.Core.Path.{◌≡◌}
 use lib.ListN.{get_or}
 use Rattle.theory.specs.Logic.Range.{any_from}
-use Rattle.theory.proofs.Logic.RangeLaws.{from_in, from_step, from_end}
-use Rattle.index.specs.Index.{among}
 use Rattle.plan_blocks.specs.Refining.{numbered, leads_to}
 use Rattle.plan_blocks.proofs.leads_to.Given as goal
 

@@ -1,12 +1,12 @@
 -- The positions before u have taken their numbers, and the others have their blocks still.
 use native.Mathlib.Omega.{arith}
 use native.Mathlib.Nat.{le_refl, not-suc-le-zero}
-use Prim.Native.Nat.{ℕ, ◌≤◌, ◌<◌, ◌-◌, ◌+◌}
+use Prim.Native.Nat.{ℕ, ◌<◌, ◌+◌}
 use mathlib.Core.Path.{◌≡◌, refl, ap₂, ◌∙◌}
-use lib.ListN.{length, get_or, length-set}
+use lib.ListN.{get_or, length-set}
 use lib.Seq.{get_or-set_other}
 use Rattle.theory.proofs.Logic.ListLaws.{after_set}
-use Rattle.plan_blocks.specs.Refining.{taken, Taken}
+use Rattle.plan_blocks.specs.Refining.{taken}
 use Rattle.plan_blocks.proofs.take_numbers.Goals as goal
 
 pub loop-u-init : goal.loop-u-init

@@ -1,11 +1,7 @@
-use native.Mathlib.Omega.{arith}
-use native.Mathlib.Nat.{le_refl, not-suc-le-zero}
-use Prim.Native.Nat.{ℕ, ◌≤◌, ◌<◌, ◌-◌, ◌+◌}
-use mathlib.Core.Path.{◌≡◌, refl, ap₂, ◌∙◌}
-use lib.ListN.{length, get_or, length-set}
-use lib.Seq.{get_or-set_other}
-use Rattle.theory.proofs.Logic.ListLaws.{after_set}
-use Rattle.plan_blocks.specs.Refining.{taken, Taken}
+use Prim.Native.Nat.{ℕ, ◌≤◌, ◌-◌}
+use mathlib.Core.Path.{◌≡◌}
+use lib.ListN.{length, get_or}
+use Rattle.plan_blocks.specs.Refining.{Taken}
 use Rattle.plan_blocks.proofs.take_numbers.Given as goal
 
 abbrev pub invariant-loop-u : goal.invariant-loop-u

@@ -1,5 +1,4 @@
 -- The five conditions of 12, one after the other.
-use native.Mathlib.Omega.{arith}
 use borrow.Author.Tests.{lt-ltb, le-ltb, eq-eqb, ne_eqb}
 use Rattle.theory.specs.Logic.Bools.{◌or◌}
 use Rattle.plan_links.specs.Refusals.{bad_size}

@@ -1,11 +1,8 @@
-use native.Mathlib.Omega.{arith}
 use Prim.Native.Nat.{◌≤◌, ◌-◌}
-use mathlib.Core.Path.{◌≡◌, sym, ◌∙◌}
+use mathlib.Core.Path.{◌≡◌}
 use lib.ListN.{length}
-use borrow.Author.Tests.{le-leb, lt-leb}
 use Rattle.theory.specs.Logic.Range.{first}
-use Rattle.theory.proofs.Logic.RangeLaws.{first_step, first_hit, first_end_lem}
-use Rattle.plan_links.specs.Refusals.{beyond, first_beyond}
+use Rattle.plan_links.specs.Refusals.{beyond}
 use Rattle.plan_links.proofs.first_beyond.Given as goal
 
 abbrev pub invariant-loop-k : goal.invariant-loop-k

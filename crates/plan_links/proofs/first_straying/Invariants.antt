@@ -1,8 +1,6 @@
-use native.Mathlib.Omega.{arith}
 use Prim.Native.Nat.{◌≤◌, ◌-◌}
-use mathlib.Core.Path.{◌≡◌, sym, ◌∙◌}
+use mathlib.Core.Path.{◌≡◌}
 use Rattle.theory.specs.Logic.Range.{first}
-use Rattle.theory.proofs.Logic.RangeLaws.{first_step, first_hit, first_end_lem}
 use Rattle.plan_links.specs.Refusals.{strays, first_stray}
 use Rattle.plan_links.proofs.first_straying.Given as goal
 

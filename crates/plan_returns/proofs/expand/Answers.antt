@@ -1,14 +1,13 @@
 -- The state is the one before, grown by the targets of the group before t. The queue has room, since it lists stamped positions, each once.
 use native.Mathlib.Omega.{arith}
-use Prim.Native.Nat.{ℕ, ◌≤◌, ◌<◌, ◌-◌, ◌+◌}
-use mathlib.Core.Path.{◌≡◌, refl, ◌∙◌}
+use Prim.Native.Nat.{ℕ, ◌≤◌, ◌<◌, ◌+◌}
+use mathlib.Core.Path.{refl}
 use mathlib.Core.List.{List}
 use lib.ListN.{length, get_or}
 use Rattle.index.specs.IndexLaws.{indexed_size, indexed_order}
 use Rattle.plan_links.specs.LinkIndexLaws.{Target, indexed_target}
-use Rattle.plan_returns.specs.Search.{Grown, followed}
 use Rattle.plan_returns.specs.SearchLaws.{queued_le, grown_none, grown_more, grown_all}
-use Rattle.plan_returns.specs.ReturnSearch.{Workspace, passes}
+use Rattle.plan_returns.specs.ReturnSearch.{Workspace}
 use Rattle.plan_returns.proofs.expand.Invariants.{Inv}
 use Rattle.plan_returns.proofs.expand.Goals as goal
 

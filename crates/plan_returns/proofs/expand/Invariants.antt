@@ -1,13 +1,9 @@
-use native.Mathlib.Omega.{arith}
-use Prim.Native.Nat.{ℕ, ◌≤◌, ◌<◌, ◌-◌, ◌+◌}
-use mathlib.Core.Path.{◌≡◌, refl, ◌∙◌}
+use Prim.Native.Nat.{ℕ, ◌≤◌, ◌-◌, ◌+◌}
+use mathlib.Core.Path.{◌≡◌}
 use mathlib.Core.List.{List}
 use lib.ListN.{length, get_or}
-use Rattle.index.specs.IndexLaws.{indexed_size, indexed_order}
-use Rattle.plan_links.specs.LinkIndexLaws.{Target, indexed_target}
 use Rattle.plan_returns.specs.Search.{Grown, followed}
-use Rattle.plan_returns.specs.SearchLaws.{queued_le, grown_none, grown_more, grown_all}
-use Rattle.plan_returns.specs.ReturnSearch.{Workspace, passes}
+use Rattle.plan_returns.specs.ReturnSearch.{passes}
 use Rattle.plan_returns.proofs.expand.Given as goal
 
 pub record Inv (starts targets priorities blocks seen₀ queue₀ : List ℕ) (p i least block stamp tail : ℕ) (seen queue : List ℕ) (t last : ℕ) : Type 0 where

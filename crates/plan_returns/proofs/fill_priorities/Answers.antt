@@ -1,9 +1,9 @@
 -- The positions before j have their priorities.
 use native.Mathlib.Omega.{arith}
-use Prim.Native.Nat.{ℕ, ◌≤◌, ◌<◌, ◌-◌, ◌+◌}
+use Prim.Native.Nat.{ℕ, ◌<◌, ◌+◌}
 use mathlib.Core.Path.{◌≡◌}
 use mathlib.Core.List.{List}
-use lib.ListN.{length, get_or, length-set}
+use lib.ListN.{length-set}
 use Rattle.plan_links.specs.PlanTable.{position_count, vertex_at}
 use Rattle.plan_links.specs.PlanFormed.{PlanFormed}
 use Rattle.plan_returns.specs.Returns.{position_priority}

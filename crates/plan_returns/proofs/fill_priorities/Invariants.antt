@@ -1,9 +1,7 @@
-use native.Mathlib.Omega.{arith}
-use Prim.Native.Nat.{ℕ, ◌≤◌, ◌<◌, ◌-◌, ◌+◌}
+use Prim.Native.Nat.{ℕ, ◌≤◌, ◌<◌, ◌-◌}
 use mathlib.Core.Path.{◌≡◌}
-use lib.ListN.{length, get_or, length-set}
+use lib.ListN.{length, get_or}
 use Rattle.plan_returns.specs.Returns.{position_priority}
-use Rattle.theory.proofs.Logic.ListLaws.{after_set}
 use Rattle.plan_returns.proofs.fill_priorities.Given as goal
 
 abbrev pub invariant-loop-j : goal.invariant-loop-j

@@ -1,17 +1,9 @@
 -- The rest of the search equals the whole; no stamp is above i; blocks confine the closed walks of the wrong parity.
 use native.Mathlib.Omega.{arith}
-use Prim.Native.Nat.{ℕ, ◌≤◌, ◌-◌}
-use mathlib.Core.Path.{◌≡◌, refl, sym, ◌∙◌}
-use mathlib.Core.List.{List}
-use lib.ListN.{length}
-use Rattle.theory.specs.Logic.Range.{first}
+use mathlib.Core.Path.{refl, sym, ◌∙◌}
 use Rattle.theory.proofs.Logic.RangeLaws.{first_step, first_hit, first_end_lem}
-use Rattle.plan_blocks.specs.Blocks.{link_by, Confined}
 use Rattle.plan_blocks.specs.BlocksLaws.{confined_one}
-use Rattle.plan_returns.specs.Search.{NoLater}
-use Rattle.plan_returns.specs.ReturnSearch.{wrong_by}
 use Rattle.plan_returns.specs.ReturnSearchLaws.{workspace_kept}
-use Rattle.plan_returns.proofs.first_returning.Invariants.{Inv}
 use Rattle.plan_returns.proofs.first_returning.Goals as goal
 
 pub loop-i-init : goal.loop-i-init

@@ -1,15 +1,11 @@
-use native.Mathlib.Omega.{arith}
 use Prim.Native.Nat.{ℕ, ◌≤◌, ◌-◌}
-use mathlib.Core.Path.{◌≡◌, refl, sym, ◌∙◌}
+use mathlib.Core.Path.{◌≡◌}
 use mathlib.Core.List.{List}
 use lib.ListN.{length}
 use Rattle.theory.specs.Logic.Range.{first}
-use Rattle.theory.proofs.Logic.RangeLaws.{first_step, first_hit, first_end_lem}
 use Rattle.plan_blocks.specs.Blocks.{link_by, Confined}
-use Rattle.plan_blocks.specs.BlocksLaws.{confined_one}
 use Rattle.plan_returns.specs.Search.{NoLater}
 use Rattle.plan_returns.specs.ReturnSearch.{wrong_by}
-use Rattle.plan_returns.specs.ReturnSearchLaws.{workspace_kept}
 use Rattle.plan_returns.proofs.first_returning.Given as goal
 
 pub record Inv (starts targets priorities blocks₀ seen₀ queue₀ : List ℕ) (p player : ℕ) (blocks seen queue : List ℕ) (i : ℕ) : Type 0 where

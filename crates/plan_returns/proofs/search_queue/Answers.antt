@@ -1,15 +1,14 @@
 -- Whatever is stamped is reached, and the links of i and of the first `head` positions in the queue were followed.
 use native.Mathlib.Omega.{arith}
-use Prim.Native.Nat.{ℕ, ◌≤◌, ◌<◌, ◌-◌, ◌+◌}
-use mathlib.Core.Path.{◌≡◌, refl, sym, ◌∙◌}
+use Prim.Native.Nat.{ℕ, ◌<◌}
+use mathlib.Core.Path.{refl, sym}
 use mathlib.Core.List.{List}
-use lib.ListN.{length, get_or}
+use lib.ListN.{get_or}
 use borrow.Author.Tests.{eq-eqb}
 use Rattle.index.specs.IndexLaws.{indexed_size}
-use Rattle.plan_blocks.specs.Blocks.{link_by}
-use Rattle.plan_returns.specs.Search.{stamped, Searched}
+use Rattle.plan_returns.specs.Search.{stamped}
 use Rattle.plan_returns.specs.SearchLaws.{queued_le, searched_more, searched_found, searched_all}
-use Rattle.plan_returns.specs.ReturnSearch.{Workspace, from_of}
+use Rattle.plan_returns.specs.ReturnSearch.{Workspace}
 use Rattle.plan_returns.specs.ReturnSearchLaws.{workspace_kept, own_passes}
 use Rattle.plan_returns.proofs.search_queue.Invariants.{Inv}
 use Rattle.plan_returns.proofs.search_queue.Goals as goal

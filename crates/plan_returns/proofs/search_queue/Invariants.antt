@@ -1,15 +1,10 @@
-use native.Mathlib.Omega.{arith}
-use Prim.Native.Nat.{ℕ, ◌≤◌, ◌<◌, ◌-◌, ◌+◌}
-use mathlib.Core.Path.{◌≡◌, refl, sym, ◌∙◌}
+use Prim.Native.Nat.{ℕ, ◌≤◌, ◌-◌, ◌+◌}
+use mathlib.Core.Path.{◌≡◌}
 use mathlib.Core.List.{List}
-use lib.ListN.{length, get_or}
-use borrow.Author.Tests.{eq-eqb}
-use Rattle.index.specs.IndexLaws.{indexed_size}
+use lib.ListN.{length}
 use Rattle.plan_blocks.specs.Blocks.{link_by}
-use Rattle.plan_returns.specs.Search.{stamped, Searched}
-use Rattle.plan_returns.specs.SearchLaws.{queued_le, searched_more, searched_found, searched_all}
-use Rattle.plan_returns.specs.ReturnSearch.{Workspace, from_of}
-use Rattle.plan_returns.specs.ReturnSearchLaws.{workspace_kept, own_passes}
+use Rattle.plan_returns.specs.Search.{Searched}
+use Rattle.plan_returns.specs.ReturnSearch.{from_of}
 use Rattle.plan_returns.proofs.search_queue.Given as goal
 
 pub record Inv (starts targets priorities blocks : List ℕ) (i : ℕ) (seen₀ queue₀ : List ℕ) (p : ℕ) (seen queue : List ℕ) (head tail : ℕ) : Type 0 where

@@ -1,11 +1,8 @@
 -- Invariant: each row is met with the rows of the members below v of the class of its vertex.
-use mathlib.Core.Path.{◌≡◌, refl, sym, ◌∙◌}
-use Prim.Native.Nat.{◌-◌, ◌≤◌}
+use mathlib.Core.Path.{◌≡◌, refl, ◌∙◌}
 use native.Mathlib.Omega.{arith}
-use lib.ListN.{length}
-use Rattle.table.specs.Table.{game_of, vertex_count}
+use Rattle.table.specs.Table.{vertex_count}
 use Rattle.table.specs.TableLaws.{game_n}
-use Rattle.reduction_rows.specs.Reached.{MembersMet, lowest_of}
 use Rattle.reduction_rows.specs.ReachedLaws.{class_inside, lowest_read, lowest_inside, row_inside}
 use Rattle.reduction_rows.specs.MetLaws.{members_start, members_next}
 use Rattle.std.proofs.Common.{rules}

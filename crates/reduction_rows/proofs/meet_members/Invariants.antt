@@ -1,12 +1,8 @@
-use mathlib.Core.Path.{◌≡◌, refl, sym, ◌∙◌}
+use mathlib.Core.Path.{◌≡◌}
 use Prim.Native.Nat.{◌-◌, ◌≤◌}
-use native.Mathlib.Omega.{arith}
 use lib.ListN.{length}
-use Rattle.table.specs.Table.{game_of, vertex_count}
-use Rattle.table.specs.TableLaws.{game_n}
-use Rattle.reduction_rows.specs.Reached.{MembersMet, lowest_of}
-use Rattle.reduction_rows.specs.ReachedLaws.{class_inside, lowest_read, lowest_inside, row_inside}
-use Rattle.reduction_rows.specs.MetLaws.{members_start, members_next}
+use Rattle.table.specs.Table.{game_of}
+use Rattle.reduction_rows.specs.Reached.{MembersMet}
 use Rattle.reduction_rows.proofs.meet_members.Given as goal
 
 abbrev pub invariant-loop-v : goal.invariant-loop-v

@@ -1,9 +1,7 @@
 -- The first k words of row r are met with those of row v, and no other word is changed.
-use mathlib.Core.Path.{◌≡◌, refl}
-use Prim.Native.Nat.{◌-◌, ◌≤◌}
+use mathlib.Core.Path.{refl}
 use native.Mathlib.Omega.{arith}
-use lib.ListN.{length}
-use Rattle.reduction_rows.specs.MetLaws.{PartMet, part_start, part_next, part_end}
+use Rattle.reduction_rows.specs.MetLaws.{part_start, part_next, part_end}
 use Rattle.std.proofs.Common.{rules}
 use Rattle.reduction_rows.proofs.meet_row.Goals as goal
 

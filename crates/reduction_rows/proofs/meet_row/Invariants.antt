@@ -1,8 +1,7 @@
-use mathlib.Core.Path.{◌≡◌, refl}
+use mathlib.Core.Path.{◌≡◌}
 use Prim.Native.Nat.{◌-◌, ◌≤◌}
-use native.Mathlib.Omega.{arith}
 use lib.ListN.{length}
-use Rattle.reduction_rows.specs.MetLaws.{PartMet, part_start, part_next, part_end}
+use Rattle.reduction_rows.specs.MetLaws.{PartMet}
 use Rattle.reduction_rows.proofs.meet_row.Given as goal
 
 abbrev pub invariant-loop-k : goal.invariant-loop-k

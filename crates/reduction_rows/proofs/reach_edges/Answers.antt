@@ -1,10 +1,8 @@
 -- Invariant: the words hold the places of the edges before j.
-use mathlib.Core.Path.{◌≡◌, refl, ◌∙◌}
-use Prim.Native.Nat.{◌-◌, ◌≤◌}
+use mathlib.Core.Path.{◌≡◌, refl}
 use native.Mathlib.Omega.{arith}
-use lib.ListN.{length}
 use Rattle.table.specs.Table.{table_edges}
-use Rattle.reduction_rows.specs.ReachedLaws.{Placed, placed_none, placed_more, placed_reach}
+use Rattle.reduction_rows.specs.ReachedLaws.{placed_none, placed_more, placed_reach}
 use Rattle.std.proofs.Common.{rules}
 use Rattle.reduction_rows.proofs.reach_edges.Goals as goal
 

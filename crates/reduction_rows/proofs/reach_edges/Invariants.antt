@@ -1,9 +1,7 @@
-use mathlib.Core.Path.{◌≡◌, refl, ◌∙◌}
+use mathlib.Core.Path.{◌≡◌}
 use Prim.Native.Nat.{◌-◌, ◌≤◌}
-use native.Mathlib.Omega.{arith}
 use lib.ListN.{length}
-use Rattle.table.specs.Table.{table_edges}
-use Rattle.reduction_rows.specs.ReachedLaws.{Placed, placed_none, placed_more, placed_reach}
+use Rattle.reduction_rows.specs.ReachedLaws.{Placed}
 use Rattle.reduction_rows.proofs.reach_edges.Given as goal
 
 abbrev pub invariant-loop-j : goal.invariant-loop-j

@@ -1,6 +1,4 @@
 -- The rows hold what each vertex reaches, and then what all members of a class reach.
-use mathlib.Core.Path.{◌≡◌}
-use native.Mathlib.Omega.{arith}
 use Rattle.table.specs.Table.{game_of}
 use Rattle.reduction_rows.specs.ReachedLaws.{rows_reach}
 use Rattle.reduction_rows.proofs.reach_rows.Goals as goal

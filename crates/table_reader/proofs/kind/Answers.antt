@@ -5,8 +5,6 @@ use native.Mathlib.Omega.{arith}
 use Rattle.table.specs.Kind.{kind_of}
 use Rattle.table.specs.KindLaws.{within_in, within_fails}
 use Rattle.table_reader.proofs.kind.Goals as goal
-use Rattle.table_reader.proofs.kind.Lts as lts
-use Rattle.table_reader.proofs.kind.Reads as reads
 
 pub returns-in-1-to-8 : goal.returns-in-1-to-8
 unfolding kind_of

@@ -1,7 +1,6 @@
 -- The verdict on the sizes is handed on, with the number of different edges where it accepts.
 use mathlib.Core.Path.{sym}
 use mathlib.Core.List.{[]}
-use Rattle.table.specs.WellFormed.{WellSized}
 use Rattle.table.specs.Reading.{game_rows_by, read_answer}
 use Rattle.table.specs.ReadingLaws.{reading_accepted, reading_stays, read_accepts}
 use Rattle.table.specs.FlagsLaws.{well_sized, well_inside}

@@ -1,5 +1,5 @@
 -- Each side of the `or` is one of the code's tests.
-use Rattle.std.proofs.Common.{◌≡◌, false, sym, ◌∙◌, arith, rules}
+use Rattle.std.proofs.Common.{◌≡◌, false, sym, ◌∙◌, arith}
 use Rattle.theory.specs.Logic.Bools.{◌or◌}
 use Rattle.table.specs.Limits.{vertex_limit}
 use Rattle.table_seed.specs.GeneratorLaws.{product_lt}

@@ -1,5 +1,5 @@
 -- Each way out is a row of the call's table of refusals, or the table written.
-use Rattle.std.proofs.Common.{◌≡◌, false, sym, ◌∙◌, arith, rules}
+use Rattle.std.proofs.Common.{◌≡◌, false, sym, ◌∙◌, arith}
 use Rattle.table_seed.specs.GeneratorLaws.{product_lt}
 use Rattle.table_seed.specs.SeedCall.{unfit}
 use Rattle.table_seed.specs.SeedCallLaws.{seed_unfit, seed_short, seed_done}

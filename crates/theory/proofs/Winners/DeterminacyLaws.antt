@@ -8,7 +8,7 @@ use Rattle.theory.specs.Games.Game.{Player, even, odd, other, same, Game, Total,
 use Rattle.theory.proofs.Games.GameLaws.{same_out, same_fails, total_in, total_out}
 use Rattle.theory.specs.Plans.Plan.{Won, WonSmall}
 use Rattle.theory.proofs.Winners.WinnerLaws.{one_winner}
-use Rattle.theory.specs.Winners.Region.{none, whole, Solution}
+use Rattle.theory.specs.Winners.Region.{whole, Solution}
 use Rattle.theory.proofs.Winners.RegionPlanLaws.{whole_in, whole_subgame, region_won}
 use Rattle.theory.proofs.Winners.Winner.{winner_by}
 pub use Rattle.theory.proofs.Winners.Winner.{solve, winner}

@@ -1,7 +1,7 @@
 -- Who wins at a vertex of a total game, by Zielonka's recursion (laws in `DeterminacyLaws`):
 -- a is the player of the lowest priority's parity, A what a attracts to the vertices that have it, and the subgame without A is solved. Where
 -- the opponent wins nothing there, a wins everywhere; else the opponent wins that in the whole, and the subgame without its attractor is solved.
-use Rattle.std.specs.Prelude.{◌≡◌, refl, ◌⊎◌, true, false, not, cond, ℕ, zero, suc, ◌≤◌, ◌<◌, eqb}
+use Rattle.std.specs.Prelude.{◌≡◌, refl, ◌⊎◌, false, not, cond, ℕ, zero, suc, ◌≤◌, ◌<◌, eqb}
 use Rattle.std.proofs.Common.{sym, ap, ◌∙◌, subst, le_refl, arith}
 use Rattle.std.proofs.Math.Logic.{inl, inr}
 use Rattle.std.proofs.Math.Bool.{So, not-not}

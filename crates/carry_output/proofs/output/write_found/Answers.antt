@@ -13,7 +13,7 @@ pub returns-then-output-needed : goal.returns-then-output-needed
 returns-then-output-needed c = found_short _ _ _ _ _ _ c.if-p-gt-POSITIONS.false c.if-l-gt-LINKS.false c.if-output-needed.true
 
 pub write_plan-requires : goal.write_plan-requires
-write_plan-requires c = record { p_le_position_limit = (c.if-p-gt-POSITIONS.false, c.if-l-gt-LINKS.false, c.requires); l_in_bounds = c.if-output-needed.false; }
+write_plan-requires c = record { p_le_position_limit = (c.if-p-gt-POSITIONS.false, c.if-l-gt-LINKS.false, c.requires); l_in_bounds = c.if-output-needed.false }
 
 pub returns : goal.returns
 returns c = found_written _ _ _ _ _ _ c.if-p-gt-POSITIONS.false c.if-l-gt-LINKS.false c.if-output-needed.false _ c.write_plan.ensures

@@ -1,6 +1,5 @@
 -- Invariant: the classes whose lowest member is v or above have it.
 use mathlib.Core.Path.{◌≡◌, refl, sym, subst}
-use mathlib.Core.List.{List}
 use Prim.Native.Nat.{ℕ, ◌+◌, ◌-◌, ◌≤◌, ◌<◌}
 use native.Mathlib.Omega.{arith}
 use lib.ListN.{length, get_or, set, length-set}
@@ -11,7 +10,6 @@ use Rattle.theory.proofs.Classes.ClassLaws.{class_number_lt, class_count_le}
 use Rattle.table.specs.Table.{vertex_count, game_of}
 use Rattle.carry_output.specs.CarryParts.{LowestFrom}
 use Rattle.carry_output.specs.LowestLaws.{lowest_none, lowest_more, lowest_all}
-use Rattle.carry_output.proofs.seats.fill_lowest.Invariants.{Inv}
 use Rattle.carry_output.proofs.seats.fill_lowest.Goals as goal
 use Rattle.carry_output.proofs.seats.fill_lowest.Lts as lts
 use Rattle.carry_output.proofs.seats.fill_lowest.Reads as reads

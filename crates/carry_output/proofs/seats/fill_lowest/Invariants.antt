@@ -1,15 +1,10 @@
-use mathlib.Core.Path.{◌≡◌, refl, sym, subst}
+use mathlib.Core.Path.{◌≡◌}
 use mathlib.Core.List.{List}
-use Prim.Native.Nat.{ℕ, ◌+◌, ◌-◌, ◌≤◌, ◌<◌}
-use native.Mathlib.Omega.{arith}
-use lib.ListN.{length, get_or, set, length-set}
+use Prim.Native.Nat.{ℕ, ◌≤◌}
+use lib.ListN.{length}
 use Rattle.theory.specs.Order.Order.{order}
-use Rattle.theory.specs.Classes.Reduction.{class_number}
-use Rattle.theory.proofs.Classes.QuotientLaws.{order_preorder}
-use Rattle.theory.proofs.Classes.ClassLaws.{class_number_lt, class_count_le}
 use Rattle.table.specs.Table.{vertex_count, game_of}
 use Rattle.carry_output.specs.CarryParts.{LowestFrom}
-use Rattle.carry_output.specs.LowestLaws.{lowest_none, lowest_more, lowest_all}
 use Rattle.carry_output.proofs.seats.fill_lowest.Given as goal
 
 pub record Inv (game reps₀ reps : List ℕ) (v : ℕ) : Type 0 where

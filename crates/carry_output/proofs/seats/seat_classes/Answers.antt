@@ -32,11 +32,11 @@ member c i h =
 
 pub fill_lowest-requires : goal.fill_lowest-requires
 unfolding ClassesFor
-fill_lowest-requires c = record { well_formed = (c.requires.carriable.well, c.requires.carriable.classed); game_in_bounds = omega (arith, c.requires.carriable.well.vertices, length-replicate {A = ℕ} vertex_limit 0); }
+fill_lowest-requires c = record { well_formed = (c.requires.carriable.well, c.requires.carriable.classed); game_in_bounds = omega (arith, c.requires.carriable.well.vertices, length-replicate {A = ℕ} vertex_limit 0) }
 
 pub gather-requires : goal.gather-requires
 gather-requires c = let p = position_count c.args.plan.now in
-    record { count_in_bounds = (omega (arith, c.requires.plan_in_bounds), omega (arith, c.requires.plan_in_bounds, c.requires.carriable.formed.sized.size, length_part c.args.plan.now p (omega (arith, c.requires.carriable.formed.sized.size)))); by_index = λ i h. omega (arith, part_vertex c.args.plan.now p i h, (member c.before.before.before.before.before i h).0); }
+    record { count_in_bounds = (omega (arith, c.requires.plan_in_bounds), omega (arith, c.requires.plan_in_bounds, c.requires.carriable.formed.sized.size, length_part c.args.plan.now p (omega (arith, c.requires.carriable.formed.sized.size)))); by_index = λ i h. omega (arith, part_vertex c.args.plan.now p i h, (member c.before.before.before.before.before i h).0) }
 
 pub returns : goal.returns
 returns c = seats_gathered _ _ c.fill_lowest.new.reps (λ i h. (member c.before.before.before.before.before.before.before.before i h).1) _ _ c.gather.ensures

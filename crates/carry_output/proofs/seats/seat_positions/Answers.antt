@@ -8,7 +8,7 @@ use Rattle.carry_output.specs.CarryPartsLaws.{length_part, seats_copied}
 use Rattle.carry_output.proofs.seats.seat_positions.Goals as goal
 
 pub seat_classes-requires : goal.seat_classes-requires
-seat_classes-requires c = record { carriable = subst (λ (b : Bool). Carriable b c.args.game.now c.args.plan.now c.args.classes.now) c.if-by_class.true c.requires.carriable; plan_in_bounds = c.requires.plan_in_bounds; }
+seat_classes-requires c = record { carriable = subst (λ (b : Bool). Carriable b c.args.game.now c.args.plan.now c.args.classes.now) c.if-by_class.true c.requires.carriable; plan_in_bounds = c.requires.plan_in_bounds }
 
 pub returns-then-by_class : goal.returns-then-by_class
 returns-then-by_class c = subst (λ (b : Bool). Seats b c.args.game.now c.args.plan.now c.seat_classes.new.seats) (sym c.if-by_class.true) c.seat_classes.ensures

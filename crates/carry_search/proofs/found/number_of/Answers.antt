@@ -3,7 +3,7 @@ use Prim.Native.Nat.{◌+◌, ◌-◌}
 use native.Mathlib.Omega.{arith}
 use Rattle.carry_search.specs.Work.{heads_at, nexts_at}
 use Rattle.carry_search.specs.WorkLaws.{ready_long}
-use Rattle.carry_search.specs.WalkLaws.{Along, along_start, along_room, along_hit, along_less, along_next, along_end}
+use Rattle.carry_search.specs.WalkLaws.{along_start, along_room, along_hit, along_less, along_next, along_end}
 use Rattle.carry_search.proofs.found.number_of.Goals as goal
 
 pub chain_of-requires : goal.chain_of-requires

@@ -1,12 +1,7 @@
-use Rattle.marks.specs.Marks.{InMarks}
 use Rattle.theory.specs.Logic.Range.{any_from}
-use Rattle.theory.proofs.Logic.RangeLaws.{from_in, from_end, from_step}
 use Rattle.marks.specs.MarkSearch.{has_mark}
-use native.Mathlib.Omega.{arith}
-use native.Mathlib.Nat.{le_refl}
-use mathlib.Core.Path.{◌≡◌, sym, ◌∙◌}
-use Prim.Native.Nat.{◌+◌, ◌-◌, ◌*◌, ◌≤◌}
-use lib.ListN.{get_or}
+use mathlib.Core.Path.{◌≡◌}
+use Prim.Native.Nat.{◌-◌, ◌≤◌}
 use Rattle.marks.proofs.packed.finds.Given as goal
 
 abbrev pub invariant-loop-k : goal.invariant-loop-k

@@ -1,9 +1,8 @@
 -- k bytes are read: the next one is moved above their bits, where none is set.
 use mathlib.Core.Path.{◌≡◌}
-use Prim.Native.Nat.{◌+◌, ◌-◌, ◌*◌, ◌^◌, ◌<◌, ◌≤◌}
+use Prim.Native.Nat.{◌+◌, ◌^◌, ◌<◌}
 use native.Mathlib.Omega.{arith}
 use lib.ListN.{get_or}
-use Rattle.marks.specs.MarkReading.{BitsRead}
 use Rattle.marks.specs.MarkReadingLaws.{read_none, read_byte}
 use Rattle.std.proofs.Common.{rules}
 use Rattle.marks.proofs.reading.read_whole.Goals as goal

@@ -1,9 +1,5 @@
-use mathlib.Core.Path.{◌≡◌}
-use Prim.Native.Nat.{◌+◌, ◌-◌, ◌*◌, ◌^◌, ◌<◌, ◌≤◌}
-use native.Mathlib.Omega.{arith}
-use lib.ListN.{get_or}
+use Prim.Native.Nat.{◌-◌, ◌*◌, ◌≤◌}
 use Rattle.marks.specs.MarkReading.{BitsRead}
-use Rattle.marks.specs.MarkReadingLaws.{read_none, read_byte}
 use Rattle.marks.proofs.reading.read_whole.Given as goal
 
 abbrev pub invariant-loop-k : goal.invariant-loop-k

@@ -1,10 +1,6 @@
-use native.Mathlib.Omega.{arith}
-use native.Mathlib.Nat.{le_refl, mul-le-mul}
-use mathlib.Core.Path.{◌≡◌, sym, ◌∙◌}
+use mathlib.Core.Path.{◌≡◌}
 use Prim.Native.Nat.{◌-◌, ◌≤◌}
-use lib.ListN.{get_or}
 use Rattle.theory.specs.Logic.Range.{any_from}
-use Rattle.theory.proofs.Logic.RangeLaws.{from_in, from_end, from_step}
 use Rattle.marks.specs.MarkSearch.{search_ends}
 use Rattle.marks.proofs.test.some_ends.Given as goal
 

@@ -1,10 +1,7 @@
 -- The first i bytes are copied, and the rest of the buffer is as before.
 use mathlib.Core.Path.{◌≡◌, refl}
-use Prim.Native.Nat.{◌-◌, ◌≤◌}
 use native.Mathlib.Omega.{arith}
-use lib.ListN.{length, length-set, get_or}
-use Rattle.theory.specs.Logic.Range.{tabulate}
-use Rattle.table.specs.Answers.{written}
+use lib.ListN.{length-set, get_or}
 use Rattle.table.specs.AnswersLaws.{written_start, written_more}
 use Rattle.std.proofs.Common.{rules}
 use Rattle.marks.proofs.writing.copy_marks.Goals as goal

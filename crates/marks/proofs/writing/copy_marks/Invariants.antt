@@ -1,10 +1,8 @@
-use mathlib.Core.Path.{◌≡◌, refl}
+use mathlib.Core.Path.{◌≡◌}
 use Prim.Native.Nat.{◌-◌, ◌≤◌}
-use native.Mathlib.Omega.{arith}
-use lib.ListN.{length, length-set, get_or}
+use lib.ListN.{length, get_or}
 use Rattle.theory.specs.Logic.Range.{tabulate}
 use Rattle.table.specs.Answers.{written}
-use Rattle.table.specs.AnswersLaws.{written_start, written_more}
 use Rattle.marks.proofs.writing.copy_marks.Given as goal
 
 abbrev pub invariant-loop-i : goal.invariant-loop-i

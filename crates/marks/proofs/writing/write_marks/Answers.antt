@@ -1,13 +1,8 @@
 -- Before v, the marks of the v × n pairs of the rows before v are written; a row adds the n marks that follow them.
 use mathlib.Core.Path.{◌≡◌, refl, ◌∙◌}
-use Prim.Native.Nat.{◌-◌, ◌*◌, ◌≤◌}
 use native.Mathlib.Nat.{zero-mul}
 use native.Mathlib.Omega.{arith}
-use lib.ListN.{length}
-use Rattle.theory.specs.Logic.Range.{tabulate}
-use Rattle.table.specs.Answers.{written}
 use Rattle.order_rows.specs.Bits.{cell}
-use Rattle.marks.specs.Marks.{bytes}
 use Rattle.marks.specs.MarkWriting.{row_mark}
 use Rattle.marks.specs.MarkWritingLaws.{held_none, rows_next}
 use Rattle.std.proofs.Common.{rules}

@@ -1,14 +1,11 @@
-use mathlib.Core.Path.{◌≡◌, refl, ◌∙◌}
+use mathlib.Core.Path.{◌≡◌}
 use Prim.Native.Nat.{◌-◌, ◌*◌, ◌≤◌}
-use native.Mathlib.Nat.{zero-mul}
-use native.Mathlib.Omega.{arith}
 use lib.ListN.{length}
 use Rattle.theory.specs.Logic.Range.{tabulate}
 use Rattle.table.specs.Answers.{written}
 use Rattle.order_rows.specs.Bits.{cell}
 use Rattle.marks.specs.Marks.{bytes}
 use Rattle.marks.specs.MarkWriting.{row_mark}
-use Rattle.marks.specs.MarkWritingLaws.{held_none, rows_next}
 use Rattle.marks.proofs.writing.write_marks.Given as goal
 
 abbrev pub invariant-loop-v : goal.invariant-loop-v

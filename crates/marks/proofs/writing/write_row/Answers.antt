@@ -1,12 +1,10 @@
 -- The marks of row v before w are written. Below n, w is a multiple of 64, so the bits of a word are the marks from (v, w) on.
 use mathlib.Core.Path.{◌≡◌, refl, ◌∙◌}
-use Prim.Native.Nat.{◌+◌, ◌-◌, ◌*◌, ◌%◌, ◌≤◌, ◌<◌}
+use Prim.Native.Nat.{◌+◌, ◌*◌, ◌≤◌}
 use native.Mathlib.Nat.{mul-le-mul}
 use native.Mathlib.Omega.{arith}
-use lib.ListN.{length}
 use Rattle.table.specs.Limits.{pair_limit}
 use Rattle.order_rows.specs.Bits.{cell}
-use Rattle.marks.specs.MarkWriting.{RowWritten}
 use Rattle.marks.specs.MarkWritingLaws.{row_inside, row_start_lem, row_next, cells_are}
 use Rattle.std.proofs.Common.{rules}
 use Rattle.marks.proofs.writing.write_row.Goals as goal

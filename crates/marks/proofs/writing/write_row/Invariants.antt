@@ -1,12 +1,8 @@
-use mathlib.Core.Path.{◌≡◌, refl, ◌∙◌}
-use Prim.Native.Nat.{◌+◌, ◌-◌, ◌*◌, ◌%◌, ◌≤◌, ◌<◌}
-use native.Mathlib.Nat.{mul-le-mul}
-use native.Mathlib.Omega.{arith}
+use mathlib.Core.Path.{◌≡◌}
+use Prim.Native.Nat.{◌-◌, ◌%◌, ◌≤◌, ◌<◌}
 use lib.ListN.{length}
-use Rattle.table.specs.Limits.{pair_limit}
 use Rattle.order_rows.specs.Bits.{cell}
 use Rattle.marks.specs.MarkWriting.{RowWritten}
-use Rattle.marks.specs.MarkWritingLaws.{row_inside, row_start_lem, row_next, cells_are}
 use Rattle.marks.proofs.writing.write_row.Given as goal
 
 abbrev pub invariant-loop-w : goal.invariant-loop-w

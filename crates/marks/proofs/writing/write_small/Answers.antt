@@ -1,13 +1,10 @@
 -- Before v, the marks of the v × n pairs of the rows before v are written; the bits of word v are the n marks that follow them.
 use mathlib.Core.Path.{◌≡◌, refl, ◌∙◌}
-use Prim.Native.Nat.{◌+◌, ◌-◌, ◌*◌, ◌≤◌}
+use Prim.Native.Nat.{◌+◌, ◌*◌, ◌≤◌}
 use native.Mathlib.Nat.{zero-mul, mul-le-mul}
 use native.Mathlib.Omega.{arith}
-use lib.ListN.{length, get_or}
-use Rattle.theory.specs.Logic.Range.{tabulate}
-use Rattle.table.specs.Answers.{written}
+use lib.ListN.{get_or}
 use Rattle.words.specs.Word.{word_bits, digit}
-use Rattle.marks.specs.Marks.{bytes}
 use Rattle.marks.specs.MarkWriting.{row_mark}
 use Rattle.marks.specs.MarkWritingLaws.{held_none, row_inside, row_whole, rows_next}
 use Rattle.std.proofs.Common.{rules}

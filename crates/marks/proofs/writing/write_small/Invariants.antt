@@ -1,14 +1,11 @@
-use mathlib.Core.Path.{◌≡◌, refl, ◌∙◌}
-use Prim.Native.Nat.{◌+◌, ◌-◌, ◌*◌, ◌≤◌}
-use native.Mathlib.Nat.{zero-mul, mul-le-mul}
-use native.Mathlib.Omega.{arith}
+use mathlib.Core.Path.{◌≡◌}
+use Prim.Native.Nat.{◌-◌, ◌*◌, ◌≤◌}
 use lib.ListN.{length, get_or}
 use Rattle.theory.specs.Logic.Range.{tabulate}
 use Rattle.table.specs.Answers.{written}
-use Rattle.words.specs.Word.{word_bits, digit}
+use Rattle.words.specs.Word.{digit}
 use Rattle.marks.specs.Marks.{bytes}
 use Rattle.marks.specs.MarkWriting.{row_mark}
-use Rattle.marks.specs.MarkWritingLaws.{held_none, row_inside, row_whole, rows_next}
 use Rattle.marks.proofs.writing.write_small.Given as goal
 
 abbrev pub invariant-loop-v : goal.invariant-loop-v

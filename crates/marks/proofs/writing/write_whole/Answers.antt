@@ -1,11 +1,10 @@
 -- k bytes of the word are written, and `rest` is the word shifted by 8 × k, so its lowest byte is the next one.
 use mathlib.Core.Path.{◌≡◌, refl, sym, ap, ◌∙◌}
-use Prim.Native.Nat.{ℕ, ◌-◌, ◌*◌, ◌/◌, ◌^◌, ◌≤◌}
+use Prim.Native.Nat.{ℕ, ◌/◌, ◌^◌}
 use native.Mathlib.Nat.{div-one}
 use native.Mathlib.Omega.{arith}
 use lib.Bits.{and_le_r}
-use lib.ListN.{length, length-set}
-use Rattle.marks.specs.MarkWriting.{BitsWritten}
+use lib.ListN.{length-set}
 use Rattle.marks.specs.MarkWritingLaws.{bits_start, bits_byte, left_byte}
 use Rattle.std.proofs.Common.{rules}
 use Rattle.marks.proofs.writing.write_whole.Goals as goal

@@ -1,11 +1,7 @@
-use mathlib.Core.Path.{◌≡◌, refl, sym, ap, ◌∙◌}
-use Prim.Native.Nat.{ℕ, ◌-◌, ◌*◌, ◌/◌, ◌^◌, ◌≤◌}
-use native.Mathlib.Nat.{div-one}
-use native.Mathlib.Omega.{arith}
-use lib.Bits.{and_le_r}
-use lib.ListN.{length, length-set}
+use mathlib.Core.Path.{◌≡◌}
+use Prim.Native.Nat.{◌-◌, ◌*◌, ◌/◌, ◌^◌, ◌≤◌}
+use lib.ListN.{length}
 use Rattle.marks.specs.MarkWriting.{BitsWritten}
-use Rattle.marks.specs.MarkWritingLaws.{bits_start, bits_byte, left_byte}
 use Rattle.marks.proofs.writing.write_whole.Given as goal
 
 abbrev pub invariant-loop-k : goal.invariant-loop-k

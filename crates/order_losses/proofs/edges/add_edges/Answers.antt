@@ -4,10 +4,8 @@ use Rattle.table.specs.WellFormed.{WellFormed}
 use Rattle.table.specs.Table.{table_edges, source_at, target_at}
 use Rattle.order_rows.specs.Bits.{row_bits}
 use mathlib.Core.Path.{◌≡◌, refl, ◌∙◌}
-use Prim.Native.Nat.{◌-◌, ◌≤◌, ◌<◌}
+use Prim.Native.Nat.{◌<◌}
 use native.Mathlib.Omega.{arith}
-use lib.ListN.{length}
-use Rattle.order_losses.specs.Losses.{EdgesTo}
 use Rattle.order_sets.specs.EdgesLaws.{edges_start, edges_next}
 use Rattle.std.proofs.Common.{rules}
 use Rattle.order_losses.proofs.edges.add_edges.Goals as goal

@@ -1,13 +1,12 @@
 -- The first j words of `out` are done. Word j gets the bits of `near` that are the player's and, of the others, those whose rows do not meet x.
 use mathlib.Core.Path.{refl, sym, ap, ap₂, ◌∙◌}
 use mathlib.Core.Bool.{not}
-use Prim.Native.Nat.{◌+◌, ◌-◌, ◌*◌, ◌≤◌}
+use Prim.Native.Nat.{◌+◌, ◌*◌}
 use Rattle.theory.specs.Logic.Bools.{◌&◌, ◌or◌}
 use Rattle.words.specs.WordLaws.{digit_or, digit_and, digit_less}
 use Rattle.words.specs.WordsLaws.{has_at}
-use Rattle.order_rows.specs.Bits.{row_words, apart}
-use Rattle.order_rows.specs.RowLaws.{Filled, filled_start, filled_next, filled_end}
-use Rattle.order_losses.specs.Losses.{falling_rows}
+use Rattle.order_rows.specs.Bits.{apart}
+use Rattle.order_rows.specs.RowLaws.{filled_start, filled_next, filled_end}
 use Rattle.std.proofs.Common.{rules}
 use Rattle.order_losses.proofs.edges.falling.Goals as goal
 

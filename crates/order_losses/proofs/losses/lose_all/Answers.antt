@@ -1,12 +1,10 @@
 -- Before word j, the losses of the vertices of `near` below 64 × j are written; each word adds those of its 64 vertices.
 use mathlib.Core.Path.{◌≡◌, refl, sym, ◌∙◌}
-use Prim.Native.Nat.{◌+◌, ◌-◌, ◌*◌, ◌≤◌}
+use Prim.Native.Nat.{◌+◌, ◌*◌}
 use native.Mathlib.Omega.{arith}
-use lib.ListN.{length}
 use Rattle.words.specs.Words.{has}
 use Rattle.order_rows.specs.Bits.{row_bits, row_words}
 use Rattle.order_rows.specs.MatrixLaws.{cell_row}
-use Rattle.order_losses.specs.Losses.{LossesTo}
 use Rattle.order_sets.specs.LossesLaws.{losses_start}
 use Rattle.order_losses.proofs.losses.lose_all.Goals as goal
 

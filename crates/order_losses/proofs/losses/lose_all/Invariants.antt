@@ -1,12 +1,8 @@
-use mathlib.Core.Path.{◌≡◌, refl, sym, ◌∙◌}
-use Prim.Native.Nat.{◌+◌, ◌-◌, ◌*◌, ◌≤◌}
-use native.Mathlib.Omega.{arith}
+use mathlib.Core.Path.{◌≡◌}
+use Prim.Native.Nat.{◌-◌, ◌*◌, ◌≤◌}
 use lib.ListN.{length}
-use Rattle.words.specs.Words.{has}
-use Rattle.order_rows.specs.Bits.{row_bits, row_words}
-use Rattle.order_rows.specs.MatrixLaws.{cell_row}
+use Rattle.order_rows.specs.Bits.{row_words}
 use Rattle.order_losses.specs.Losses.{LossesTo}
-use Rattle.order_sets.specs.LossesLaws.{losses_start}
 use Rattle.order_losses.proofs.losses.lose_all.Given as goal
 
 abbrev pub invariant-loop-j : goal.invariant-loop-j

@@ -1,16 +1,9 @@
-use mathlib.Core.Path.{◌≡◌, refl, sym, ◌∙◌}
-use mathlib.Core.Bool.{So}
+use mathlib.Core.Path.{◌≡◌}
 use Prim.Native.Nat.{◌+◌, ◌*◌}
-use native.Mathlib.Omega.{arith}
 use lib.ListN.{length, get_or}
 use Rattle.words.specs.Word.{lowest_bit}
-use Rattle.words.specs.Words.{has}
-use Rattle.words.specs.LeftLaws.{Onward, onward_start, onward_here, onward_next, lowest_none}
-use Rattle.words.specs.WordsLaws.{has_at}
+use Rattle.words.specs.LeftLaws.{Onward}
 use Rattle.order_losses.specs.Losses.{LossesTo}
-use Rattle.order_sets.specs.LossesLaws.{losses_step, word_start, word_next}
-use Rattle.order_rows.specs.Bits.{row_bits}
-use Rattle.order_rows.specs.MatrixLaws.{added_alone}
 use Rattle.order_losses.proofs.losses.lose_word.Given as goal
 
 abbrev pub invariant-loop-left : goal.invariant-loop-left

@@ -1,9 +1,6 @@
 -- The first j words of `out` are done; word j gets the bits of the 64 vertices from 64 × j on.
 use mathlib.Core.Path.{refl}
-use Prim.Native.Nat.{◌-◌, ◌≤◌}
-use Rattle.order_rows.specs.Bits.{row_words}
-use Rattle.order_rows.specs.RowLaws.{Filled, filled_start, filled_next, filled_end}
-use Rattle.order_sets.specs.Losses.{differs}
+use Rattle.order_rows.specs.RowLaws.{filled_start, filled_next, filled_end}
 use Rattle.std.proofs.Common.{rules}
 use Rattle.order_losses.proofs.values.differing.Goals as goal
 

@@ -1,7 +1,6 @@
-use mathlib.Core.Path.{refl}
 use Prim.Native.Nat.{◌-◌, ◌≤◌}
 use Rattle.order_rows.specs.Bits.{row_words}
-use Rattle.order_rows.specs.RowLaws.{Filled, filled_start, filled_next, filled_end}
+use Rattle.order_rows.specs.RowLaws.{Filled}
 use Rattle.order_sets.specs.Losses.{differs}
 use Rattle.order_losses.proofs.values.differing.Given as goal
 

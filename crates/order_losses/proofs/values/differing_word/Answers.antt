@@ -1,14 +1,13 @@
 -- The bits of the vertices from `base` to w are done and those from w on are 0; the word has no vertex from `end` on.
-use mathlib.Core.Path.{◌≡◌, sym, ap, ◌∙◌}
+use mathlib.Core.Path.{sym, ap, ◌∙◌}
 use mathlib.Core.Bool.{not}
-use Prim.Native.Nat.{ℕ, ◌+◌, ◌-◌, ◌≤◌, ◌<◌}
+use Prim.Native.Nat.{◌+◌, ◌-◌}
 use native.Mathlib.Omega.{arith}
 use lib.Dec.{eqb}
 use lib.ListN.{get_or}
 use Rattle.theory.specs.Logic.Bools.{◌&◌, ◌or◌}
-use Rattle.words.specs.Word.{word_bits, digit}
 use Rattle.words.specs.WordLaws.{digit_zero}
-use Rattle.order_losses.specs.ValuesLaws.{differs_to, differs_start, differs_next, differs_end}
+use Rattle.order_losses.specs.ValuesLaws.{differs_start, differs_next, differs_end}
 use Rattle.std.proofs.Common.{rules}
 use Rattle.order_losses.proofs.values.differing_word.Goals as goal
 

@@ -1,13 +1,7 @@
-use mathlib.Core.Path.{◌≡◌, sym, ap, ◌∙◌}
-use mathlib.Core.Bool.{not}
-use Prim.Native.Nat.{ℕ, ◌+◌, ◌-◌, ◌≤◌, ◌<◌}
-use native.Mathlib.Omega.{arith}
-use lib.Dec.{eqb}
-use lib.ListN.{get_or}
-use Rattle.theory.specs.Logic.Bools.{◌&◌, ◌or◌}
+use mathlib.Core.Path.{◌≡◌}
+use Prim.Native.Nat.{ℕ, ◌-◌, ◌≤◌, ◌<◌}
 use Rattle.words.specs.Word.{word_bits, digit}
-use Rattle.words.specs.WordLaws.{digit_zero}
-use Rattle.order_losses.specs.ValuesLaws.{differs_to, differs_start, differs_next, differs_end}
+use Rattle.order_losses.specs.ValuesLaws.{differs_to}
 use Rattle.order_losses.proofs.values.differing_word.Given as goal
 
 abbrev pub invariant-loop-w : goal.invariant-loop-w

@@ -1,17 +1,16 @@
 -- The reverses of the losses in the rows before v are losses too. A loss that row v gained meanwhile is the reverse of one at the start,
 -- so its own reverse is a loss already.
 use Rattle.std.specs.Prelude.{not}
-use mathlib.Core.Path.{◌≡◌, refl, ap, ◌∙◌}
+use mathlib.Core.Path.{refl, ap, ◌∙◌}
 use Rattle.theory.proofs.Logic.BoolsLaws.{not_in}
-use Prim.Native.Nat.{◌+◌, ◌-◌}
+use Prim.Native.Nat.{◌+◌}
 use native.Mathlib.Omega.{arith}
-use lib.ListN.{length}
 use Rattle.theory.proofs.Logic.RangeLaws.{first_ge}
 use Rattle.words.specs.Words.{has}
 use Rattle.order_rows.specs.Bits.{row_bits, cell}
 use Rattle.order_rows.specs.MatrixLaws.{row_alone}
-use Rattle.order_sets.specs.MembersLaws.{Reached, reached_start, reached_next}
-use Rattle.order_sets.specs.ReversesLaws.{MirrorTo, mirror_start, mirror_next, mirror_end, mirror_none}
+use Rattle.order_sets.specs.MembersLaws.{reached_start, reached_next}
+use Rattle.order_sets.specs.ReversesLaws.{mirror_start, mirror_next, mirror_end, mirror_none}
 use Rattle.order_removal.proofs.reverses.complete.Goals as goal
 
 pub returns-then-not-mirror : goal.returns-then-not-mirror

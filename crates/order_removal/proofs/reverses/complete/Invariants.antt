@@ -1,13 +1,10 @@
-use mathlib.Core.Path.{◌≡◌, refl, ◌∙◌}
-use Prim.Native.Nat.{◌+◌, ◌-◌}
-use native.Mathlib.Omega.{arith}
+use mathlib.Core.Path.{◌≡◌}
+use Prim.Native.Nat.{◌-◌}
 use lib.ListN.{length}
-use Rattle.theory.proofs.Logic.RangeLaws.{first_ge}
 use Rattle.words.specs.Words.{has}
 use Rattle.order_rows.specs.Bits.{row_bits, cell}
-use Rattle.order_rows.specs.MatrixLaws.{row_alone}
-use Rattle.order_sets.specs.MembersLaws.{Reached, reached_start, reached_next}
-use Rattle.order_sets.specs.ReversesLaws.{MirrorTo, mirror_start, mirror_next, mirror_end, mirror_none}
+use Rattle.order_sets.specs.MembersLaws.{Reached}
+use Rattle.order_sets.specs.ReversesLaws.{MirrorTo}
 use Rattle.order_removal.proofs.reverses.complete.Given as goal
 
 abbrev pub invariant-loop-v : goal.invariant-loop-v

@@ -1,12 +1,10 @@
 -- The pairs with v of the numbers in the first j words of `which` are losses, and word j adds those of its bits.
-use mathlib.Core.Path.{◌≡◌, refl, ◌∙◌}
-use Prim.Native.Nat.{◌-◌, ◌≤◌}
+use mathlib.Core.Path.{refl, ◌∙◌}
 use native.Mathlib.Omega.{arith}
-use lib.ListN.{length}
 use Rattle.words.specs.Words.{has}
 use Rattle.words.specs.WordsLaws.{has_at}
-use Rattle.order_rows.specs.Bits.{row_bits, row_words, cell}
-use Rattle.order_sets.specs.ReversesLaws.{ColumnTo, column_start, column_next, column_end}
+use Rattle.order_rows.specs.Bits.{row_bits, cell}
+use Rattle.order_sets.specs.ReversesLaws.{column_start, column_next, column_end}
 use Rattle.std.proofs.Common.{rules}
 use Rattle.order_removal.proofs.reverses.lose_column.Goals as goal
 

@@ -1,11 +1,9 @@
-use mathlib.Core.Path.{◌≡◌, refl, ◌∙◌}
+use mathlib.Core.Path.{◌≡◌}
 use Prim.Native.Nat.{◌-◌, ◌≤◌}
-use native.Mathlib.Omega.{arith}
 use lib.ListN.{length}
 use Rattle.words.specs.Words.{has}
-use Rattle.words.specs.WordsLaws.{has_at}
 use Rattle.order_rows.specs.Bits.{row_bits, row_words, cell}
-use Rattle.order_sets.specs.ReversesLaws.{ColumnTo, column_start, column_next, column_end}
+use Rattle.order_sets.specs.ReversesLaws.{ColumnTo}
 use Rattle.order_removal.proofs.reverses.lose_column.Given as goal
 
 abbrev pub invariant-loop-j : goal.invariant-loop-j

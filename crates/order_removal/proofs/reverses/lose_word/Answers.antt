@@ -1,10 +1,9 @@
 -- The pairs of the bits that are no longer left are losses. The word that is left is the measure: it loses its lowest bit.
-use mathlib.Core.Path.{◌≡◌, refl, ◌∙◌}
+use mathlib.Core.Path.{refl, ◌∙◌}
 use native.Mathlib.Omega.{arith}
-use lib.ListN.{length}
 use Rattle.words.specs.Words.{has}
-use Rattle.words.specs.LeftLaws.{Left, left_start, left_next}
-use Rattle.order_sets.specs.ReversesLaws.{WordTo, word_start, word_next, word_end}
+use Rattle.words.specs.LeftLaws.{left_start, left_next}
+use Rattle.order_sets.specs.ReversesLaws.{word_start, word_next, word_end}
 use Rattle.order_rows.specs.Bits.{row_bits, cell}
 use Rattle.order_removal.proofs.reverses.lose_word.Goals as goal
 

@@ -1,9 +1,8 @@
-use mathlib.Core.Path.{◌≡◌, refl, ◌∙◌}
-use native.Mathlib.Omega.{arith}
+use mathlib.Core.Path.{◌≡◌}
 use lib.ListN.{length}
 use Rattle.words.specs.Words.{has}
-use Rattle.words.specs.LeftLaws.{Left, left_start, left_next}
-use Rattle.order_sets.specs.ReversesLaws.{WordTo, word_start, word_next, word_end}
+use Rattle.words.specs.LeftLaws.{Left}
+use Rattle.order_sets.specs.ReversesLaws.{WordTo}
 use Rattle.order_rows.specs.Bits.{row_bits, cell}
 use Rattle.order_removal.proofs.reverses.lose_word.Given as goal
 

@@ -3,7 +3,6 @@
 use Rattle.std.specs.Prelude.{Bool, List, ℕ}
 use mathlib.Core.Path.{sym, ap₂, ◌∙◌}
 use mathlib.Core.Bool.{not}
-use Prim.Native.Nat.{◌+◌, ◌*◌}
 use Rattle.theory.specs.Logic.Bools.{◌&◌}
 use Rattle.theory.proofs.Logic.BoolsLaws.{and_one}
 use Rattle.words.specs.Words.{has}

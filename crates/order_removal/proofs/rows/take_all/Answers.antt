@@ -1,17 +1,15 @@
 -- The rows of `losing` before a are taken out, and a is in `losing` or the limit. There are at most limit × limit pairs, which fit 32 bits.
 use mathlib.Core.Path.{◌≡◌, refl, ◌∙◌}
-use Prim.Native.Nat.{◌+◌, ◌-◌}
+use Prim.Native.Nat.{◌+◌}
 use native.Mathlib.Omega.{arith}
-use lib.ListN.{length}
 use Rattle.theory.specs.Logic.Range.{count}
 use Rattle.theory.proofs.Logic.RangeLaws.{first_ge}
 use Rattle.theory.proofs.Logic.CountLaws.{count_le}
 use Rattle.theory.proofs.Logic.SumLaws.{sum_le}
 use Rattle.words.specs.Words.{has}
 use Rattle.order_rows.specs.Bits.{row_bits, cell}
-use Rattle.order_sets.specs.MembersLaws.{Reached, reached_start, reached_next}
+use Rattle.order_sets.specs.MembersLaws.{reached_start, reached_next}
 use Rattle.order_losses.specs.Losses.{struck}
-use Rattle.order_removal.specs.RowRemoval.{TakenTo}
 use Rattle.order_sets.specs.RemovalLaws.{taken_start, taken_next}
 use Rattle.order_removal.proofs.rows.take_all.Goals as goal
 

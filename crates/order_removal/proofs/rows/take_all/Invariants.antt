@@ -1,17 +1,10 @@
-use mathlib.Core.Path.{◌≡◌, refl, ◌∙◌}
-use Prim.Native.Nat.{◌+◌, ◌-◌}
-use native.Mathlib.Omega.{arith}
+use mathlib.Core.Path.{◌≡◌}
+use Prim.Native.Nat.{◌-◌}
 use lib.ListN.{length}
-use Rattle.theory.specs.Logic.Range.{count}
-use Rattle.theory.proofs.Logic.RangeLaws.{first_ge}
-use Rattle.theory.proofs.Logic.CountLaws.{count_le}
-use Rattle.theory.proofs.Logic.SumLaws.{sum_le}
 use Rattle.words.specs.Words.{has}
-use Rattle.order_rows.specs.Bits.{row_bits, cell}
-use Rattle.order_sets.specs.MembersLaws.{Reached, reached_start, reached_next}
-use Rattle.order_losses.specs.Losses.{struck}
+use Rattle.order_rows.specs.Bits.{row_bits}
+use Rattle.order_sets.specs.MembersLaws.{Reached}
 use Rattle.order_removal.specs.RowRemoval.{TakenTo}
-use Rattle.order_sets.specs.RemovalLaws.{taken_start, taken_next}
 use Rattle.order_removal.proofs.rows.take_all.Given as goal
 
 abbrev pub invariant-loop-a : goal.invariant-loop-a

@@ -1,15 +1,12 @@
 -- The rows before v are those of pass 0, and `changed` holds those that lost something.
 -- Each vertex has a successor, so under all pairs every pair passes, which the state after pass 0 asks.
 use mathlib.Core.Path.{◌≡◌, refl, sym, ◌∙◌}
-use Prim.Native.Nat.{◌-◌, ◌≤◌}
 use native.Mathlib.Omega.{arith}
-use lib.ListN.{length}
 use Rattle.table.specs.Table.{vertex_count, game_of}
 use Rattle.table.specs.TableLaws.{game_total}
 use Rattle.words.specs.Words.{has}
 use Rattle.order_rows.specs.Bits.{row_bits}
 use Rattle.order_rows.specs.MatrixLaws.{cell_row, added_alone}
-use Rattle.order_rounds.specs.Rounds.{Parted, Started}
 use Rattle.order_sets.specs.RoundsLaws.{all_row, parted_none, started_none, started_next, begun}
 use Rattle.std.proofs.Common.{rules}
 use Rattle.order_rounds.proofs.start.begin.Goals as goal

@@ -1,14 +1,8 @@
-use mathlib.Core.Path.{◌≡◌, refl, sym, ◌∙◌}
+use mathlib.Core.Path.{◌≡◌}
 use Prim.Native.Nat.{◌-◌, ◌≤◌}
-use native.Mathlib.Omega.{arith}
 use lib.ListN.{length}
-use Rattle.table.specs.Table.{vertex_count, game_of}
-use Rattle.table.specs.TableLaws.{game_total}
-use Rattle.words.specs.Words.{has}
-use Rattle.order_rows.specs.Bits.{row_bits}
-use Rattle.order_rows.specs.MatrixLaws.{cell_row, added_alone}
+use Rattle.table.specs.Table.{game_of}
 use Rattle.order_rounds.specs.Rounds.{Parted, Started}
-use Rattle.order_sets.specs.RoundsLaws.{all_row, parted_none, started_none, started_next, begun}
 use Rattle.order_rounds.proofs.start.begin.Given as goal
 
 abbrev pub invariant-loop-v : goal.invariant-loop-v

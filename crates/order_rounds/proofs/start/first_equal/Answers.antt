@@ -1,8 +1,6 @@
 -- The search from u on finds what the whole search finds, since no vertex before u has the priority of v.
-use mathlib.Core.Path.{◌≡◌, sym, ◌∙◌}
-use Prim.Native.Nat.{◌≤◌, ◌-◌}
+use mathlib.Core.Path.{sym, ◌∙◌}
 use borrow.Author.Tests.{eq-eqb, ne_eqb}
-use Rattle.theory.specs.Logic.Range.{first}
 use Rattle.theory.proofs.Logic.RangeLaws.{first_step, first_hit, first_end_lem}
 use Rattle.theory.specs.Order.Order.{equal_priority}
 use Rattle.table.specs.Table.{game_of}

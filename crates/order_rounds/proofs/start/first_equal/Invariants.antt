@@ -1,8 +1,6 @@
-use mathlib.Core.Path.{◌≡◌, sym, ◌∙◌}
+use mathlib.Core.Path.{◌≡◌}
 use Prim.Native.Nat.{◌≤◌, ◌-◌}
-use borrow.Author.Tests.{eq-eqb, ne_eqb}
 use Rattle.theory.specs.Logic.Range.{first}
-use Rattle.theory.proofs.Logic.RangeLaws.{first_step, first_hit, first_end_lem}
 use Rattle.theory.specs.Order.Order.{equal_priority}
 use Rattle.table.specs.Table.{game_of}
 use Rattle.order_rounds.proofs.start.first_equal.Given as goal

@@ -1,11 +1,10 @@
 -- The first j words of `out` are done. Word j gets the bits k of word j of `which` for which row 64 × j + k does not meet x.
 use mathlib.Core.Path.{refl, sym, ap, ◌∙◌}
-use Prim.Native.Nat.{◌+◌, ◌-◌, ◌*◌, ◌≤◌}
+use Prim.Native.Nat.{◌+◌, ◌*◌}
 use Rattle.theory.specs.Logic.Bools.{◌&◌}
-use Rattle.words.specs.Words.{has}
-use Rattle.order_rows.specs.Bits.{row_words, apart}
+use Rattle.order_rows.specs.Bits.{apart}
 use Rattle.words.specs.WordsLaws.{has_at}
-use Rattle.order_rows.specs.RowLaws.{Filled, filled_start, filled_next, filled_end}
+use Rattle.order_rows.specs.RowLaws.{filled_start, filled_next, filled_end}
 use Rattle.std.proofs.Common.{rules}
 use Rattle.order_rows.proofs.matrix.apart_of.Goals as goal
 

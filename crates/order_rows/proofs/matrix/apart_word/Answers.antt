@@ -1,16 +1,15 @@
 -- `out` holds the bits that are no longer left and whose rows do not meet x. The word that is left is the measure: it loses its lowest bit.
 use mathlib.Core.Path.{◌≡◌, sym, ap, ap₂, ◌∙◌}
 use mathlib.Core.Bool.{not}
-use Prim.Native.Nat.{ℕ, ◌+◌, ◌-◌, ◌<◌}
+use Prim.Native.Nat.{◌+◌}
 use lib.Dec.{eqb}
 use Rattle.theory.specs.Logic.Bools.{◌&◌, ◌or◌}
 use Rattle.theory.proofs.Logic.RangeLaws.{any_ext}
-use Rattle.words.specs.Word.{word_bits, digit}
 use Rattle.words.specs.Words.{has}
 use Rattle.order_sets.specs.Sets.{apart_in}
 use Rattle.order_rows.specs.Bits.{row_bits, apart}
 use Rattle.words.specs.WordLaws.{digit_zero}
-use Rattle.words.specs.LeftLaws.{Left, left_start, left_next, picked, picked_start, picked_next, picked_end}
+use Rattle.words.specs.LeftLaws.{left_start, left_next, picked_start, picked_next, picked_end}
 use Rattle.order_rows.proofs.matrix.apart_word.Goals as goal
 use Rattle.order_rows.proofs.matrix.apart_word.Lts as lts
 use Rattle.order_rows.proofs.matrix.apart_word.Reads as reads

@@ -1,15 +1,8 @@
-use mathlib.Core.Path.{◌≡◌, sym, ap, ap₂, ◌∙◌}
-use mathlib.Core.Bool.{not}
-use Prim.Native.Nat.{ℕ, ◌+◌, ◌-◌, ◌<◌}
-use lib.Dec.{eqb}
-use Rattle.theory.specs.Logic.Bools.{◌&◌, ◌or◌}
-use Rattle.theory.proofs.Logic.RangeLaws.{any_ext}
+use mathlib.Core.Path.{◌≡◌}
+use Prim.Native.Nat.{ℕ, ◌+◌, ◌<◌}
 use Rattle.words.specs.Word.{word_bits, digit}
-use Rattle.words.specs.Words.{has}
-use Rattle.order_sets.specs.Sets.{apart_in}
-use Rattle.order_rows.specs.Bits.{row_bits, apart}
-use Rattle.words.specs.WordLaws.{digit_zero}
-use Rattle.words.specs.LeftLaws.{Left, left_start, left_next, picked, picked_start, picked_next, picked_end}
+use Rattle.order_rows.specs.Bits.{apart}
+use Rattle.words.specs.LeftLaws.{Left, picked}
 use Rattle.order_rows.proofs.matrix.apart_word.Given as goal
 
 abbrev pub invariant-loop-left : goal.invariant-loop-left

@@ -1,10 +1,7 @@
 -- The first k words of row v are those of r, and the words written are of row v alone, so every other row is as before.
-use mathlib.Core.Path.{◌≡◌, refl}
-use Prim.Native.Nat.{◌-◌, ◌≤◌}
+use mathlib.Core.Path.{refl}
 use native.Mathlib.Omega.{arith}
-use lib.ListN.{length}
-use Rattle.order_rows.specs.Bits.{row_words}
-use Rattle.order_rows.specs.MatrixLaws.{PutTo, put_start, put_next, put_end}
+use Rattle.order_rows.specs.MatrixLaws.{put_start, put_next, put_end}
 use Rattle.std.proofs.Common.{rules}
 use Rattle.order_rows.proofs.matrix.put.Goals as goal
 

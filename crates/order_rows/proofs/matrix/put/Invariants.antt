@@ -1,9 +1,8 @@
-use mathlib.Core.Path.{◌≡◌, refl}
+use mathlib.Core.Path.{◌≡◌}
 use Prim.Native.Nat.{◌-◌, ◌≤◌}
-use native.Mathlib.Omega.{arith}
 use lib.ListN.{length}
 use Rattle.order_rows.specs.Bits.{row_words}
-use Rattle.order_rows.specs.MatrixLaws.{PutTo, put_start, put_next, put_end}
+use Rattle.order_rows.specs.MatrixLaws.{PutTo}
 use Rattle.order_rows.proofs.matrix.put.Given as goal
 
 abbrev pub invariant-loop-k : goal.invariant-loop-k

@@ -1,8 +1,6 @@
 -- The first k words of `out` are those of row v, since word k of the row is the word at v × WORDS + k.
 use mathlib.Core.Path.{refl, sym}
-use Prim.Native.Nat.{◌-◌, ◌≤◌}
-use Rattle.order_rows.specs.Bits.{row_words, cell}
-use Rattle.order_rows.specs.RowLaws.{Filled, filled_start, filled_next, filled_end}
+use Rattle.order_rows.specs.RowLaws.{filled_start, filled_next, filled_end}
 use Rattle.order_rows.specs.MatrixLaws.{cell_at}
 use Rattle.std.proofs.Common.{rules}
 use Rattle.order_rows.proofs.matrix.row.Goals as goal

@@ -1,8 +1,6 @@
-use mathlib.Core.Path.{refl, sym}
 use Prim.Native.Nat.{◌-◌, ◌≤◌}
 use Rattle.order_rows.specs.Bits.{row_words, cell}
-use Rattle.order_rows.specs.RowLaws.{Filled, filled_start, filled_next, filled_end}
-use Rattle.order_rows.specs.MatrixLaws.{cell_at}
+use Rattle.order_rows.specs.RowLaws.{Filled}
 use Rattle.order_rows.proofs.matrix.row.Given as goal
 
 abbrev pub invariant-loop-k : goal.invariant-loop-k

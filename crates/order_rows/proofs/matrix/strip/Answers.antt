@@ -1,13 +1,12 @@
 -- `out` is `from` without the rows of the numbers in the first j words of `which`; to take out one union and then another is to take out both.
 use mathlib.Core.Path.{◌≡◌, sym, ap, ◌∙◌}
 use mathlib.Core.Bool.{not}
-use Prim.Native.Nat.{◌-◌, ◌≤◌}
 use native.Mathlib.Omega.{arith}
 use Rattle.theory.specs.Logic.Bools.{◌&◌}
 use Rattle.theory.proofs.Logic.BoolsLaws.{and_true}
 use Rattle.theory.specs.Logic.Range.{any_below}
 use Rattle.words.specs.Words.{has}
-use Rattle.order_rows.specs.Bits.{row_words, RowIs}
+use Rattle.order_rows.specs.Bits.{row_words}
 use Rattle.order_rows.specs.MatrixLaws.{united_to, united_end, stripped_next}
 use Rattle.std.proofs.Common.{rules}
 use Rattle.order_rows.proofs.matrix.strip.Goals as goal

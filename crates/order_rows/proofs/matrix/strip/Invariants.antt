@@ -1,13 +1,9 @@
-use mathlib.Core.Path.{◌≡◌, sym, ap, ◌∙◌}
 use mathlib.Core.Bool.{not}
 use Prim.Native.Nat.{◌-◌, ◌≤◌}
-use native.Mathlib.Omega.{arith}
 use Rattle.theory.specs.Logic.Bools.{◌&◌}
-use Rattle.theory.proofs.Logic.BoolsLaws.{and_true}
-use Rattle.theory.specs.Logic.Range.{any_below}
 use Rattle.words.specs.Words.{has}
 use Rattle.order_rows.specs.Bits.{row_words, RowIs}
-use Rattle.order_rows.specs.MatrixLaws.{united_to, united_end, stripped_next}
+use Rattle.order_rows.specs.MatrixLaws.{united_to}
 use Rattle.order_rows.proofs.matrix.strip.Given as goal
 
 abbrev pub invariant-loop-j : goal.invariant-loop-j

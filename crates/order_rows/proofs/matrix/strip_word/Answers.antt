@@ -2,12 +2,12 @@
 -- An `out` with nothing in it stays so whatever else is taken out, so the early end is right.
 use mathlib.Core.Path.{◌≡◌, sym, ap₂, ◌∙◌}
 use mathlib.Core.Bool.{not, false}
-use Prim.Native.Nat.{◌+◌, ◌-◌}
+use Prim.Native.Nat.{◌+◌}
 use Rattle.theory.specs.Logic.Bools.{◌&◌}
 use Rattle.theory.proofs.Logic.RangeLaws.{any_fails}
 use Rattle.words.specs.Words.{has}
 use Rattle.order_rows.specs.Bits.{row_bits, RowIs, cell}
-use Rattle.words.specs.LeftLaws.{Left, left_start, left_next, done, not_start, not_next, not_end, not_early}
+use Rattle.words.specs.LeftLaws.{left_start, left_next, done, not_start, not_next, not_end, not_early}
 use Rattle.order_rows.proofs.matrix.strip_word.Goals as goal
 use Rattle.order_rows.proofs.matrix.strip_word.Lts as lts
 use Rattle.order_rows.proofs.matrix.strip_word.Reads as reads

@@ -1,12 +1,9 @@
-use mathlib.Core.Path.{◌≡◌, sym, ap₂, ◌∙◌}
-use mathlib.Core.Bool.{not, false}
-use Prim.Native.Nat.{◌+◌, ◌-◌}
+use mathlib.Core.Bool.{not}
+use Prim.Native.Nat.{◌+◌}
 use Rattle.theory.specs.Logic.Bools.{◌&◌}
-use Rattle.theory.proofs.Logic.BoolsLaws.{not_out}
-use Rattle.theory.proofs.Logic.RangeLaws.{any_fails}
 use Rattle.words.specs.Words.{has}
-use Rattle.order_rows.specs.Bits.{row_bits, RowIs, cell}
-use Rattle.words.specs.LeftLaws.{Left, left_start, left_next, done, not_start, not_next, not_end, not_early}
+use Rattle.order_rows.specs.Bits.{RowIs, cell}
+use Rattle.words.specs.LeftLaws.{Left, done}
 use Rattle.order_rows.proofs.matrix.strip_word.Given as goal
 
 abbrev pub invariant-loop-left : goal.invariant-loop-left

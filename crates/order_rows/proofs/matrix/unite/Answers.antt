@@ -1,9 +1,8 @@
 -- `out` is the union of the rows of the numbers in the first j words of `which`, and word j adds those of its bits.
 use mathlib.Core.Path.{◌≡◌, ap, ◌∙◌}
-use Prim.Native.Nat.{◌-◌, ◌≤◌}
 use native.Mathlib.Omega.{arith}
 use Rattle.theory.specs.Logic.Range.{any_below}
-use Rattle.order_rows.specs.Bits.{row_words, RowIs}
+use Rattle.order_rows.specs.Bits.{row_words}
 use Rattle.words.specs.WordsLaws.{has_zero}
 use Rattle.order_rows.specs.MatrixLaws.{united_to, united_next, united_end}
 use Rattle.std.proofs.Common.{rules}

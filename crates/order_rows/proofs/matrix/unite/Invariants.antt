@@ -1,10 +1,6 @@
-use mathlib.Core.Path.{◌≡◌, ap, ◌∙◌}
 use Prim.Native.Nat.{◌-◌, ◌≤◌}
-use native.Mathlib.Omega.{arith}
-use Rattle.theory.specs.Logic.Range.{any_below}
 use Rattle.order_rows.specs.Bits.{row_words, RowIs}
-use Rattle.words.specs.WordsLaws.{has_zero}
-use Rattle.order_rows.specs.MatrixLaws.{united_to, united_next, united_end}
+use Rattle.order_rows.specs.MatrixLaws.{united_to}
 use Rattle.order_rows.proofs.matrix.unite.Given as goal
 
 abbrev pub invariant-loop-j : goal.invariant-loop-j

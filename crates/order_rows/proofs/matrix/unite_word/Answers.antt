@@ -1,10 +1,10 @@
 -- `out` is `into` and the rows of the bits that are no longer left. The word that is left is the measure: it loses its lowest bit.
 use mathlib.Core.Path.{ap₂, ◌∙◌}
-use Prim.Native.Nat.{◌+◌, ◌-◌}
+use Prim.Native.Nat.{◌+◌}
 use Rattle.theory.specs.Logic.Bools.{◌or◌}
 use Rattle.words.specs.Words.{has}
-use Rattle.order_rows.specs.Bits.{RowIs, cell}
-use Rattle.words.specs.LeftLaws.{Left, left_start, left_next, done, or_start, or_next, or_end}
+use Rattle.order_rows.specs.Bits.{cell}
+use Rattle.words.specs.LeftLaws.{left_start, left_next, or_start, or_next, or_end}
 use Rattle.order_rows.proofs.matrix.unite_word.Goals as goal
 
 pub loop-left-init : goal.loop-left-init

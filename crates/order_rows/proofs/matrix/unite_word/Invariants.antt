@@ -1,9 +1,8 @@
-use mathlib.Core.Path.{ap₂, ◌∙◌}
-use Prim.Native.Nat.{◌+◌, ◌-◌}
+use Prim.Native.Nat.{◌+◌}
 use Rattle.theory.specs.Logic.Bools.{◌or◌}
 use Rattle.words.specs.Words.{has}
 use Rattle.order_rows.specs.Bits.{RowIs, cell}
-use Rattle.words.specs.LeftLaws.{Left, left_start, left_next, done, or_start, or_next, or_end}
+use Rattle.words.specs.LeftLaws.{Left, done}
 use Rattle.order_rows.proofs.matrix.unite_word.Given as goal
 
 abbrev pub invariant-loop-left : goal.invariant-loop-left

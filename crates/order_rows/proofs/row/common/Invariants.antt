@@ -1,11 +1,8 @@
-use mathlib.Core.Path.{refl, sym, ap₂, ◌∙◌}
 use Prim.Native.Nat.{◌-◌, ◌≤◌}
 use Rattle.theory.specs.Logic.Bools.{◌&◌}
 use Rattle.words.specs.Words.{has}
 use Rattle.order_rows.specs.Bits.{row_words}
-use Rattle.words.specs.WordLaws.{digit_and}
-use Rattle.words.specs.WordsLaws.{has_at}
-use Rattle.order_rows.specs.RowLaws.{Filled, filled_start, filled_next, filled_end}
+use Rattle.order_rows.specs.RowLaws.{Filled}
 use Rattle.order_rows.proofs.row.common.Given as goal
 
 abbrev pub invariant-loop-k : goal.invariant-loop-k

@@ -1,12 +1,9 @@
 -- The first k words of `out` are done: each bit of an `or` of two words is the `or` of their bits.
 use mathlib.Core.Path.{refl, sym, ap₂, ◌∙◌}
-use Prim.Native.Nat.{◌-◌, ◌≤◌}
 use Rattle.theory.specs.Logic.Bools.{◌or◌}
-use Rattle.words.specs.Words.{has}
-use Rattle.order_rows.specs.Bits.{row_words}
 use Rattle.words.specs.WordLaws.{digit_or}
 use Rattle.words.specs.WordsLaws.{has_at}
-use Rattle.order_rows.specs.RowLaws.{Filled, filled_start, filled_next, filled_end}
+use Rattle.order_rows.specs.RowLaws.{filled_start, filled_next, filled_end}
 use Rattle.std.proofs.Common.{rules}
 use Rattle.order_rows.proofs.row.either.Goals as goal
 

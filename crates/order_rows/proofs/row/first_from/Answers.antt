@@ -1,8 +1,6 @@
 -- The first number from `at` on is the first from k on: it is in the word of `at`, or that word has none and the next one is searched.
-use mathlib.Core.Path.{◌≡◌, sym, ◌∙◌}
-use Prim.Native.Nat.{◌≤◌, ◌-◌}
+use mathlib.Core.Path.{sym, ◌∙◌}
 use native.Mathlib.Omega.{arith}
-use Rattle.theory.specs.Logic.Range.{first}
 use Rattle.theory.proofs.Logic.RangeLaws.{first_end_lem}
 use Rattle.words.specs.Words.{has}
 use Rattle.order_rows.specs.Bits.{row_bits}

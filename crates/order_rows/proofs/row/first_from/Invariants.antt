@@ -1,11 +1,8 @@
-use mathlib.Core.Path.{◌≡◌, sym, ◌∙◌}
+use mathlib.Core.Path.{◌≡◌}
 use Prim.Native.Nat.{◌≤◌, ◌-◌}
-use native.Mathlib.Omega.{arith}
 use Rattle.theory.specs.Logic.Range.{first}
-use Rattle.theory.proofs.Logic.RangeLaws.{first_end_lem}
 use Rattle.words.specs.Words.{has}
 use Rattle.order_rows.specs.Bits.{row_bits}
-use Rattle.order_rows.specs.RowLaws.{first_here, first_later}
 use Rattle.order_rows.proofs.row.first_from.Given as goal
 
 abbrev pub invariant-loop-at : goal.invariant-loop-at

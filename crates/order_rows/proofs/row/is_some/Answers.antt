@@ -1,6 +1,6 @@
 -- The `or` of the first k words has a bit exactly if one of them has, so exactly if a number below 64 × k is in the row.
 use mathlib.Core.Path.{◌≡◌, sym, ap, ◌∙◌}
-use Prim.Native.Nat.{ℕ, ◌-◌, ◌*◌, ◌≤◌}
+use Prim.Native.Nat.{ℕ, ◌*◌}
 use native.Mathlib.Omega.{arith}
 use Rattle.theory.specs.Logic.Bools.{◌or◌}
 use lib.ListN.{get_or}

@@ -1,15 +1,9 @@
-use mathlib.Core.Path.{◌≡◌, sym, ap, ◌∙◌}
-use Prim.Native.Nat.{ℕ, ◌-◌, ◌*◌, ◌≤◌}
-use native.Mathlib.Omega.{arith}
-use Rattle.theory.specs.Logic.Bools.{◌or◌}
-use lib.ListN.{get_or}
+use mathlib.Core.Path.{◌≡◌}
+use Prim.Native.Nat.{◌-◌, ◌*◌, ◌≤◌}
 use Rattle.theory.specs.Logic.Range.{any_below}
-use Rattle.theory.proofs.Logic.RangeLaws.{any_ext}
 use Rattle.words.specs.Word.{word_bits, digit}
 use Rattle.words.specs.Words.{has}
 use Rattle.order_rows.specs.Bits.{row_words}
-use Rattle.words.specs.WordLaws.{digit_or, some_none}
-use Rattle.order_rows.specs.RowLaws.{any_words, any_or}
 use Rattle.order_rows.proofs.row.is_some.Given as goal
 
 abbrev pub invariant-loop-k : goal.invariant-loop-k

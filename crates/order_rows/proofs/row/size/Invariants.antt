@@ -1,13 +1,8 @@
-use mathlib.Core.Path.{◌≡◌, refl, sym, ap, ap₂, ◌∙◌}
-use Prim.Native.Nat.{ℕ, ◌+◌, ◌-◌, ◌*◌, ◌≤◌}
-use native.Mathlib.Omega.{arith}
-use lib.ListN.{get_or}
+use mathlib.Core.Path.{◌≡◌}
+use Prim.Native.Nat.{◌-◌, ◌*◌, ◌≤◌}
 use Rattle.theory.specs.Logic.Range.{count}
-use Rattle.theory.proofs.Logic.CountLaws.{count_le}
-use Rattle.words.specs.Word.{word_bits, digit}
 use Rattle.words.specs.Words.{has}
 use Rattle.order_rows.specs.Bits.{row_words}
-use Rattle.order_rows.specs.RowLaws.{count_words}
 use Rattle.order_rows.proofs.row.size.Given as goal
 
 abbrev pub invariant-loop-k : goal.invariant-loop-k

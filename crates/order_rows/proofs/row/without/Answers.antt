@@ -1,13 +1,10 @@
 -- The first k words of `out` are done: a bit of a ^ (a & b) is set exactly if it is set in a and not in b.
 use mathlib.Core.Path.{refl, sym, ap₂, ◌∙◌}
 use mathlib.Core.Bool.{not}
-use Prim.Native.Nat.{◌-◌, ◌≤◌}
 use Rattle.theory.specs.Logic.Bools.{◌&◌}
-use Rattle.words.specs.Words.{has}
-use Rattle.order_rows.specs.Bits.{row_words}
 use Rattle.words.specs.WordLaws.{digit_less}
 use Rattle.words.specs.WordsLaws.{has_at}
-use Rattle.order_rows.specs.RowLaws.{Filled, filled_start, filled_next, filled_end}
+use Rattle.order_rows.specs.RowLaws.{filled_start, filled_next, filled_end}
 use Rattle.std.proofs.Common.{rules}
 use Rattle.order_rows.proofs.row.without.Goals as goal
 

@@ -1,15 +1,9 @@
 -- The rest of the search equals the whole; no stamp is above i.
 use native.Mathlib.Omega.{arith}
-use Prim.Native.Nat.{ℕ, ◌≤◌, ◌-◌}
-use mathlib.Core.Path.{◌≡◌, refl, sym, ◌∙◌}
-use mathlib.Core.List.{List}
-use lib.ListN.{length}
-use Rattle.theory.specs.Logic.Range.{first}
+use mathlib.Core.Path.{refl, sym, ◌∙◌}
 use Rattle.theory.proofs.Logic.RangeLaws.{first_step, first_hit, first_end_lem}
-use Rattle.plan_returns.specs.Search.{NoLater}
 use Rattle.plan.specs.Acceptance.{lacks_link, first_lacking_link}
 use Rattle.plan.specs.AnswerLaws.{space_kept}
-use Rattle.plan.proofs.answers.first_lacking_by.Invariants.{Inv}
 use Rattle.plan.proofs.answers.first_lacking_by.Goals as goal
 
 pub loop-i-init : goal.loop-i-init

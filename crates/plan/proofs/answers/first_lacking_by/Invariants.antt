@@ -1,13 +1,10 @@
-use native.Mathlib.Omega.{arith}
 use Prim.Native.Nat.{ℕ, ◌≤◌, ◌-◌}
-use mathlib.Core.Path.{◌≡◌, refl, sym, ◌∙◌}
+use mathlib.Core.Path.{◌≡◌}
 use mathlib.Core.List.{List}
 use lib.ListN.{length}
 use Rattle.theory.specs.Logic.Range.{first}
-use Rattle.theory.proofs.Logic.RangeLaws.{first_step, first_hit, first_end_lem}
 use Rattle.plan_returns.specs.Search.{NoLater}
-use Rattle.plan.specs.Acceptance.{lacks_link, first_lacking_link}
-use Rattle.plan.specs.AnswerLaws.{space_kept}
+use Rattle.plan.specs.Acceptance.{lacks_link}
 use Rattle.plan.proofs.answers.first_lacking_by.Given as goal
 
 pub record Inv (game : List ℕ) (player : ℕ) (plan stamps₀ : List ℕ) (p : ℕ) (stamps : List ℕ) (i : ℕ) : Type 0 where

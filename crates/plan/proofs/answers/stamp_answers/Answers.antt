@@ -1,13 +1,12 @@
 -- The targets of the group before t have their vertices stamped.
 use native.Mathlib.Omega.{arith}
-use Prim.Native.Nat.{ℕ, ◌≤◌, ◌<◌, ◌-◌, ◌+◌}
-use mathlib.Core.Path.{◌≡◌, refl}
+use Prim.Native.Nat.{ℕ, ◌≤◌, ◌<◌, ◌+◌}
+use mathlib.Core.Path.{refl}
 use mathlib.Core.List.{List}
-use lib.ListN.{length, get_or, length-set}
+use lib.ListN.{get_or, length-set}
 use Rattle.index.specs.Index.{Indexed}
 use Rattle.index.specs.IndexLaws.{indexed_size, indexed_order}
 use Rattle.plan_links.specs.LinkIndexLaws.{Target, indexed_target}
-use Rattle.plan.specs.Stamps.{StampedTo}
 use Rattle.plan.specs.StampsLaws.{stamped_none, stamped_more, stamped_all}
 use Rattle.plan.proofs.answers.stamp_answers.Invariants.{Inv}
 use Rattle.plan.proofs.answers.stamp_answers.Goals as goal

@@ -1,12 +1,8 @@
-use native.Mathlib.Omega.{arith}
-use Prim.Native.Nat.{ℕ, ◌≤◌, ◌<◌, ◌-◌, ◌+◌}
-use mathlib.Core.Path.{◌≡◌, refl}
+use Prim.Native.Nat.{ℕ, ◌≤◌, ◌-◌, ◌+◌}
+use mathlib.Core.Path.{◌≡◌}
 use mathlib.Core.List.{List}
-use lib.ListN.{length, get_or, length-set}
-use Rattle.index.specs.IndexLaws.{indexed_size, indexed_order}
-use Rattle.plan_links.specs.LinkIndexLaws.{Target, indexed_target}
+use lib.ListN.{length, get_or}
 use Rattle.plan.specs.Stamps.{StampedTo}
-use Rattle.plan.specs.StampsLaws.{stamped_none, stamped_more, stamped_all}
 use Rattle.plan.proofs.answers.stamp_answers.Given as goal
 
 pub record Inv (plan starts targets stamps₀ : List ℕ) (i stamp : ℕ) (stamps : List ℕ) (t : ℕ) : Type 0 where

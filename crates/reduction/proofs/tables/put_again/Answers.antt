@@ -1,10 +1,7 @@
 -- Invariant: the first i words are put again. They are read before the place where the first of them is put, so all that is read is old.
 use mathlib.Core.Path.{◌≡◌}
-use Prim.Native.Nat.{◌+◌, ◌-◌, ◌≤◌}
 use native.Mathlib.Omega.{arith}
-use lib.ListN.{length, get_or, length-set}
-use Rattle.theory.specs.Logic.Range.{tabulate}
-use Rattle.table.specs.Placing.{placed}
+use lib.ListN.{length-set}
 use Rattle.table.specs.PlacingLaws.{placed_start}
 use Rattle.reduction.proofs.SourcesLaws.{again_more}
 use Rattle.std.proofs.Common.{rules}

@@ -1,11 +1,8 @@
 use mathlib.Core.Path.{◌≡◌}
 use Prim.Native.Nat.{◌+◌, ◌-◌, ◌≤◌}
-use native.Mathlib.Omega.{arith}
-use lib.ListN.{length, get_or, length-set}
+use lib.ListN.{length, get_or}
 use Rattle.theory.specs.Logic.Range.{tabulate}
 use Rattle.table.specs.Placing.{placed}
-use Rattle.table.specs.PlacingLaws.{placed_start}
-use Rattle.reduction.proofs.SourcesLaws.{again_more}
 use Rattle.reduction.proofs.tables.put_again.Given as goal
 
 abbrev pub invariant-loop-i : goal.invariant-loop-i

@@ -1,10 +1,9 @@
 -- Invariant: the sources of the classes before c are put, and those of class c start where they stop.
 use mathlib.Core.Path.{◌≡◌, refl, sym}
 use mathlib.Core.List.{List, []}
-use Prim.Native.Nat.{ℕ, ◌+◌, ◌-◌, ◌≤◌, ◌<◌}
+use Prim.Native.Nat.{ℕ, ◌+◌, ◌≤◌, ◌<◌}
 use native.Mathlib.Omega.{arith}
 use lib.ListN.{length, get_or}
-use Rattle.table.specs.Placing.{placed}
 use Rattle.reduction.specs.Tables.{start_of, spread, Ascending}
 use Rattle.reduction.proofs.SourcesLaws.{spread_none, start_more, count_more, spread_put}
 use Rattle.std.proofs.Common.{rules}

@@ -1,11 +1,8 @@
-use mathlib.Core.Path.{◌≡◌, refl, sym}
-use mathlib.Core.List.{List, []}
-use Prim.Native.Nat.{ℕ, ◌+◌, ◌-◌, ◌≤◌}
-use native.Mathlib.Omega.{arith}
-use lib.ListN.{length, get_or}
+use mathlib.Core.Path.{◌≡◌}
+use Prim.Native.Nat.{◌+◌, ◌-◌, ◌≤◌}
+use lib.ListN.{length}
 use Rattle.table.specs.Placing.{placed}
 use Rattle.reduction.specs.Tables.{start_of, spread}
-use Rattle.reduction.proofs.SourcesLaws.{spread_none, start_more, count_more, spread_put}
 use Rattle.reduction.proofs.tables.write_sources.Given as goal
 
 abbrev pub invariant-loop-c : goal.invariant-loop-c

@@ -1,13 +1,13 @@
 -- Invariant: the classes of those of the row before d are put that are not dropped. There is room for all of them.
-use mathlib.Core.Path.{◌≡◌, refl, ◌∙◌}
+use mathlib.Core.Path.{◌≡◌, refl}
 use mathlib.Core.Bool.{So, false}
 use mathlib.Core.List.{List, map}
-use Prim.Native.Nat.{ℕ, ◌+◌, ◌-◌, ◌≤◌, ◌<◌}
+use Prim.Native.Nat.{ℕ, ◌+◌}
 use native.Mathlib.Omega.{arith}
 use lib.ListN.{length, length-map}
 use Rattle.theory.proofs.Logic.BoolsLaws.{and_in, not_in}
 use Rattle.words.specs.Words.{has}
-use Rattle.order_sets.specs.MembersLaws.{Reached, reached_start, reached_next}
+use Rattle.order_sets.specs.MembersLaws.{reached_start, reached_next}
 use Rattle.theory.proofs.Logic.RangeLaws.{first_ge}
 use Rattle.reduction_edges.specs.Rows.{keeps, picked, number_of, Put}
 use Rattle.reduction_edges.proofs.PickedLaws.{picked_grows, picked_room}

@@ -1,11 +1,8 @@
-use Rattle.reduction_edges.specs.Rows.{picked, game_by, Listed}
+use Rattle.reduction_edges.specs.Rows.{game_by, Listed}
 use mathlib.Core.Path.{◌≡◌}
-use Prim.Native.Nat.{ℕ, ◌+◌, ◌-◌, ◌*◌, ◌≤◌}
-use native.Mathlib.Omega.{arith}
-use lib.ListN.{length, length-map, length-set}
-use Rattle.theory.specs.Logic.Range.{pairs_below}
-use Rattle.table.specs.Table.{game_of, table_edges}
-use Rattle.reduction_edges.proofs.ListingLaws.{rows_none, rows_more, rows_few}
+use Prim.Native.Nat.{◌-◌, ◌≤◌}
+use lib.ListN.{length}
+use Rattle.table.specs.Table.{game_of}
 use Rattle.reduction_edges.proofs.listing.list_classes.Given as goal
 
 abbrev pub invariant-loop-c : goal.invariant-loop-c

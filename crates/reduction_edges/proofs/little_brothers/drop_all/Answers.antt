@@ -1,12 +1,11 @@
 -- Invariant: what is dropped because of those of the row before d.
-use mathlib.Core.Path.{◌≡◌, refl}
-use Prim.Native.Nat.{◌+◌, ◌-◌, ◌≤◌}
+use mathlib.Core.Path.{refl}
+use Prim.Native.Nat.{◌+◌}
 use native.Mathlib.Omega.{arith}
-use lib.ListN.{length}
 use Rattle.theory.proofs.Logic.RangeLaws.{first_ge}
 use Rattle.words.specs.Words.{has}
-use Rattle.order_sets.specs.MembersLaws.{Reached, reached_start, reached_next}
-use Rattle.reduction_edges.proofs.LittleBrothersLaws.{nothing, DroppedTo, dropped_start, dropped_next, dropped_end}
+use Rattle.order_sets.specs.MembersLaws.{reached_start, reached_next}
+use Rattle.reduction_edges.proofs.LittleBrothersLaws.{nothing, dropped_start, dropped_next, dropped_end}
 use Rattle.reduction_edges.proofs.little_brothers.drop_all.Goals as goal
 
 pub next_member-d-requires : goal.next_member-d-requires

@@ -1,11 +1,9 @@
-use mathlib.Core.Path.{◌≡◌, refl}
-use Prim.Native.Nat.{◌+◌, ◌-◌, ◌≤◌}
-use native.Mathlib.Omega.{arith}
+use mathlib.Core.Path.{◌≡◌}
+use Prim.Native.Nat.{◌-◌}
 use lib.ListN.{length}
-use Rattle.theory.proofs.Logic.RangeLaws.{first_ge}
 use Rattle.words.specs.Words.{has}
-use Rattle.order_sets.specs.MembersLaws.{Reached, reached_start, reached_next}
-use Rattle.reduction_edges.proofs.LittleBrothersLaws.{nothing, DroppedTo, dropped_start, dropped_next, dropped_end}
+use Rattle.order_sets.specs.MembersLaws.{Reached}
+use Rattle.reduction_edges.proofs.LittleBrothersLaws.{DroppedTo}
 use Rattle.reduction_edges.proofs.little_brothers.drop_all.Given as goal
 
 abbrev pub invariant-loop-d : goal.invariant-loop-d

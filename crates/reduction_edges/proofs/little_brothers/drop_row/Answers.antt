@@ -1,7 +1,6 @@
 -- Without `drop` nothing is put over the zeros; with it what is dropped for the owner of r.
-use mathlib.Core.Path.{◌≡◌, sym, ap, ◌∙◌}
+use mathlib.Core.Path.{ap, ◌∙◌}
 use mathlib.Core.Bool.{not}
-use native.Mathlib.Omega.{arith}
 use Rattle.theory.proofs.Logic.BoolsLaws.{not_in}
 use Rattle.reduction_edges.proofs.LittleBrothersLaws.{nothing, drop_none, drop_some}
 use Rattle.reduction_edges.proofs.little_brothers.drop_row.Goals as goal

@@ -1,11 +1,9 @@
-use mathlib.Core.Path.{◌≡◌, refl, sym, ◌∙◌}
+use mathlib.Core.Path.{◌≡◌}
 use mathlib.Core.Bool.{false}
 use Prim.Native.Nat.{ℕ, ◌+◌, ◌-◌, ◌%◌, ◌≤◌, ◌<◌}
-use native.Mathlib.Omega.{arith}
 use Rattle.theory.specs.Logic.Bools.{◌&◌}
 use Rattle.words.specs.Words.{has}
 use Rattle.reduction_edges.specs.LittleBrothers.{below_other}
-use Rattle.reduction_edges.proofs.WordsLaws.{word_some, beaten_here, beaten_next, beaten_none}
 use Rattle.reduction_edges.proofs.little_brothers.is_beaten.Given as goal
 
 abbrev pub invariant-loop-w : goal.invariant-loop-w

@@ -1,9 +1,7 @@
 -- Invariant: the others before w that d is below are in the row.
-use mathlib.Core.Path.{◌≡◌, refl, ◌∙◌}
-use Prim.Native.Nat.{ℕ, ◌+◌, ◌-◌, ◌%◌, ◌≤◌, ◌<◌}
+use mathlib.Core.Path.{refl}
 use native.Mathlib.Omega.{arith}
-use lib.ListN.{length, length-set}
-use Rattle.reduction_edges.proofs.WordsLaws.{United, united_start, united_next, united_end}
+use Rattle.reduction_edges.proofs.WordsLaws.{united_start, united_next, united_end}
 use Rattle.std.proofs.Common.{rules}
 use Rattle.reduction_edges.proofs.little_brothers.unite_others.Goals as goal
 

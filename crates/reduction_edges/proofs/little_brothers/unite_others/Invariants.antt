@@ -1,8 +1,7 @@
-use mathlib.Core.Path.{◌≡◌, refl, ◌∙◌}
-use Prim.Native.Nat.{ℕ, ◌+◌, ◌-◌, ◌%◌, ◌≤◌, ◌<◌}
-use native.Mathlib.Omega.{arith}
-use lib.ListN.{length, length-set}
-use Rattle.reduction_edges.proofs.WordsLaws.{United, united_start, united_next, united_end}
+use mathlib.Core.Path.{◌≡◌}
+use Prim.Native.Nat.{◌+◌, ◌-◌, ◌%◌, ◌≤◌}
+use lib.ListN.{length}
+use Rattle.reduction_edges.proofs.WordsLaws.{United}
 use Rattle.reduction_edges.proofs.little_brothers.unite_others.Given as goal
 
 abbrev pub invariant-loop-w : goal.invariant-loop-w

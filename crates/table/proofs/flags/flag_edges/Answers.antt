@@ -1,12 +1,10 @@
 -- Before edge j, the flags are those of the edges before it, and as many pairs are flagged as were counted.
 use mathlib.Core.Path.{◌≡◌, refl, sym, ap, ap₂, ◌∙◌}
-use mathlib.Core.Logic.{⊎_elim}
 use mathlib.Core.Bool.{not}
-use Prim.Native.Nat.{ℕ, ◌+◌, ◌-◌, ◌≤◌}
+use Prim.Native.Nat.{ℕ, ◌+◌}
 use native.Mathlib.Omega.{arith}
-use lib.ListN.{length}
 use Rattle.theory.specs.Logic.Bools.{bit}
-use Rattle.table.specs.Flags.{Flagged, different_below}
+use Rattle.table.specs.Flags.{different_below}
 use Rattle.table.specs.FlagsLaws.{flagged_none, flagged_more, different_none, different_step, different_all, edge_flags}
 use Rattle.std.proofs.Common.{rules}
 use Rattle.table.proofs.flags.flag_edges.Goals as goal

@@ -1,10 +1,9 @@
 -- After j edges flag v is 0 exactly if one of them leaves v.
 use mathlib.Core.Path.{◌≡◌}
-use Prim.Native.Nat.{◌≤◌, ◌-◌, ◌+◌, ◌*◌}
+use Prim.Native.Nat.{◌+◌, ◌*◌}
 use native.Mathlib.Omega.{arith}
-use lib.ListN.{length, length-set}
+use lib.ListN.{length-set}
 use Rattle.table.specs.Table.{table_edges}
-use Rattle.table.specs.Flags.{Cleared}
 use Rattle.table.specs.FlagsLaws.{cleared_none, cleared_more, source_word, source_lt, lacking_flags}
 use Rattle.std.proofs.Common.{rules}
 use Rattle.table.proofs.searches.clear_sources.Goals as goal

@@ -1,10 +1,7 @@
 use mathlib.Core.Path.{◌≡◌}
-use Prim.Native.Nat.{◌≤◌, ◌-◌, ◌+◌, ◌*◌}
-use native.Mathlib.Omega.{arith}
-use lib.ListN.{length, length-set}
-use Rattle.table.specs.Table.{table_edges}
+use Prim.Native.Nat.{◌≤◌, ◌-◌}
+use lib.ListN.{length}
 use Rattle.table.specs.Flags.{Cleared}
-use Rattle.table.specs.FlagsLaws.{cleared_none, cleared_more, source_word, source_lt, lacking_flags}
 use Rattle.table.proofs.searches.clear_sources.Given as goal
 
 abbrev pub invariant-loop-j : goal.invariant-loop-j

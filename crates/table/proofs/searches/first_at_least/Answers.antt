@@ -1,11 +1,8 @@
 -- Where there is such a word, the rest of the search finds what the whole does.
-use mathlib.Core.Path.{◌≡◌, sym, ◌∙◌}
-use Prim.Native.Nat.{◌≤◌, ◌-◌}
+use mathlib.Core.Path.{sym, ◌∙◌}
 use native.Mathlib.Omega.{arith}
 use borrow.Author.Tests.{le-leb, lt-leb}
-use Rattle.theory.specs.Logic.Range.{first}
 use Rattle.theory.proofs.Logic.RangeLaws.{first_step, first_hit, first_end_lem}
-use Rattle.table.specs.Flags.{at_least}
 use Rattle.table.specs.HighestLaws.{highest_none}
 use Rattle.std.proofs.Common.{rules}
 use Rattle.table.proofs.searches.first_at_least.Goals as goal

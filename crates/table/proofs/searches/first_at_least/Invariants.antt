@@ -1,11 +1,7 @@
-use mathlib.Core.Path.{◌≡◌, sym, ◌∙◌}
+use mathlib.Core.Path.{◌≡◌}
 use Prim.Native.Nat.{◌≤◌, ◌-◌}
-use native.Mathlib.Omega.{arith}
-use borrow.Author.Tests.{le-leb, lt-leb}
 use Rattle.theory.specs.Logic.Range.{first}
-use Rattle.theory.proofs.Logic.RangeLaws.{first_step, first_hit, first_end_lem}
 use Rattle.table.specs.Flags.{at_least}
-use Rattle.table.specs.HighestLaws.{highest_none}
 use Rattle.table.proofs.searches.first_at_least.Given as goal
 
 abbrev pub invariant-loop-k : goal.invariant-loop-k

@@ -1,8 +1,6 @@
 use mathlib.Core.Path.{◌≡◌}
-use Rattle.table.specs.PlacingLaws.{placed_start, placed_more}
 use Prim.Native.Nat.{◌-◌, ◌≤◌}
-use native.Mathlib.Omega.{arith}
-use lib.ListN.{length, get_or, length-set}
+use lib.ListN.{length, get_or}
 use Rattle.theory.specs.Logic.Range.{tabulate}
 use Rattle.table.specs.Placing.{placed}
 use Rattle.table.proofs.slices.copy.Given as goal

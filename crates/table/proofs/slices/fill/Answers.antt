@@ -1,11 +1,8 @@
 -- Invariant: the first i words are put, and the others are as before.
 use mathlib.Core.Path.{◌≡◌}
 use Rattle.table.specs.PlacingLaws.{placed_start, placed_more}
-use Prim.Native.Nat.{◌-◌, ◌≤◌}
 use native.Mathlib.Omega.{arith}
-use lib.ListN.{length, length-set}
-use Rattle.theory.specs.Logic.Range.{tabulate}
-use Rattle.table.specs.Placing.{placed}
+use lib.ListN.{length-set}
 use Rattle.std.proofs.Common.{rules}
 use Rattle.table.proofs.slices.fill.Goals as goal
 

@@ -2,11 +2,9 @@
 use Prim.Native.Nat.{◌<◌}
 use mathlib.Core.Path.{◌≡◌}
 use Rattle.table.specs.PlacingLaws.{placed_start, placed_more}
-use Prim.Native.Nat.{◌+◌, ◌-◌, ◌≤◌}
+use Prim.Native.Nat.{◌+◌}
 use native.Mathlib.Omega.{arith}
 use lib.ListN.{length, get_or, length-set}
-use Rattle.theory.specs.Logic.Range.{tabulate}
-use Rattle.table.specs.Placing.{placed}
 use Rattle.std.proofs.Common.{rules}
 use Rattle.table.proofs.slices.gather.Goals as goal
 use Rattle.table.proofs.slices.gather.Lts as lts

@@ -1,10 +1,7 @@
 use mathlib.Core.Path.{◌≡◌}
-use mathlib.Core.Logic.{⊎_elim}
 use Prim.Native.Nat.{◌+◌, ◌-◌, ◌≤◌}
-use native.Mathlib.Omega.{arith}
 use lib.ListN.{get_or}
 use Rattle.table.specs.Highest.{highest_of}
-use Rattle.table.specs.HighestLaws.{highest_of_more}
 use Rattle.table.proofs.slices.highest.Given as goal
 
 abbrev pub invariant-loop-i : goal.invariant-loop-i

@@ -1,9 +1,7 @@
 -- The rest of the search finds what the whole does.
-use mathlib.Core.Path.{◌≡◌, sym, ◌∙◌}
+use mathlib.Core.Path.{sym, ◌∙◌}
 use mathlib.Core.Bool.{So}
-use Prim.Native.Nat.{◌+◌, ◌-◌, ◌≤◌}
 use Rattle.theory.proofs.Logic.BoolsLaws.{So_not}
-use Rattle.theory.specs.Logic.Range.{first}
 use Rattle.theory.proofs.Logic.RangeLaws.{first_step, first_hit, first_end_lem}
 use Rattle.table_convert.specs.ConvertCall.{oversize, first_oversize}
 use Rattle.table_convert.specs.ConvertCallLaws.{oversize_in, oversize_out}

@@ -1,13 +1,7 @@
-use mathlib.Core.Path.{◌≡◌, sym, ◌∙◌}
-use mathlib.Core.Logic.{⊎_elim}
-use mathlib.Core.Bool.{So}
+use mathlib.Core.Path.{◌≡◌}
 use Prim.Native.Nat.{◌+◌, ◌-◌, ◌≤◌}
-use borrow.Author.Tests.{eqb-true, eqb-false}
-use Rattle.theory.proofs.Logic.BoolsLaws.{So_not}
 use Rattle.theory.specs.Logic.Range.{first}
-use Rattle.theory.proofs.Logic.RangeLaws.{first_step, first_hit, first_end_lem}
 use Rattle.table_convert.specs.ConvertCall.{oversize, first_oversize}
-use Rattle.table_convert.specs.ConvertCallLaws.{oversize_in, oversize_out}
 use Rattle.table_convert.proofs.writing.first_oversize.Given as goal
 
 abbrev pub invariant-loop-k : goal.invariant-loop-k

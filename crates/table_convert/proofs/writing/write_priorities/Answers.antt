@@ -2,10 +2,8 @@
 use mathlib.Core.Path.{◌≡◌}
 use Prim.Native.Nat.{◌+◌, ◌-◌, ◌≤◌}
 use native.Mathlib.Omega.{arith}
-use lib.ListN.{length, length-set}
-use Rattle.theory.specs.Logic.Range.{tabulate}
+use lib.ListN.{length-set}
 use Rattle.table.specs.Table.{priority_at}
-use Rattle.table.specs.Placing.{placed}
 use Rattle.table.specs.PlacingLaws.{placed_start, placed_more}
 use Rattle.std.proofs.Common.{rules}
 use Rattle.table_convert.proofs.writing.write_priorities.Goals as goal

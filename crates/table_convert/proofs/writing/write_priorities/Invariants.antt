@@ -1,11 +1,9 @@
 use mathlib.Core.Path.{◌≡◌}
-use Prim.Native.Nat.{◌+◌, ◌-◌, ◌≤◌}
-use native.Mathlib.Omega.{arith}
-use lib.ListN.{length, length-set}
+use Prim.Native.Nat.{◌-◌, ◌≤◌}
+use lib.ListN.{length}
 use Rattle.theory.specs.Logic.Range.{tabulate}
 use Rattle.table.specs.Table.{priority_at}
 use Rattle.table.specs.Placing.{placed}
-use Rattle.table.specs.PlacingLaws.{placed_start, placed_more}
 use Rattle.table_convert.proofs.writing.write_priorities.Given as goal
 
 abbrev pub invariant-loop-v : goal.invariant-loop-v

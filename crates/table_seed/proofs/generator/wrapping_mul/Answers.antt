@@ -1,5 +1,5 @@
 -- The product of two 32-bit numbers fits 64 bits.
-use Rattle.std.proofs.Common.{arith, rules}
+use Rattle.std.proofs.Common.{arith}
 use Rattle.table_seed.specs.GeneratorLaws.{product_lt}
 use Rattle.table_seed.proofs.generator.wrapping_mul.Goals as goal
 

@@ -1,5 +1,5 @@
 -- Two stores.
-use Rattle.std.proofs.Common.{arith, length-set, rules}
+use Rattle.std.proofs.Common.{arith, length-set}
 use Rattle.table_seed.proofs.writing.write_edge.Goals as goal
 
 pub bounds-output-n-2 : goal.bounds-output-n-2

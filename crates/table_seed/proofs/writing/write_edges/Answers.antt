@@ -1,7 +1,6 @@
 -- Invariant: the first i edges of v are drawn.
-use Rattle.std.proofs.Common.{◌≡◌, ◌+◌, ◌-◌, ◌*◌, ◌<◌, ◌≤◌, length, ap, ◌∙◌, arith, length-set, rules}
+use Rattle.std.proofs.Common.{◌≡◌, ◌+◌, ◌*◌, ◌<◌, length, ap, ◌∙◌, arith, length-set, rules}
 use lib.Arith.{digits_lt}
-use Rattle.table_seed.specs.Progress.{EdgesDrawn}
 use Rattle.table_seed.specs.ProgressLaws.{edges_start, edges_more}
 use Rattle.std.proofs.Common.{rules}
 use Rattle.table_seed.proofs.writing.write_edges.Goals as goal

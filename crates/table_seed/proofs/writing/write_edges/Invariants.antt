@@ -1,7 +1,5 @@
-use Rattle.std.proofs.Common.{◌≡◌, ◌+◌, ◌-◌, ◌*◌, ◌<◌, ◌≤◌, length, ap, ◌∙◌, arith, length-set, rules}
-use lib.Arith.{digits_lt}
+use Rattle.std.proofs.Common.{◌≡◌, ◌-◌, ◌≤◌, length}
 use Rattle.table_seed.specs.Progress.{EdgesDrawn}
-use Rattle.table_seed.specs.ProgressLaws.{edges_start, edges_more}
 use Rattle.table_seed.proofs.writing.write_edges.Given as goal
 
 abbrev pub invariant-loop-i : goal.invariant-loop-i

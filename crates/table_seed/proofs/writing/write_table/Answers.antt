@@ -1,6 +1,5 @@
 -- Invariant: the first v vertices are drawn.
-use Rattle.std.proofs.Common.{◌≡◌, ℕ, ◌+◌, ◌-◌, ◌*◌, ◌≤◌, List, length, ◌∙◌, zero-mul, arith, length-set, rules}
-use Rattle.table_seed.specs.Progress.{Underway}
+use Rattle.std.proofs.Common.{◌∙◌, zero-mul, arith, length-set, rules}
 use Rattle.table_seed.specs.ProgressLaws.{underway_start, progress_end, room_kept}
 use Rattle.std.proofs.Common.{rules}
 use Rattle.table_seed.proofs.writing.write_table.Goals as goal

@@ -1,6 +1,5 @@
-use Rattle.std.proofs.Common.{◌≡◌, ℕ, ◌+◌, ◌-◌, ◌*◌, ◌≤◌, List, length, ◌∙◌, zero-mul, arith, length-set, rules}
+use Rattle.std.proofs.Common.{◌≡◌, ℕ, ◌+◌, ◌-◌, ◌*◌, ◌≤◌, List, length}
 use Rattle.table_seed.specs.Progress.{Underway}
-use Rattle.table_seed.specs.ProgressLaws.{underway_start, progress_end, room_kept}
 use Rattle.table_seed.proofs.writing.write_table.Given as goal
 
 abbrev pub invariant-loop-v : goal.invariant-loop-v

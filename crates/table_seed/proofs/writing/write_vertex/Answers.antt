@@ -1,5 +1,5 @@
 -- Two draws and their stores, and then the edges.
-use Rattle.std.proofs.Common.{◌∙◌, arith, length-set, rules}
+use Rattle.std.proofs.Common.{◌∙◌, arith, length-set}
 use Rattle.table_seed.specs.ProgressLaws.{vertex_more}
 use Rattle.table_seed.proofs.writing.write_vertex.Goals as goal
 

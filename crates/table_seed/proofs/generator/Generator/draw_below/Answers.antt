@@ -1,5 +1,5 @@
 -- A draw has 16 bits, so its remainder has too.
-use Rattle.std.proofs.Common.{arith, rules}
+use Rattle.std.proofs.Common.{arith}
 use native.Mathlib.Nat.{mod-le}
 use Rattle.table_seed.specs.GeneratorLaws.{draw_lt}
 use Rattle.table_seed.proofs.generator.Generator.draw_below.Goals as goal
