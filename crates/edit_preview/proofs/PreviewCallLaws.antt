@@ -7,7 +7,7 @@ use Rattle.table.specs.Answers.{Row, memory_row, refused, judge, Clean, written}
 use Rattle.table.specs.AnswersLaws.{judge_hit, judge_next}
 use Rattle.table.specs.Placing.{placed}
 use Rattle.edit_rules.proofs.BufferLaws.{in_vertices, in_edges}
-use Rattle.edit_rules.specs.Edges.{edited_words, edit_rows}
+use Rattle.edit_rules.specs.Edges.{edited_words}
 use Rattle.edit_rules.specs.EditParts.{Formed}
 use Rattle.edit_rules.proofs.EditPartsLaws.{formed_room}
 use Rattle.edit_rules.specs.declared.Edit.{Edit}

@@ -1,8 +1,9 @@
 -- Laws of the call that replays a trace: its promise at each way out.
 use Rattle.std.specs.Prelude.{◌≡◌, ℕ, ◌≤◌, length, take}
 use Rattle.std.proofs.Math.Path.{sym}
-use Rattle.std.proofs.Common.{◌∙◌}
+use Rattle.std.proofs.Common.{◌∙◌, arith}
 use mathlib.Core.List.{List, [], ◌∷◌, ◌++◌, append-nil}
+use Rattle.table.specs.Limits.{vertex_limit, edge_limit}
 use Rattle.table.specs.Table.{vertex_count, table_length, table_in}
 use Rattle.table.specs.Answers.{Row, Answer, accepted, refused, judge, Clean}
 use Rattle.table.specs.AnswersLaws.{judge_clean, judge_accepted, judge_past, judge_stays, after_clean, after_refused, clean_append}
@@ -130,6 +131,13 @@ module _ {buffer trace : List ℕ} {n m : ℕ} (form : Formed (table_in buffer) 
         order_fits = record { game = ran.formed.well; marks_fit = rw v f.order_fits.marks_fit; spare_fit = rw v f.order_fits.spare_fit };
         words_fit = rw v f.words_fit;
       }
+
+  pub ran_few : (r.edges ≤ edge_limit) × (n ≤ vertex_limit)
+  ran_few = (omega (arith, ran.formed.edges, ran.formed.well.edges), omega (arith, ran.formed.vertices, ran.formed.well.vertices))
+
+  pub ran_memory : {marks spare classes : List ℕ} → ClassesFit (table_in buffer) marks spare classes
+      → ClassesFit (take (table_length n r.edges) buffer₁) marks spare classes × (n ≡ vertex_count (take (table_length n r.edges) buffer₁))
+  ran_memory f = rw ran_part (ran_fits f, ran.formed.vertices)
 
   module _ {marks spare classes : List ℕ} {k : ℕ} {marks' spare' classes' : List ℕ} (filled : ClassesDone last marks spare classes k marks' spare' classes') where
     ran_replayed : (answer : Answer) → answer ≡ judge (replayed buffer trace).stop (call_counts last)
