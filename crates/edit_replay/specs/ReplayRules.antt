@@ -1,7 +1,7 @@
 -- The refusals of the call that replays a trace, in terms of logic: those before the first entry, and that of the first refused entry.
-use Rattle.std.specs.Prelude.{◌⊎◌, List, ◌++◌, ℕ, length}
+use Rattle.std.specs.Prelude.{List, ◌++◌, ℕ, length}
 use Rattle.table.specs.Table.{vertex_count, table_in}
-use Rattle.table.specs.Rules.{Rule, FirstRule, NoRule}
+use Rattle.table.specs.Rules.{Rule}
 use Rattle.classes.specs.ClassesRules.{memory_rules}
 use Rattle.edit_rules.specs.Buffer.{buffer_rules}
 use Rattle.edit_trace.specs.Trace.{entries_in}
