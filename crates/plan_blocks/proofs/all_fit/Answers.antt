@@ -5,6 +5,7 @@ use mathlib.Core.Path.{sym, ◌∙◌}
 use borrow.Author.Count.{below_more}
 use Rattle.theory.proofs.Logic.BoolsLaws.{So_not, clash}
 use Rattle.theory.proofs.Logic.RangeLaws.{all_in, all_out}
+use Rattle.plan_blocks.specs.Refining.{fits}
 use Rattle.plan_blocks.proofs.all_fit.Goals as goal
 
 pub loop-u-init : goal.loop-u-init

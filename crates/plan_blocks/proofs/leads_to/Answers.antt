@@ -3,7 +3,7 @@ use native.Mathlib.Nat.{le_refl}
 use mathlib.Core.Path.{refl, sym, ◌∙◌}
 use Rattle.theory.proofs.Logic.RangeLaws.{from_in, from_step, from_end}
 use Rattle.index.specs.Index.{among}
-use Rattle.plan_blocks.specs.Refining.{leads_to}
+use Rattle.plan_blocks.specs.Refining.{numbered, leads_to}
 use Rattle.plan_blocks.proofs.leads_to.Goals as goal
 
 pub loop-t-init : goal.loop-t-init

@@ -2,7 +2,7 @@
 use native.Mathlib.Omega.{arith}
 use mathlib.Core.Path.{refl, sym, ◌∙◌}
 use Rattle.theory.proofs.Logic.RangeLaws.{first_step, first_hit, first_end_lem}
-use Rattle.plan_links.specs.Refusals.{first_stray}
+use Rattle.plan_links.specs.Refusals.{strays, first_stray}
 use Rattle.plan_links.proofs.first_straying.Goals as goal
 
 pub loop-k-init : goal.loop-k-init

@@ -1,7 +1,9 @@
 -- Invariant: the total is the sum of the first c words, each below 65,536.
 use mathlib.Core.Path.{◌≡◌}
+use Prim.Native.Nat.{◌*◌, ◌-◌, ◌≤◌}
 use native.Mathlib.Omega.{arith}
 use lib.ListN.{get_or}
+use Rattle.theory.specs.Logic.Range.{sum}
 use Rattle.theory.proofs.Logic.SumLaws.{sum_none, sum_next}
 use Rattle.std.proofs.Common.{rules}
 use Rattle.reduction_totals.proofs.sum_of.Goals as goal

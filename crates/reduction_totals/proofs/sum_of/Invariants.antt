@@ -1,7 +1,9 @@
 use mathlib.Core.Path.{◌≡◌}
 use Prim.Native.Nat.{◌*◌, ◌-◌, ◌≤◌}
+use native.Mathlib.Omega.{arith}
 use lib.ListN.{get_or}
 use Rattle.theory.specs.Logic.Range.{sum}
+use Rattle.theory.proofs.Logic.SumLaws.{sum_none, sum_next}
 use Rattle.reduction_totals.proofs.sum_of.Given as goal
 
 abbrev pub invariant-loop-c : goal.invariant-loop-c

@@ -2,7 +2,7 @@
 use native.Mathlib.Omega.{arith}
 use mathlib.Core.Path.{refl, sym, ◌∙◌}
 use Rattle.theory.proofs.Logic.RangeLaws.{first_step, first_hit, first_end_lem}
-use Rattle.plan.specs.Acceptance.{first_lacking_link}
+use Rattle.plan.specs.Acceptance.{lacks_link, first_lacking_link}
 use Rattle.plan.specs.AnswerLaws.{space_kept}
 use Rattle.plan.proofs.answers.first_lacking_by.Goals as goal
 

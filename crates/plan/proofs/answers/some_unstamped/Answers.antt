@@ -2,6 +2,7 @@
 use native.Mathlib.Omega.{arith}
 use Prim.Native.Nat.{◌≤◌, ◌<◌, ◌+◌}
 use mathlib.Core.Path.{sym}
+use mathlib.Core.Bool.{false}
 use lib.ListN.{get_or}
 use Rattle.index.specs.IndexLaws.{indexed_size, indexed_order}
 use Rattle.plan_links.specs.LinkIndexLaws.{indexed_target}

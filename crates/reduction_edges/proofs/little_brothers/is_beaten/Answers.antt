@@ -1,5 +1,6 @@
 -- Invariant: d is below none of the row before w.
 use mathlib.Core.Path.{refl, sym, ◌∙◌}
+use mathlib.Core.Bool.{false}
 use native.Mathlib.Omega.{arith}
 use Rattle.reduction_edges.proofs.WordsLaws.{word_some, beaten_here, beaten_next, beaten_none}
 use Rattle.reduction_edges.proofs.little_brothers.is_beaten.Goals as goal
