@@ -100,10 +100,10 @@ module _ {game marks spare classes output : List ℕ} {answer : Answer} {marks' 
     accepts_again room =
         table_accepts call₂ (record {
           classes_fit = record {
-            order_fits = record { game = table_well; marks_fit = rw sizes.0 room.marks_fit_lem; spare_fit = rw sizes.0 room.spare_fit_lem };
-            words_fit = rw sizes.0 room.classes_fit_lem;
+            order_fits = record { game = table_well; marks_fit = rw sizes.0 room.marks_fit; spare_fit = rw sizes.0 room.spare_fit };
+            words_fit = rw sizes.0 room.classes_fit;
           };
-          output_fit = rw (sizes.0, sizes.1) room.output_fit_lem;
+          output_fit = rw (sizes.0, sizes.1) room.output_fit;
         }) ∙ ap accepted again_counts
 
     pub same_again : (given : List ℕ) → answer₂ ≡ accepted given → SameAgain game marks' classes' output' n e answer₂ marks₂' classes₂' output₂'

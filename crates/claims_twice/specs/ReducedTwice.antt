@@ -12,10 +12,10 @@ use Rattle.claims_twice.specs.declared.Twice.{Twice}
 
 -- the second set is long enough for a table of n vertices and e edges: rows 21 to 24
 pub record SecondFits (n e : ℕ) (marks spare classes output : List ℕ) : Type 0 where
-  pub marks_fit_lem : marks_length n ≤ length marks
-  pub spare_fit_lem : marks_length n ≤ length spare
-  pub classes_fit_lem : n ≤ length classes
-  pub output_fit_lem : table_length n e ≤ length output
+  pub marks_fit : marks_length n ≤ length marks
+  pub spare_fit : marks_length n ≤ length spare
+  pub classes_fit : n ≤ length classes
+  pub output_fit : table_length n e ≤ length output
 
 -- Of what the two calls leave: the first, which accepted with n vertices and e edges, its marks, classes and output; the second, which accepted,
 -- likewise, as `marks₂` and so on.
