@@ -1,16 +1,16 @@
 -- What the exports' answer holds: number 0 and the counts that document 01 gives the call, or the refusal's number and place; all other
 -- fields are 0.
-use Rattle.std.specs.Prelude.{ℕ, ◌<◌, get_or}
+use Rattle.std.specs.Prelude.{ℕ, ◌<◌, get_or, Result, Ok, Err}
 use Rattle.table.specs.Answers.{Answer, accepted, refused}
-use Rattle.table.specs.declared.Reading.{Reading}
-use Rattle.table.specs.declared.Filling.{Filling}
-use Rattle.table.specs.declared.Reading.TheVariants.{Accepted, Refused}
-use Rattle.classes.specs.declared.Classification.{Classification}
-use Rattle.reduction.specs.declared.Tabulation.{Tabulation}
 use Rattle.edit_replay.specs.declared.Replaying.{Replaying}
-use Rattle.carry_output.specs.declared.Carrying.{Carrying}
-use Rattle.carry.specs.declared.ClassCarrying.{ClassCarrying}
 use Rattle.abi_answer.specs.declared.RaskjomiAnswer.{RaskjomiAnswer}
+use Rattle.table.specs.declared.Refusal.{Refusal}
+use Rattle.table.specs.declared.Sizes.{Sizes}
+use Rattle.table.specs.declared.FilledSizes.{FilledSizes}
+use Rattle.classes.specs.declared.ClassCount.{ClassCount}
+use Rattle.reduction.specs.declared.TableCounts.{TableCounts}
+use Rattle.carry_output.specs.declared.PlanCounts.{PlanCounts}
+use Rattle.carry.specs.declared.ClassPlanCounts.{ClassPlanCounts}
 
 -- the answer of an accepted call: its counts, and 0 for those that it doesn't have
 abbrev pub counted : ℕ → ℕ → ℕ → ℕ → ℕ → ℕ → ℕ → RaskjomiAnswer
@@ -108,33 +108,33 @@ abbrev pub replay_fields : Answer → ℕ → RaskjomiAnswer
 replay_fields answer entries = with_entries entries (table_fields answer)
 
 -- a reading whose sizes fit the answer's fields
-abbrev pub SmallSizes : Reading → Type 0
-SmallSizes (Accepted sizes) = (sizes.vertices < 4294967296) × (sizes.edges < 4294967296) × (sizes.different < 4294967296)
-SmallSizes (Refused refusal) = Unit
+abbrev pub SmallSizes : Result Sizes Refusal → Type 0
+SmallSizes (Ok sizes) = (sizes.vertices < 4294967296) × (sizes.edges < 4294967296) × (sizes.different < 4294967296)
+SmallSizes (Err refusal) = Unit
 
 -- the same of the counts of a table that is filled
-abbrev pub SmallFilling : Filling → Type 0
-SmallFilling (Filling.Accepted counts) = (counts.vertices < 4294967296) × (counts.edges < 4294967296)
-SmallFilling (Filling.Refused refusal) = Unit
+abbrev pub SmallFilling : Result FilledSizes Refusal → Type 0
+SmallFilling (Ok counts) = (counts.vertices < 4294967296) × (counts.edges < 4294967296)
+SmallFilling (Err refusal) = Unit
 
 -- the same of a class count, and of a table's counts
-abbrev pub SmallCount : Classification → Type 0
-SmallCount (Classification.Accepted count) = count.classes < 4294967296
-SmallCount (Classification.Refused refusal) = Unit
+abbrev pub SmallCount : Result ClassCount Refusal → Type 0
+SmallCount (Ok count) = count.classes < 4294967296
+SmallCount (Err refusal) = Unit
 
-abbrev pub SmallCounts : Tabulation → Type 0
-SmallCounts (Tabulation.Accepted counts) = (counts.classes < 4294967296) × (counts.vertices < 4294967296) × (counts.edges < 4294967296)
-SmallCounts (Tabulation.Refused refusal) = Unit
+abbrev pub SmallCounts : Result TableCounts Refusal → Type 0
+SmallCounts (Ok counts) = (counts.classes < 4294967296) × (counts.vertices < 4294967296) × (counts.edges < 4294967296)
+SmallCounts (Err refusal) = Unit
 
 -- the same of a carried plan's counts
-abbrev pub SmallCarrying : Carrying → Type 0
-SmallCarrying (Carrying.Accepted counts) = (counts.positions < 4294967296) × (counts.links < 4294967296)
-SmallCarrying (Carrying.Refused refusal) = Unit
+abbrev pub SmallCarrying : Result PlanCounts Refusal → Type 0
+SmallCarrying (Ok counts) = (counts.positions < 4294967296) × (counts.links < 4294967296)
+SmallCarrying (Err refusal) = Unit
 
-abbrev pub SmallClassCarrying : ClassCarrying → Type 0
-SmallClassCarrying (ClassCarrying.Accepted found) =
+abbrev pub SmallClassCarrying : Result ClassPlanCounts Refusal → Type 0
+SmallClassCarrying (Ok found) =
     (found.classes < 4294967296) × (found.vertices < 4294967296) × (found.edges < 4294967296) × (found.positions < 4294967296) × (found.links < 4294967296)
-SmallClassCarrying (ClassCarrying.Refused refusal) = Unit
+SmallClassCarrying (Err refusal) = Unit
 
 abbrev pub SmallReplaying : Replaying → Type 0
 SmallReplaying replaying = SmallCounts replaying.verdict × (replaying.entries < 4294967296)

@@ -14,13 +14,13 @@ ghost use Rattle.abi_answer.specs.Fields.{counted, turned_down, read_fields, ord
 ghost use Rattle.abi_answer.specs.Fields.{fill_fields, carry_fields, class_carry_fields, replay_fields, SmallSizes, SmallFilling, SmallCount};
 ghost use Rattle.abi_answer.specs.Fields.{SmallCounts, SmallCarrying, SmallClassCarrying, SmallReplaying};
 
-use carry::ClassCarrying;
-use carry_output::Carrying;
-use classes::Classification;
+use carry::ClassPlanCounts;
+use carry_output::PlanCounts;
+use classes::ClassCount;
 use edit_replay::Replaying;
-use order::Ordering;
-use reduction::Tabulation;
-use table::{Acceptance, Filling, Reading, Refusal};
+use order::PassCount;
+use reduction::TableCounts;
+use table::{FilledSizes, NoCounts, Refusal, Sizes};
 
 // Number 0 for accepted, with the counts of the call; otherwise the refusal. All other fields are 0, but that a replay tells its entries with a
 // refusal too. `shown` is 1 where the verdict call says "wins".
@@ -84,12 +84,12 @@ fn refused(refusal: Refusal) -> RaskjomiAnswer
     }
 }
 
-pub fn of_reading(reading: Reading) -> RaskjomiAnswer
+pub fn of_reading(reading: Result<Sizes, Refusal>) -> RaskjomiAnswer
     requires { SmallSizes reading }
     ensures { result ≡ read_fields (reading_answer reading) }
 {
     match reading {
-        Reading::Accepted(sizes) => accepted(
+        Ok(sizes) => accepted(
             0,
             0,
             sizes.vertices as u32,
@@ -98,44 +98,44 @@ pub fn of_reading(reading: Reading) -> RaskjomiAnswer
             0,
             0,
         ),
-        Reading::Refused(refusal) => refused(refusal),
+        Err(refusal) => refused(refusal),
     }
 }
 
-pub fn of_ordering(ordering: Ordering) -> RaskjomiAnswer
+pub fn of_ordering(ordering: Result<PassCount, Refusal>) -> RaskjomiAnswer
     ensures { result ≡ order_fields (ordering_answer ordering) }
 {
     match ordering {
-        Ordering::Accepted(count) => accepted(count.passes, 0, 0, 0, 0, 0, 0),
-        Ordering::Refused(refusal) => refused(refusal),
+        Ok(count) => accepted(count.passes, 0, 0, 0, 0, 0, 0),
+        Err(refusal) => refused(refusal),
     }
 }
 
-pub fn of_acceptance(acceptance: Acceptance) -> RaskjomiAnswer
+pub fn of_acceptance(acceptance: Result<NoCounts, Refusal>) -> RaskjomiAnswer
     ensures { result ≡ accept_fields (acceptance_answer acceptance) }
 {
     match acceptance {
-        Acceptance::Accepted(_) => accepted(0, 0, 0, 0, 0, 0, 0),
-        Acceptance::Refused(refusal) => refused(refusal),
+        Ok(_) => accepted(0, 0, 0, 0, 0, 0, 0),
+        Err(refusal) => refused(refusal),
     }
 }
 
-pub fn of_classification(classification: Classification) -> RaskjomiAnswer
+pub fn of_classification(classification: Result<ClassCount, Refusal>) -> RaskjomiAnswer
     requires { SmallCount classification }
     ensures { result ≡ classes_fields (classification_answer classification) }
 {
     match classification {
-        Classification::Accepted(count) => accepted(0, count.classes as u32, 0, 0, 0, 0, 0),
-        Classification::Refused(refusal) => refused(refusal),
+        Ok(count) => accepted(0, count.classes as u32, 0, 0, 0, 0, 0),
+        Err(refusal) => refused(refusal),
     }
 }
 
-pub fn of_tabulation(tabulation: Tabulation) -> RaskjomiAnswer
+pub fn of_tabulation(tabulation: Result<TableCounts, Refusal>) -> RaskjomiAnswer
     requires { SmallCounts tabulation }
     ensures { result ≡ table_fields (tabulation_answer tabulation) }
 {
     match tabulation {
-        Tabulation::Accepted(counts) => accepted(
+        Ok(counts) => accepted(
             0,
             counts.classes as u32,
             counts.vertices as u32,
@@ -144,46 +144,36 @@ pub fn of_tabulation(tabulation: Tabulation) -> RaskjomiAnswer
             0,
             0,
         ),
-        Tabulation::Refused(refusal) => refused(refusal),
+        Err(refusal) => refused(refusal),
     }
 }
 
-pub fn of_filling(filling: Filling) -> RaskjomiAnswer
+pub fn of_filling(filling: Result<FilledSizes, Refusal>) -> RaskjomiAnswer
     requires { SmallFilling filling }
     ensures { result ≡ fill_fields (filling_answer filling) }
 {
     match filling {
-        Filling::Accepted(counts) => {
-            accepted(0, 0, counts.vertices as u32, counts.edges as u32, 0, 0, 0)
-        }
-        Filling::Refused(refusal) => refused(refusal),
+        Ok(counts) => accepted(0, 0, counts.vertices as u32, counts.edges as u32, 0, 0, 0),
+        Err(refusal) => refused(refusal),
     }
 }
 
-pub fn of_carrying(carrying: Carrying) -> RaskjomiAnswer
+pub fn of_carrying(carrying: Result<PlanCounts, Refusal>) -> RaskjomiAnswer
     requires { SmallCarrying carrying }
     ensures { result ≡ carry_fields (carrying_answer carrying) }
 {
     match carrying {
-        Carrying::Accepted(counts) => accepted(
-            0,
-            0,
-            0,
-            0,
-            0,
-            counts.positions as u32,
-            counts.links as u32,
-        ),
-        Carrying::Refused(refusal) => refused(refusal),
+        Ok(counts) => accepted(0, 0, 0, 0, 0, counts.positions as u32, counts.links as u32),
+        Err(refusal) => refused(refusal),
     }
 }
 
-pub fn of_class_carrying(carrying: ClassCarrying) -> RaskjomiAnswer
+pub fn of_class_carrying(carrying: Result<ClassPlanCounts, Refusal>) -> RaskjomiAnswer
     requires { SmallClassCarrying carrying }
     ensures { result ≡ class_carry_fields (class_carrying_answer carrying) }
 {
     match carrying {
-        ClassCarrying::Accepted(found) => accepted(
+        Ok(found) => accepted(
             0,
             found.classes as u32,
             found.vertices as u32,
@@ -192,7 +182,7 @@ pub fn of_class_carrying(carrying: ClassCarrying) -> RaskjomiAnswer
             found.positions as u32,
             found.links as u32,
         ),
-        ClassCarrying::Refused(refusal) => refused(refusal),
+        Err(refusal) => refused(refusal),
     }
 }
 
@@ -200,19 +190,8 @@ pub fn of_replaying(replaying: Replaying) -> RaskjomiAnswer
     requires { SmallReplaying replaying }
     ensures { result ≡ replay_fields (tabulation_answer replaying.verdict) replaying.entries }
 {
-    let verdict = replaying.verdict;
-    let answer = of_tabulation(verdict);
     RaskjomiAnswer {
-        number: answer.number,
-        passes: answer.passes,
-        classes: answer.classes,
-        vertices: answer.vertices,
-        edges: answer.edges,
-        different: answer.different,
-        positions: answer.positions,
-        links: answer.links,
         entries: replaying.entries as u32,
-        place: answer.place,
-        shown: answer.shown,
+        ..of_tabulation(replaying.verdict)
     }
 }

@@ -1,10 +1,10 @@
 -- The promise of the verdict call's export: the library's answer, its fields, and the library's promise.
-use Rattle.std.specs.Prelude.{◌≡◌, List, ℕ, get_or}
+use Rattle.std.specs.Prelude.{◌≡◌, List, ℕ, get_or, Ok, Result, Err}
 use Rattle.table.specs.Answers.{Answer, accepted, refused}
-use Rattle.reduction.specs.declared.Tabulation.{Tabulation}
 use Rattle.abi_answer.specs.Fields.{turned_down, table_fields, SmallCounts}
 use Rattle.abi_answer.specs.declared.RaskjomiAnswer.{RaskjomiAnswer}
 use Rattle.verdict.specs.VerdictCall.{VerdictCall}
+use Rattle.table.specs.declared.Refusal.{Refusal}
 use Rattle.verdict.specs.declared.Verdict.{Verdict}
 
 -- the same answer with whether it is shown
@@ -30,10 +30,10 @@ verdict_fields (accepted counts) = with_shown (get_or counts 3 0) (table_fields 
 verdict_fields (refused number place) = turned_down number place
 
 -- counts that fit the answer's fields
-abbrev pub SmallVerdict : Verdict → Type 0
-SmallVerdict (Verdict.Wins counts) = SmallCounts (Tabulation.Accepted counts)
-SmallVerdict (Verdict.NotShown counts) = SmallCounts (Tabulation.Accepted counts)
-SmallVerdict (Verdict.Refused refusal) = Unit
+abbrev pub SmallVerdict : Result Verdict Refusal → Type 0
+SmallVerdict (Ok (Verdict.Wins counts)) = SmallCounts (Ok counts)
+SmallVerdict (Ok (Verdict.NotShown counts)) = SmallCounts (Ok counts)
+SmallVerdict (Err refusal) = Unit
 
 pub record VerdictExport (game : List ℕ) (vertex player : ℕ) (plan marks spare classes reduction : List ℕ) (r : RaskjomiAnswer)
     (marks' spare' classes' reduction' : List ℕ) : Type 0 where

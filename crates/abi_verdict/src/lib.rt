@@ -6,35 +6,23 @@ ghost use Rattle.verdict.specs.VerdictCall.{verdict_answer};
 ghost use Rattle.abi_verdict.specs.VerdictExport.{with_shown, verdict_fields, SmallVerdict, VerdictExport};
 
 use abi_answer::{RaskjomiAnswer, of_tabulation};
-use reduction::Tabulation;
+use table::Refusal;
 use verdict::Verdict;
 
 fn with_shown(answer: RaskjomiAnswer) -> RaskjomiAnswer
     ensures { result ≡ with_shown 1 answer }
 {
-    RaskjomiAnswer {
-        number: answer.number,
-        passes: answer.passes,
-        classes: answer.classes,
-        vertices: answer.vertices,
-        edges: answer.edges,
-        different: answer.different,
-        positions: answer.positions,
-        links: answer.links,
-        entries: answer.entries,
-        place: answer.place,
-        shown: 1,
-    }
+    RaskjomiAnswer { shown: 1, ..answer }
 }
 
-fn of_verdict(verdict: Verdict) -> RaskjomiAnswer
+fn of_verdict(verdict: Result<Verdict, Refusal>) -> RaskjomiAnswer
     requires { SmallVerdict verdict }
     ensures { result ≡ verdict_fields (verdict_answer verdict) }
 {
     match verdict {
-        Verdict::Wins(counts) => with_shown(of_tabulation(Tabulation::Accepted(counts))),
-        Verdict::NotShown(counts) => of_tabulation(Tabulation::Accepted(counts)),
-        Verdict::Refused(refusal) => of_tabulation(Tabulation::Refused(refusal)),
+        Ok(Verdict::Wins(counts)) => with_shown(of_tabulation(Ok(counts))),
+        Ok(Verdict::NotShown(counts)) => of_tabulation(Ok(counts)),
+        Err(refusal) => of_tabulation(Err(refusal)),
     }
 }
 

@@ -1,6 +1,6 @@
 -- The calls that carry a plan: document 02, CR 4, with their tables of refusals. The plan is on the game itself or, in the second call, on
 -- the reduced game.
-use Rattle.std.specs.Prelude.{◌≡◌, List, [], ◌∷◌, ◌++◌, ℕ}
+use Rattle.std.specs.Prelude.{◌≡◌, List, [], ◌∷◌, ◌++◌, ℕ, Result, Ok, Err}
 use Rattle.theory.specs.Order.Order.{order}
 use Rattle.theory.specs.Plans.Plan.{Plan}
 use Rattle.theory.specs.Classes.Reduction.{no_better, reduced}
@@ -13,7 +13,8 @@ use Rattle.reduction.specs.TableCall.{table_rows, table_counts, class_table}
 use Rattle.plan_links.specs.PlanTable.{vertex_at, plan_of}
 use Rattle.plan.specs.Acceptance.{plan_rows}
 use Rattle.carry_output.specs.PlanWords.{plan_words, plan_counts, carried_rows}
-use Rattle.carry.specs.declared.ClassCarrying.{ClassCarrying}
+use Rattle.table.specs.declared.Refusal.{Refusal}
+use Rattle.carry.specs.declared.ClassPlanCounts.{ClassPlanCounts}
 
 -- ---- the plan is on the game itself
 
@@ -42,9 +43,9 @@ pub record CarryCall (game : List ℕ) (player : ℕ) (plan : List ℕ) (vertex 
 -- ---- the plan is on the reduced game
 
 -- accepted with the counts of the classes, of the reduced game and of the plan
-abbrev pub class_carrying_answer : ClassCarrying → Answer
-class_carrying_answer (ClassCarrying.Accepted c) = accepted (c.classes ∷ c.vertices ∷ c.edges ∷ c.positions ∷ c.links ∷ [])
-class_carrying_answer (ClassCarrying.Refused f) = refused f.number f.place
+abbrev pub class_carrying_answer : Result ClassPlanCounts Refusal → Answer
+class_carrying_answer (Ok c) = accepted (c.classes ∷ c.vertices ∷ c.edges ∷ c.positions ∷ c.links ∷ [])
+class_carrying_answer (Err f) = refused f.number f.place
 
 module _ (game : List ℕ) (player : ℕ) (plan : List ℕ) (vertex : ℕ) where
   abbrev pub carried_from_class : Plan

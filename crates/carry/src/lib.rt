@@ -9,11 +9,11 @@ ghost use Rattle.carry.specs.CarryCall.{CarryCall, class_carrying_answer, CarryC
 ghost use Rattle.carry_output.specs.CarryParts.{carried_by, Arrived};
 ghost use Rattle.carry.specs.ReducedMemory.{ReducedHeld, reduced_rows};
 
-use carry_output::{Carrying, carry_to};
+use carry_output::{PlanCounts, carry_to};
 use marks::packed::length_for;
 use plan::judge_plan;
-use reduction::{TableCounts, Tabulation, tabulate_classes};
-use table::{Acceptance, Filling, Refusal, refusal_of};
+use reduction::{TableCounts, tabulate_classes};
+use table::{Refusal, refusal_of, refused};
 
 // The number of classes, the vertices and edges of the reduced game, and the positions and links of the plan that is written.
 #[derive(Clone, Copy)]
@@ -23,12 +23,6 @@ pub struct ClassPlanCounts {
     pub edges: usize,
     pub positions: usize,
     pub links: usize,
-}
-
-#[derive(Clone, Copy)]
-pub enum ClassCarrying {
-    Accepted(ClassPlanCounts),
-    Refused(Refusal),
 }
 
 // Judges the game, the memory and a plan on the game, and writes the order and the plan carried to the vertex. For Even the plan's start
@@ -41,31 +35,22 @@ pub fn carry_plan(
     marks: &mut [u8],
     spare: &mut [u8],
     output: &mut [u16],
-) -> Carrying
+) -> Result<PlanCounts, Refusal>
     ensures { CarryCall game.now player plan.now vertex marks.old spare.old output.old (carrying_answer result)
         marks.new spare.new output.new }
 {
     let reading = table_reader::read_sizes(game);
-    let Filling::Accepted(sizes) = reading else {
-        return Carrying::Refused(refusal_of(reading));
+    let Ok(sizes) = reading else {
+        return Err(refusal_of(reading));
     };
     let needed = length_for(sizes.vertices);
     if marks.len() < needed {
-        return Carrying::Refused(Refusal {
-            number: 21,
-            place: needed,
-        });
+        return refused(21, needed);
     }
     if spare.len() < needed {
-        return Carrying::Refused(Refusal {
-            number: 22,
-            place: needed,
-        });
+        return refused(22, needed);
     }
-    let judged = judge_plan(game, player, plan);
-    if let Acceptance::Refused(refusal) = judged {
-        return Carrying::Refused(refusal);
-    }
+    judge_plan(game, player, plan)?;
     order::fill_order(game, marks, spare);
     carry_to(
         game,
@@ -91,31 +76,26 @@ pub fn carry_class_plan(
     classes: &mut [u16],
     reduction: &mut [u16],
     output: &mut [u16],
-) -> ClassCarrying
+) -> Result<ClassPlanCounts, Refusal>
     ensures { CarryClassCall game.now player plan.now vertex marks.old spare.old classes.old reduction.old output.old (class_carrying_answer result)
         marks.new spare.new classes.new reduction.new output.new }
 {
     let reading = table_reader::read_sizes(game);
-    let Filling::Accepted(sizes) = reading else {
-        return ClassCarrying::Refused(refusal_of(reading));
+    let Ok(sizes) = reading else {
+        return Err(refusal_of(reading));
     };
-    let written = tabulate_classes(game, sizes, marks, spare, classes, reduction, true);
-    match written {
-        Tabulation::Accepted(counts) => {
-            carry_reduced(
-                game,
-                player,
-                plan,
-                vertex as usize,
-                marks,
-                classes,
-                reduction,
-                output,
-                counts,
-            )
-        }
-        Tabulation::Refused(refusal) => ClassCarrying::Refused(refusal),
-    }
+    let counts = tabulate_classes(game, sizes, marks, spare, classes, reduction, true)?;
+    carry_reduced(
+        game,
+        player,
+        plan,
+        vertex as usize,
+        marks,
+        classes,
+        reduction,
+        output,
+        counts,
+    )
 }
 
 // 11 to 16 about the reduced game, which was written, then 33 to 35 and the plan's words.
@@ -129,7 +109,7 @@ fn carry_reduced(
     reduction: &[u16],
     output: &mut [u16],
     counts: TableCounts,
-) -> ClassCarrying
+) -> Result<ClassPlanCounts, Refusal>
     requires { ReducedHeld game.now marks.now classes.now reduction.now counts }
     ensures { Arrived (reduced_rows game.now player plan.now y output.old)
         (table_counts reduced game.now ++ plan_counts (carried_by true game.now player plan.now y))
@@ -137,19 +117,13 @@ fn carry_reduced(
         output.new }
 {
     let size = 2 + 2 * counts.vertices + 2 * counts.edges;
-    let judged = judge_plan(&reduction[..size], player, plan);
-    if let Acceptance::Refused(refusal) = judged {
-        return ClassCarrying::Refused(refusal);
-    }
-    let carried = carry_to(game, player, plan, y, marks, classes, output, true);
-    match carried {
-        Carrying::Accepted(found) => ClassCarrying::Accepted(ClassPlanCounts {
-            classes: counts.classes,
-            vertices: counts.vertices,
-            edges: counts.edges,
-            positions: found.positions,
-            links: found.links,
-        }),
-        Carrying::Refused(refusal) => ClassCarrying::Refused(refusal),
-    }
+    judge_plan(&reduction[..size], player, plan)?;
+    let found = carry_to(game, player, plan, y, marks, classes, output, true)?;
+    Ok(ClassPlanCounts {
+        classes: counts.classes,
+        vertices: counts.vertices,
+        edges: counts.edges,
+        positions: found.positions,
+        links: found.links,
+    })
 }

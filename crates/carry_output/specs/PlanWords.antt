@@ -1,12 +1,13 @@
 -- The plan that is written, and the rows of the table of refusals about it: document 02, CR 4.
-use Rattle.std.specs.Prelude.{not, List, [], ◌∷◌, ◌++◌, map, ℕ, ltb, length}
+use Rattle.std.specs.Prelude.{not, List, [], ◌∷◌, ◌++◌, map, ℕ, ltb, length, Result, Ok, Err}
 use Rattle.theory.specs.Logic.Bools.{◌&◌, ◌or◌}
 use Rattle.theory.specs.Order.Passes.{Rel}
 use Rattle.theory.specs.Plans.Plan.{Plan}
 use Rattle.table.specs.Limits.{position_limit, link_limit}
 use Rattle.table.specs.Answers.{Row, row, memory_row, Answer, accepted, refused}
 use Rattle.plan_links.specs.PlanTable.{plan_length}
-use Rattle.carry_output.specs.declared.Carrying.{Carrying}
+use Rattle.table.specs.declared.Refusal.{Refusal}
+use Rattle.carry_output.specs.declared.PlanCounts.{PlanCounts}
 
 -- a plan in words: sizes, the vertex of each position, the links' sources, their targets
 unfoldable pub plan_words : Plan → List ℕ
@@ -29,6 +30,6 @@ unfoldable pub carried_rows : ℕ → Rel → ℕ → ℕ → Plan → List ℕ 
 carried_rows n K x y C output = row 33 (not (ltb y n & K x y)) y ∷ size_rows C output
 
 -- what the cases of the verdict say: accepted with p and l
-abbrev pub carrying_answer : Carrying → Answer
-carrying_answer (Carrying.Accepted c) = accepted (c.positions ∷ c.links ∷ [])
-carrying_answer (Carrying.Refused f) = refused f.number f.place
+abbrev pub carrying_answer : Result PlanCounts Refusal → Answer
+carrying_answer (Ok c) = accepted (c.positions ∷ c.links ∷ [])
+carrying_answer (Err f) = refused f.number f.place

@@ -9,10 +9,10 @@ ghost use Rattle.carry_search.specs.Work.{work_length, part};
 ghost use Rattle.carry_output.specs.PlanWords.{plan_words, carrying_answer};
 ghost use Rattle.carry_output.specs.CarryParts.{first_words, plan_in, PlanArrived};
 
-use crate::{Carrying, PlanCounts};
+use crate::PlanCounts;
 use carry_search::places::{HEADS_AT, SOURCES_AT, TARGETS_AT, VERTICES_AT, WORK_LENGTH};
 use table::limits::{LINKS, POSITIONS};
-use table::{Refusal, slices};
+use table::{Refusal, refused, slices};
 
 // Puts the first `count` words of a part of the work memory.
 fn copy_part(output: &mut [u16], at: usize, work: &[u16], start: usize, end: usize, count: usize)
@@ -36,31 +36,27 @@ fn write_plan(work: &[u16], p: usize, l: usize, output: &mut [u16])
 }
 
 // Judges 34 and 35 of the first p vertices and l links, and writes the plan.
-pub fn write_found(work: &[u16], p: usize, l: usize, output: &mut [u16]) -> Carrying
+pub fn write_found(
+    work: &[u16],
+    p: usize,
+    l: usize,
+    output: &mut [u16],
+) -> Result<PlanCounts, Refusal>
     requires { work_length ≤ length work.now }
     ensures { PlanArrived (plan_in work.now p l) output.old (carrying_answer result) output.new }
 {
     if POSITIONS < p {
-        return Carrying::Refused(Refusal {
-            number: 34,
-            place: 0,
-        });
+        return refused(34, 0);
     }
     if LINKS < l {
-        return Carrying::Refused(Refusal {
-            number: 34,
-            place: 0,
-        });
+        return refused(34, 0);
     }
     let needed = 2 + p + 2 * l;
     if output.len() < needed {
-        return Carrying::Refused(Refusal {
-            number: 35,
-            place: needed,
-        });
+        return refused(35, needed);
     }
     write_plan(work, p, l, output);
-    Carrying::Accepted(PlanCounts {
+    Ok(PlanCounts {
         positions: p,
         links: l,
     })

@@ -17,10 +17,9 @@ fn fill_lowest(game: &[u16], classes: &[u16], reps: &mut [u16])
     requires game_in_bounds { vertex_count game.now ≤ length reps.old }
     ensures { Represented (game_of game.now).n (order (game_of game.now)) reps.new }
 {
-    let mut v = game[0] as usize;
-    while 0 < v {
-        v -= 1;
-        let c = classes[v] as usize;
+    let n = game[0] as usize;
+    for v in (0..n).rev() {
+        let c = usize::from(classes[v]);
         reps[c] = v as u16;
     }
 }

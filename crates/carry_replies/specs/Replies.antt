@@ -14,6 +14,8 @@ use Rattle.table.specs.Flags.{EdgeFlags}
 use Rattle.classes.specs.Numbering.{Ordered}
 use Rattle.plan_links.specs.PlanTable.{position_count, link_count, link_source, link_target, plan_of}
 use Rattle.plan_links.specs.PlanFormed.{PlanFormed}
+use Rattle.carry_replies.specs.declared.SeatedPlan.{SeatedPlan}
+use Rattle.carry_replies.specs.declared.Replies.{Replies}
 
 -- ---- the plan that the search follows
 
@@ -49,6 +51,18 @@ pub record Linked (game : List ℕ) (player : ℕ) (plan seats marks firsts foll
 pub record Readable (game : List ℕ) (player : ℕ) (plan seats marks edges firsts follow : List ℕ) : Type 0 where
   pub links : Linked game player plan seats marks firsts follow
   pub flags : EdgeFlags game edges
+
+-- ---- the same facts of the structs in which the code passes these tables
+
+abbrev pub IsSeated : SeatedPlan → Type 0
+IsSeated s = Seated s.game.now s.player s.plan.now s.seats.now s.marks.now
+
+abbrev pub IsLinked : Replies → Type 0
+IsLinked r = Linked r.seated.game.now r.seated.player r.seated.plan.now r.seated.seats.now r.seated.marks.now r.firsts.now r.follow.now
+
+abbrev pub IsReadable : Replies → Type 0
+IsReadable r =
+    Readable r.seated.game.now r.seated.player r.seated.plan.now r.seated.seats.now r.seated.marks.now r.edges.now r.firsts.now r.follow.now
 
 -- ---- replies
 

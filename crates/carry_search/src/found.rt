@@ -55,15 +55,14 @@ pub fn visit(work: &mut [u16], counts: Counts, p: usize, k: usize, j: usize, w: 
     requires k_le_position_limit { (k ≤ position_limit) × (j < p) }
     ensures { Moved k ((j, w) ∷ []) p (memory_in work.old counts) (memory_in work.new result) }
 {
-    let pairs = counts.pairs;
-    let links = counts.links;
+    let Counts { pairs, links } = counts;
     let number = number_of(work, counts, p, j, w);
     work[SOURCES_AT + links] = k as u16;
     work[TARGETS_AT + links] = number as u16;
     if number < pairs {
         return Counts {
-            pairs,
             links: links + 1,
+            ..counts
         };
     }
     add_pair(work, pairs, j, w);

@@ -1,18 +1,16 @@
 // The order and the relation acceptor: document 01's games, games of several passes, short buffers, bad relations.
 use crate::{print, tables};
-use order::Ordering;
-use table::Acceptance;
 
 // The verdict, and then both buffers, which start as sevens.
 fn orders(rt: &impl Print, name: &[u8], game: &[u16], marks: &mut [u8], spare: &mut [u8]) {
     print::text(rt, name);
     match order::write_order(game, marks, spare) {
-        Ordering::Accepted(count) => {
+        Ok(count) => {
             print::accepted(rt);
             print::number(rt, count.passes as u64);
             print::end_line(rt);
         }
-        Ordering::Refused(refusal) => print::refused(rt, refusal),
+        Err(refusal) => print::refused(rt, refusal),
     }
     print::text(rt, b"marks");
     print::bytes(rt, marks);
@@ -94,11 +92,11 @@ pub fn short_buffers(rt: &impl Print) {
 fn accepts(rt: &impl Print, name: &[u8], game: &[u16], marks: &[u8]) {
     print::text(rt, name);
     match order_acceptor::accept_relation(game, marks) {
-        Acceptance::Accepted(_) => {
+        Ok(_) => {
             print::accepted(rt);
             print::end_line(rt);
         }
-        Acceptance::Refused(refusal) => print::refused(rt, refusal),
+        Err(refusal) => print::refused(rt, refusal),
     }
 }
 

@@ -1,15 +1,14 @@
 // The plan acceptor: document 01's plans, and bad plans of each kind.
 use crate::{print, tables};
-use table::Acceptance;
 
 fn accepts(rt: &impl Print, name: &[u8], game: &[u16], player: u32, words: &[u16]) {
     print::text(rt, name);
     match plan::accept_plan(game, player, words) {
-        Acceptance::Accepted(_) => {
+        Ok(_) => {
             print::accepted(rt);
             print::end_line(rt);
         }
-        Acceptance::Refused(refusal) => print::refused(rt, refusal),
+        Err(refusal) => print::refused(rt, refusal),
     }
 }
 

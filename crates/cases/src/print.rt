@@ -30,18 +30,14 @@ pub fn accepted(rt: &impl Print) {
 
 // a space and a number for each byte
 pub fn bytes(rt: &impl Print, bs: &[u8]) {
-    let mut i = 0;
-    while i < bs.len() {
-        number(rt, bs[i] as u64);
-        i += 1;
+    for b in bs {
+        number(rt, u64::from(*b));
     }
 }
 
 // the same for words
 pub fn words(rt: &impl Print, ws: &[u16]) {
-    let mut i = 0;
-    while i < ws.len() {
-        number(rt, ws[i] as u64);
-        i += 1;
+    for w in ws {
+        number(rt, u64::from(*w));
     }
 }

@@ -1,19 +1,18 @@
 // The reader and the kind call: document 01's games, bad input of each kind, the limits.
 use crate::{print, tables};
-use table::Reading;
 
 fn reads(rt: &impl Print, name: &[u8], game: &[u16]) {
     print::text(rt, name);
     let r = table_reader::read(game);
     match r {
-        Reading::Accepted(c) => {
+        Ok(c) => {
             print::accepted(rt);
             print::number(rt, c.vertices as u64);
             print::number(rt, c.edges as u64);
             print::number(rt, c.different as u64);
             print::end_line(rt);
         }
-        Reading::Refused(f) => print::refused(rt, f),
+        Err(f) => print::refused(rt, f),
     }
 }
 

@@ -1,19 +1,26 @@
 // Classes, quotient game and reduced game: document 01's games, and short buffers.
 use crate::{print, tables};
-use reduction::Tabulation;
+use reduction::TableCounts;
+use table::Refusal;
 
 // The verdict, and the class words and the output, which start as sevens.
-fn tabulates(rt: &impl Print, name: &[u8], verdict: Tabulation, classes: &[u16], output: &[u16]) {
+fn tabulates(
+    rt: &impl Print,
+    name: &[u8],
+    verdict: Result<TableCounts, Refusal>,
+    classes: &[u16],
+    output: &[u16],
+) {
     print::text(rt, name);
     match verdict {
-        Tabulation::Accepted(counts) => {
+        Ok(counts) => {
             print::accepted(rt);
             print::number(rt, counts.classes as u64);
             print::number(rt, counts.vertices as u64);
             print::number(rt, counts.edges as u64);
             print::end_line(rt);
         }
-        Tabulation::Refused(refusal) => print::refused(rt, refusal),
+        Err(refusal) => print::refused(rt, refusal),
     }
     print::text(rt, b"classes");
     print::words(rt, classes);

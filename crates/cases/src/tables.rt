@@ -58,11 +58,9 @@ pub fn largest(game: &mut [u16])
 {
     game[0] = 512;
     game[1] = 4096;
-    let mut j = 0;
-    while j < 4096 {
+    for j in 0..4096 {
         game[1026 + j] = (j % 512) as u16;
         game[5122 + j] = ((j % 512 + j / 512) % 512) as u16;
-        j += 1;
     }
 }
 
@@ -76,10 +74,8 @@ pub fn put(game: &mut [u16], at: usize, word: u16) {
 pub fn loops(words: &mut [u16], p: u16) {
     put(words, 0, p);
     put(words, 1, p);
-    let mut i = 0u16;
-    while i < p {
+    for i in 0..p {
         put(words, 2 + p as usize + i as usize, i);
         put(words, 2 + 2 * (p as usize) + i as usize, i);
-        i += 1;
     }
 }

@@ -16,13 +16,14 @@ ghost use Rattle.claims.specs.GovernedSentences.{Governs, GovernsClasses};
 ghost use Rattle.verdict.specs.VerdictCall.{verdict_answer};
 ghost use Rattle.verdict.specs.Verdicts.{Verdicts};
 
-use carry::ClassCarrying;
-use carry_output::Carrying;
+use carry::ClassPlanCounts;
+use carry_output::PlanCounts;
 use claims::Containment;
-use classes::Classification;
+use classes::ClassCount;
 use edit_replay::Replaying;
-use order::Ordering;
-use reduction::Tabulation;
+use order::PassCount;
+use reduction::TableCounts;
+use table::Refusal;
 use verdict::Verdict;
 
 // Judges a relation, then writes the order.
@@ -38,7 +39,7 @@ pub fn contains(game: &[u16], relation: &[u8], marks: &mut [u8], spare: &mut [u8
 }
 
 // Writes the order.
-pub fn orders(game: &[u16], marks: &mut [u8], spare: &mut [u8]) -> Ordering
+pub fn orders(game: &[u16], marks: &mut [u8], spare: &mut [u8]) -> Result<PassCount, Refusal>
     ensures { Orders game.now marks.old spare.old (ordering_answer result) marks.new spare.new }
 {
     order::write_order(game, marks, spare)
@@ -50,7 +51,7 @@ pub fn classifies(
     marks: &mut [u8],
     spare: &mut [u8],
     classes: &mut [u16],
-) -> Classification
+) -> Result<ClassCount, Refusal>
     ensures { Classifies game.now marks.old spare.old classes.old (classification_answer result) marks.new spare.new classes.new }
 {
     classes::write_classes(game, marks, spare, classes)
@@ -63,7 +64,7 @@ pub fn quotients(
     spare: &mut [u8],
     classes: &mut [u16],
     output: &mut [u16],
-) -> Tabulation
+) -> Result<TableCounts, Refusal>
     ensures { Tabulates quotient game.now marks.old spare.old classes.old output.old (tabulation_answer result)
         marks.new spare.new classes.new output.new }
 {
@@ -77,7 +78,7 @@ pub fn reduces(
     spare: &mut [u8],
     classes: &mut [u16],
     output: &mut [u16],
-) -> Tabulation
+) -> Result<TableCounts, Refusal>
     ensures { Tabulates reduced game.now marks.old spare.old classes.old output.old (tabulation_answer result)
         marks.new spare.new classes.new output.new }
 {
@@ -93,7 +94,7 @@ pub fn carries(
     marks: &mut [u8],
     spare: &mut [u8],
     output: &mut [u16],
-) -> Carrying
+) -> Result<PlanCounts, Refusal>
     ensures { Carries game.now player plan.now vertex marks.old spare.old output.old (carrying_answer result)
         marks.new spare.new output.new }
 {
@@ -111,7 +112,7 @@ pub fn carries_class(
     classes: &mut [u16],
     reduction: &mut [u16],
     output: &mut [u16],
-) -> ClassCarrying
+) -> Result<ClassPlanCounts, Refusal>
     ensures { CarriesClass game.now player plan.now vertex marks.old spare.old classes.old reduction.old output.old (class_carrying_answer result)
         marks.new spare.new classes.new reduction.new output.new }
 {
@@ -128,7 +129,7 @@ pub fn adds(
     marks: &mut [u8],
     spare: &mut [u8],
     classes: &mut [u16],
-) -> Tabulation
+) -> Result<TableCounts, Refusal>
     ensures { Edits Arrival buffer.old source target marks.old spare.old classes.old (tabulation_answer result)
         buffer.new marks.new spare.new classes.new }
 {
@@ -143,7 +144,7 @@ pub fn removes(
     marks: &mut [u8],
     spare: &mut [u8],
     classes: &mut [u16],
-) -> Tabulation
+) -> Result<TableCounts, Refusal>
     ensures { Edits Leaving buffer.old source target marks.old spare.old classes.old (tabulation_answer result)
         buffer.new marks.new spare.new classes.new }
 {
@@ -159,7 +160,7 @@ pub fn previews_add(
     marks: &mut [u8],
     spare: &mut [u8],
     classes: &mut [u16],
-) -> Tabulation
+) -> Result<TableCounts, Refusal>
     ensures { Previews Arrival game.now source target table.old marks.old spare.old classes.old (tabulation_answer result)
         table.new marks.new spare.new classes.new }
 {
@@ -175,7 +176,7 @@ pub fn previews_remove(
     marks: &mut [u8],
     spare: &mut [u8],
     classes: &mut [u16],
-) -> Tabulation
+) -> Result<TableCounts, Refusal>
     ensures { Previews Leaving game.now source target table.old marks.old spare.old classes.old (tabulation_answer result)
         table.new marks.new spare.new classes.new }
 {
@@ -197,7 +198,7 @@ pub fn replays(
 }
 
 // Writes the largest governed bisimulation.
-pub fn governs(game: &[u16], marks: &mut [u8], spare: &mut [u8]) -> Ordering
+pub fn governs(game: &[u16], marks: &mut [u8], spare: &mut [u8]) -> Result<PassCount, Refusal>
     ensures { Governs game.now marks.old spare.old (ordering_answer result) marks.new spare.new }
 {
     governed::write_governed(game, marks, spare)
@@ -209,7 +210,7 @@ pub fn governs_classes(
     marks: &mut [u8],
     spare: &mut [u8],
     classes: &mut [u16],
-) -> Classification
+) -> Result<ClassCount, Refusal>
     ensures { GovernsClasses game.now marks.old spare.old classes.old (classification_answer result) marks.new spare.new classes.new }
 {
     governed::write_governed_classes(game, marks, spare, classes)
@@ -225,7 +226,7 @@ pub fn gives_verdict(
     spare: &mut [u8],
     classes: &mut [u16],
     reduction: &mut [u16],
-) -> Verdict
+) -> Result<Verdict, Refusal>
     ensures { Verdicts game.now vertex player plan.now marks.old spare.old classes.old reduction.old (verdict_answer result)
         marks.new spare.new classes.new reduction.new }
 {

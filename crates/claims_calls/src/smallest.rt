@@ -2,7 +2,8 @@
 ghost use Rattle.reduction.specs.TableCall.{tabulation_answer};
 ghost use Rattle.claims.specs.Smallest.{Minimizes};
 
-use reduction::Tabulation;
+use reduction::TableCounts;
+use table::Refusal;
 
 // Writes the reduced game.
 pub fn minimizes(
@@ -11,7 +12,7 @@ pub fn minimizes(
     spare: &mut [u8],
     classes: &mut [u16],
     output: &mut [u16],
-) -> Tabulation
+) -> Result<TableCounts, Refusal>
     ensures { Minimizes game.now marks.old spare.old classes.old output.old (tabulation_answer result)
         marks.new spare.new classes.new output.new }
 {

@@ -1,5 +1,5 @@
 -- The reduced game of the written table is the written table: the games agree, and what is written goes by the game alone.
-use Rattle.std.specs.Prelude.{◌≡◌, refl, ◌↔◌, List, [], ◌∷◌, ℕ, ◌≤◌, ◌<◌, length, get_or}
+use Rattle.std.specs.Prelude.{◌≡◌, refl, ◌↔◌, List, [], ◌∷◌, ℕ, ◌≤◌, ◌<◌, length, get_or, Result, Ok, Err}
 use Rattle.std.proofs.Common.{sym, ap, ap₂, ◌∙◌, subst, arith}
 use Rattle.std.proofs.Math.Bool.{So}
 use Rattle.theory.specs.Games.Game.{Game, edge_count}
@@ -24,7 +24,6 @@ use Rattle.marks.specs.Marks.{Marked}
 use Rattle.classes.specs.ClassesCall.{class_total}
 use Rattle.reduction.specs.TableCall.{table_rows, tabulation_answer, table_counts, class_table, TableCall}
 use Rattle.reduction.specs.declared.TableCounts.{TableCounts}
-use Rattle.reduction.specs.declared.Tabulation.{Tabulation}
 use Rattle.reduction.proofs.TableRulesLaws.{table_accepted, table_accepts, table_clean}
 use Rattle.claims.specs.WrittenMemory.{written_table}
 use Rattle.claims.specs.Demands.{reduced_faithful, counts, table_is, table_edges_lem, table_read, table_leaves_marks, table_leaves_classes, written_mark, class_word}
@@ -133,9 +132,9 @@ module _ {game marks spare classes output : List ℕ} {answer : Answer} {marks' 
 
 -- ---- two calls in a row
 
-module _ {game marks spare classes output marks₂ spare₂ classes₂ output₂ marks' spare' classes' output' : List ℕ} (r : Tabulation)
+module _ {game marks spare classes output marks₂ spare₂ classes₂ output₂ marks' spare' classes' output' : List ℕ} (r : Result TableCounts Refusal)
     (call : TableCall reduced game marks spare classes output (tabulation_answer r) marks' spare' classes' output') where
-  pub twice_refused : (f : Refusal) → r ≡ Tabulation.Refused f
+  pub twice_refused : (f : Refusal) → r ≡ Err f
       → ReducesTwice game marks spare classes output marks₂ spare₂ classes₂ output₂ (record { first = r; second = r })
       marks' spare' classes' output' marks₂ spare₂ classes₂ output₂
   twice_refused f q = record {
@@ -149,9 +148,9 @@ module _ {game marks spare classes output marks₂ spare₂ classes₂ output₂
       never : {counts : List ℕ} → tabulation_answer r ≡ accepted counts → ⊥
       never a = not_both (sym (ap tabulation_answer q) ∙ a)
 
-  pub twice_accepted : {marks₂' spare₂' classes₂' output₂' : List ℕ} (c : TableCounts) (v : Tabulation) → r ≡ Tabulation.Accepted c
+  pub twice_accepted : {marks₂' spare₂' classes₂' output₂' : List ℕ} (c : TableCounts) (v : Result TableCounts Refusal) → r ≡ Ok c
       → TableCall reduced (written_table c.vertices c.edges output') marks₂ spare₂ classes₂ output₂ (tabulation_answer v) marks₂' spare₂' classes₂' output₂'
-      → ReducesTwice game marks spare classes output marks₂ spare₂ classes₂ output₂ (record { first = Tabulation.Accepted c; second = v })
+      → ReducesTwice game marks spare classes output marks₂ spare₂ classes₂ output₂ (record { first = Ok c; second = v })
       marks' spare' classes' output' marks₂' spare₂' classes₂' output₂'
   twice_accepted {marks₂'} {spare₂'} {classes₂'} {output₂'} c v q call₂ = record {
     first = told;
@@ -161,10 +160,10 @@ module _ {game marks spare classes output marks₂ spare₂ classes₂ output₂
     same = λ k n e a. same_again told k n e a (next k n e a);
   }
     where
-      told : TableCall reduced game marks spare classes output (tabulation_answer (Tabulation.Accepted c)) marks' spare' classes' output'
-      told = subst (λ (x : Tabulation). TableCall reduced game marks spare classes output (tabulation_answer x) marks' spare' classes' output') q call
+      told : TableCall reduced game marks spare classes output (tabulation_answer (Ok c)) marks' spare' classes' output'
+      told = subst (λ (x : Result TableCounts Refusal). TableCall reduced game marks spare classes output (tabulation_answer x) marks' spare' classes' output') q call
 
-      next : (k n e : ℕ) → tabulation_answer (Tabulation.Accepted c) ≡ accepted (k ∷ n ∷ e ∷ [])
+      next : (k n e : ℕ) → tabulation_answer (Ok c) ≡ accepted (k ∷ n ∷ e ∷ [])
           → TableCall reduced (written_table n e output') marks₂ spare₂ classes₂ output₂ (tabulation_answer v) marks₂' spare₂' classes₂' output₂'
       next k n e a =
           let p = accepted_inj a in

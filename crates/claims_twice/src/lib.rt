@@ -4,13 +4,14 @@
 
 ghost use Rattle.claims_twice.specs.ReducedTwice.{ReducesTwice};
 
-use reduction::Tabulation;
+use reduction::TableCounts;
+use table::Refusal;
 
 // The verdicts of two calls in a row.
 #[derive(Clone, Copy)]
 pub struct Twice {
-    pub first: Tabulation,
-    pub second: Tabulation,
+    pub first: Result<TableCounts, Refusal>,
+    pub second: Result<TableCounts, Refusal>,
 }
 
 // Writes the reduced game, and then the reduced game of what was written, in a second set of buffers.
@@ -30,7 +31,7 @@ pub fn reduces_twice(
         marks.new spare.new classes.new output.new next_marks.new next_spare.new next_classes.new next_output.new }
 {
     let first = reduction::write_reduced(game, marks, spare, classes, output);
-    let Tabulation::Accepted(counts) = first else {
+    let Ok(counts) = first else {
         return Twice {
             first,
             second: first,

@@ -9,13 +9,14 @@ ghost use Rattle.carry.specs.CarryCall.{class_carrying_answer};
 ghost use Rattle.verdict.specs.VerdictCall.{verdict_answer};
 ghost use Rattle.claims_winners.specs.Winners.{OrderDecides, TableDecides, CarryDecides, VerdictDecides};
 
-use carry::ClassCarrying;
-use order::Ordering;
-use reduction::Tabulation;
+use carry::ClassPlanCounts;
+use order::PassCount;
+use reduction::TableCounts;
+use table::Refusal;
 use verdict::Verdict;
 
 // Writes the order.
-pub fn orders(game: &[u16], marks: &mut [u8], spare: &mut [u8]) -> Ordering
+pub fn orders(game: &[u16], marks: &mut [u8], spare: &mut [u8]) -> Result<PassCount, Refusal>
     ensures { OrderDecides game.now marks.old spare.old (ordering_answer result) marks.new spare.new }
 {
     order::write_order(game, marks, spare)
@@ -28,7 +29,7 @@ pub fn quotients(
     spare: &mut [u8],
     classes: &mut [u16],
     output: &mut [u16],
-) -> Tabulation
+) -> Result<TableCounts, Refusal>
     ensures { TableDecides quotient game.now marks.old spare.old classes.old output.old (tabulation_answer result)
         marks.new spare.new classes.new output.new }
 {
@@ -42,7 +43,7 @@ pub fn reduces(
     spare: &mut [u8],
     classes: &mut [u16],
     output: &mut [u16],
-) -> Tabulation
+) -> Result<TableCounts, Refusal>
     ensures { TableDecides reduced game.now marks.old spare.old classes.old output.old (tabulation_answer result)
         marks.new spare.new classes.new output.new }
 {
@@ -60,7 +61,7 @@ pub fn carries_class(
     classes: &mut [u16],
     reduction: &mut [u16],
     output: &mut [u16],
-) -> ClassCarrying
+) -> Result<ClassPlanCounts, Refusal>
     ensures { CarryDecides game.now player plan.now vertex marks.old spare.old classes.old reduction.old output.old (class_carrying_answer result)
         marks.new spare.new classes.new reduction.new output.new }
 {
@@ -79,7 +80,7 @@ pub fn gives_verdict(
     spare: &mut [u8],
     classes: &mut [u16],
     reduction: &mut [u16],
-) -> Verdict
+) -> Result<Verdict, Refusal>
     ensures { VerdictDecides game.now vertex player plan.now marks.old spare.old classes.old reduction.old (verdict_answer result)
         marks.new spare.new classes.new reduction.new }
 {

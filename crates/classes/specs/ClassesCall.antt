@@ -1,5 +1,5 @@
 -- The classes call: document 01, "Classes, quotient, reduced game", with its table of refusals.
-use Rattle.std.specs.Prelude.{◌≡◌, List, [], ◌∷◌, ◌++◌, ℕ, ltb, length}
+use Rattle.std.specs.Prelude.{◌≡◌, List, [], ◌∷◌, ◌++◌, ℕ, ltb, length, Result, Ok, Err}
 use Rattle.theory.specs.Logic.Range.{tabulate}
 use Rattle.theory.specs.Order.Passes.{Marks, Rel}
 use Rattle.theory.specs.Games.Game.{Game}
@@ -10,8 +10,9 @@ use Rattle.table.specs.Answers.{Row, row, Answer, accepted, refused, judge, afte
 use Rattle.table.specs.Reading.{game_rows}
 use Rattle.marks.specs.Marks.{marks_length}
 use Rattle.order.specs.OrderCall.{bytes_of}
-use Rattle.classes.specs.declared.Classification.{Classification}
-use Rattle.classes.specs.declared.Memory.{Memory}
+use Rattle.table.specs.declared.Refusal.{Refusal}
+use Rattle.table.specs.declared.NoCounts.{NoCounts}
+use Rattle.classes.specs.declared.ClassCount.{ClassCount}
 
 -- 21 to 23, for n vertices and buffers of these lengths
 abbrev pub memory_rows : ℕ → ℕ → ℕ → ℕ → List Row
@@ -45,13 +46,9 @@ abbrev pub classes_answer : List ℕ → List ℕ → List ℕ → List ℕ → 
 classes_answer = total_answer class_total
 
 -- what the cases of the verdicts say
-abbrev pub classification_answer : Classification → Answer
-classification_answer (Classification.Accepted c) = accepted (c.classes ∷ [])
-classification_answer (Classification.Refused f) = refused f.number f.place
-
-abbrev pub memory_answer : Memory → Answer
-memory_answer Memory.Enough = accepted []
-memory_answer (Memory.Short f) = refused f.number f.place
+abbrev pub classification_answer : Result ClassCount Refusal → Answer
+classification_answer (Ok c) = accepted (c.classes ∷ [])
+classification_answer (Err f) = refused f.number f.place
 
 -- The promise of a call that writes a relation and its classes: the verdict, with the class count, and every lent word.
 pub record NumberedCall (relation : Game → Marks) (total : List ℕ → ℕ) (words : List ℕ → List ℕ) (game marks spare classes : List ℕ) (answer : Answer)

@@ -1,6 +1,6 @@
 -- Laws of the classes call: its promise at each way out. What its rows say is said for any counts, since the calls that write a table have
 -- these rows first.
-use Rattle.std.specs.Prelude.{◌≡◌, Bool, ℕ, length}
+use Rattle.std.specs.Prelude.{◌≡◌, Bool, ℕ, length, Ok, Err}
 use Rattle.std.proofs.Math.Path.{sym}
 use Rattle.std.proofs.Common.{◌∙◌}
 use mathlib.Core.List.{List, [], ◌∷◌, append-nil}
@@ -9,6 +9,7 @@ use Rattle.theory.specs.Order.Passes.{Marks}
 use Rattle.theory.specs.Games.Game.{Game}
 use Rattle.theory.specs.Order.Governed.{marks_by, relation_by, passes_by}
 use Rattle.theory.specs.Classes.Reduction.{class_count, class_number}
+use Rattle.table.specs.Acceptance.{acceptance_answer}
 use Rattle.table.specs.Table.{vertex_count}
 use Rattle.table.specs.Answers.{Row, accepted, refused, judge, written}
 use Rattle.table.specs.AnswersLaws.{judge_clean, judge_accepted, judge_past, judge_stays, after_clean, after_refused, clean_append}
@@ -17,16 +18,14 @@ use Rattle.table.specs.Filling.{filling_answer}
 use Rattle.table.specs.ReadingLaws.{reading_stays, well_clean}
 use Rattle.table.specs.WellFormed.{WellFormed}
 use Rattle.table.specs.declared.Refusal.{Refusal}
-use Rattle.table.specs.declared.Filling.TheVariants.{Refused}
 use Rattle.marks.specs.Marks.{relation}
 use Rattle.order.specs.OrderWritten.{MarksDone}
 use Rattle.order.specs.OrderCall.{bytes_of}
-use Rattle.classes.specs.ClassesCall.{memory_rows, memory_answer, class_rows, total_of, words_of, total_answer, NumberedCall}
+use Rattle.classes.specs.ClassesCall.{memory_rows, class_rows, total_of, words_of, total_answer, NumberedCall}
 use Rattle.classes.specs.NumberedMemory.{NumberedDone}
 use Rattle.classes.specs.OrderedMarksLaws.{held_done, held_total, held_words}
 use Rattle.classes.specs.ClassesRules.{ClassesFit}
 use Rattle.classes.specs.ClassesRulesLaws.{classes_clean, clean_classes}
-use Rattle.classes.specs.declared.Memory.TheVariants.{Enough, Short}
 
 module _ (game marks spare classes : List ℕ) where
   abbrev rows : List Row
@@ -36,7 +35,7 @@ module _ (game marks spare classes : List ℕ) where
   abbrev memory : List Row
   memory = memory_rows (vertex_count game) (length marks) (length spare) (length classes)
 
-  pub memory_fits : WellFormed game → memory_answer Enough ≡ judge memory [] → ClassesFit game marks spare classes
+  pub memory_fits : WellFormed game → acceptance_answer (Ok (record {})) ≡ judge memory [] → ClassesFit game marks spare classes
   unfolding class_rows
   memory_fits well e =
       clean_classes game marks spare classes (clean_append (game_rows game) memory (well_clean game well) (judge_accepted memory [] [] (sym e)).0)
@@ -44,11 +43,11 @@ module _ (game marks spare classes : List ℕ) where
   -- ---- what the rows say, whatever counts an acceptance has
 
   module _ (counts : List ℕ) where
-    pub rows_handed : (f : Refusal) → filling_answer (Refused f) ≡ sizes_answer game → judge rows counts ≡ refused f.number f.place
+    pub rows_handed : (f : Refusal) → filling_answer (Err f) ≡ sizes_answer game → judge rows counts ≡ refused f.number f.place
     unfolding class_rows
     rows_handed f e = reading_stays game f e memory counts
 
-    pub rows_short : WellFormed game → (f : Refusal) → memory_answer (Short f) ≡ judge memory [] → judge rows counts ≡ refused f.number f.place
+    pub rows_short : WellFormed game → (f : Refusal) → acceptance_answer (Err f) ≡ judge memory [] → judge rows counts ≡ refused f.number f.place
     unfolding class_rows
     rows_short well f e = judge_past (game_rows game) memory counts (well_clean game well) ∙ (rw (append-nil memory) at (judge_stays memory [] [] counts _ _ (sym e)))
 
@@ -65,11 +64,11 @@ module _ (game marks spare classes : List ℕ) where
     }
 
     -- the reader's refusal is the call's
-    pub classes_handed : (f : Refusal) → filling_answer (Refused f) ≡ sizes_answer game → NumberedCall relation total words game marks spare classes (refused f.number f.place) marks spare classes
+    pub classes_handed : (f : Refusal) → filling_answer (Err f) ≡ sizes_answer game → NumberedCall relation total words game marks spare classes (refused f.number f.place) marks spare classes
     unfolding total_answer
     classes_handed f e = classes_old f.number f.place (rows_handed _ f e)
 
-    pub classes_short : WellFormed game → (f : Refusal) → memory_answer (Short f) ≡ judge memory [] → NumberedCall relation total words game marks spare classes (refused f.number f.place) marks spare classes
+    pub classes_short : WellFormed game → (f : Refusal) → acceptance_answer (Err f) ≡ judge memory [] → NumberedCall relation total words game marks spare classes (refused f.number f.place) marks spare classes
     unfolding total_answer
     classes_short well f e = classes_old f.number f.place (rows_short _ well f e)
 

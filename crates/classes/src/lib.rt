@@ -5,57 +5,44 @@ pub mod numbering;
 
 ghost use Rattle.std.specs.Prelude.{◌≡◌, [], ◌≤◌};
 ghost use Rattle.theory.specs.Order.Governed.{marks_by, relation_by};
+ghost use Rattle.table.specs.Acceptance.{acceptance_answer};
 ghost use Rattle.table.specs.Limits.{vertex_limit};
 ghost use Rattle.table.specs.Table.{vertex_count};
 ghost use Rattle.table.specs.Answers.{judge};
 ghost use Rattle.table.specs.WellFormed.{WellFormed};
-ghost use Rattle.classes.specs.ClassesCall.{memory_rows, memory_answer, classification_answer, total_of, words_of, NumberedCall, ClassesCall};
+ghost use Rattle.classes.specs.ClassesCall.{memory_rows, classification_answer, total_of, words_of, NumberedCall, ClassesCall};
 ghost use Rattle.classes.specs.NumberedMemory.{NumberedDone, ClassesDone};
 ghost use Rattle.classes.specs.ClassesRules.{ClassesFit};
 
 use marks::packed::length_for;
-use table::{Filling, Refusal, refusal_of};
+use table::{NoCounts, Refusal, refusal_of, refused};
 
 #[derive(Clone, Copy)]
 pub struct ClassCount {
     pub classes: usize,
 }
 
-#[derive(Clone, Copy)]
-pub enum Classification {
-    Accepted(ClassCount),
-    Refused(Refusal),
-}
-
-// Whether the lent memory is long enough.
-#[derive(Clone, Copy)]
-pub enum Memory {
-    Enough,
-    Short(Refusal),
-}
-
-fn short(number: u32, place: usize) -> Memory
-    ensures { result ≡ Memory.Short (record { number = number; place = place }) }
-{
-    Memory::Short(Refusal { number, place })
-}
-
 // Judges the lengths of marks, spare and class words: 21 to 23. A part of the calls that write classes; no host calls it.
-pub fn judge_memory(n: usize, marks: usize, spare: usize, classes: usize) -> Memory
+pub fn judge_memory(
+    n: usize,
+    marks: usize,
+    spare: usize,
+    classes: usize,
+) -> Result<NoCounts, Refusal>
     requires { n ≤ vertex_limit }
-    ensures { memory_answer result ≡ judge (memory_rows n marks spare classes) [] }
+    ensures { acceptance_answer result ≡ judge (memory_rows n marks spare classes) [] }
 {
     let needed = length_for(n);
     if marks < needed {
-        return short(21, needed);
+        return refused(21, needed);
     }
     if spare < needed {
-        return short(22, needed);
+        return refused(22, needed);
     }
     if classes < n {
-        return short(23, n);
+        return refused(23, n);
     }
-    Memory::Enough
+    Ok(NoCounts {})
 }
 
 // Writes the order of a game of n vertices or, with `mirror`, its governed bisimulation into marks and spare, and the class of each vertex by it, in
@@ -101,18 +88,15 @@ pub fn write_numbered(
     spare: &mut [u8],
     classes: &mut [u16],
     mirror: bool,
-) -> Classification
+) -> Result<ClassCount, Refusal>
     requires { WellFormed game.now × (n ≡ vertex_count game.now) }
     ensures { NumberedCall (marks_by mirror) (total_of (relation_by mirror)) (words_of (relation_by mirror))
         game.now marks.old spare.old classes.old (classification_answer result)
         marks.new spare.new classes.new }
 {
-    let memory = judge_memory(n, marks.len(), spare.len(), classes.len());
-    if let Memory::Short(refusal) = memory {
-        return Classification::Refused(refusal);
-    }
+    judge_memory(n, marks.len(), spare.len(), classes.len())?;
     let k = fill_numbered(game, n, marks, spare, classes, mirror);
-    Classification::Accepted(ClassCount { classes: k })
+    Ok(ClassCount { classes: k })
 }
 
 // Judges the game and the memory, and writes the order into marks and spare, and the class of each vertex.
@@ -121,12 +105,12 @@ pub fn write_classes(
     marks: &mut [u8],
     spare: &mut [u8],
     classes: &mut [u16],
-) -> Classification
+) -> Result<ClassCount, Refusal>
     ensures { ClassesCall game.now marks.old spare.old classes.old (classification_answer result) marks.new spare.new classes.new }
 {
     let reading = table_reader::read_sizes(game);
-    let Filling::Accepted(sizes) = reading else {
-        return Classification::Refused(refusal_of(reading));
+    let Ok(sizes) = reading else {
+        return Err(refusal_of(reading));
     };
     write_numbered(game, sizes.vertices, marks, spare, classes, false)
 }

@@ -1,6 +1,6 @@
 // A part of the calls that write classes; no host calls it.
 // The classes of a preorder on n vertices that is given by its marks.
-ghost use Rattle.std.specs.Prelude.{◌≡◌, ◌+◌, ◌<◌, ◌≤◌, min, length, set};
+ghost use Rattle.std.specs.Prelude.{◌≡◌, ◌+◌, ◌<◌, ◌≤◌, length, set};
 ghost use Rattle.theory.specs.Logic.Range.{first, tabulate};
 ghost use Rattle.theory.specs.Classes.Reduction.{same_class, lowest, class_count, class_number};
 ghost use Rattle.table.specs.Limits.{vertex_limit};
@@ -13,14 +13,6 @@ use marks::packed::is_marked;
 use marks::reading::read_bits;
 use table::limits::VERTICES;
 use words::{lowest, rest};
-
-// The end of the vertices from w on, below n, that are asked at once.
-fn end_of(w: usize, n: usize) -> usize
-    requires { (w ≤ n) × (n ≤ vertex_limit) }
-    ensures { result ≡ min n (w + read_bits) }
-{
-    if w + 56 < n { w + 56 } else { n }
-}
 
 // The lowest member of v's class from `from` on, below `end`; `end` where there is none. Of the bits of v's row only those that are set
 // are asked for the other direction.
@@ -47,7 +39,8 @@ fn lowest_member(marks: &[u8], n: usize, v: usize) -> usize
 {
     let mut w = 0;
     while w < n {
-        let end = end_of(w, n);
+        // of the row at most 56 vertices are asked at once
+        let end = n.min(w + 56);
         let low = lowest_between(marks, n, v, w, end);
         if low < end {
             return low;
@@ -91,10 +84,8 @@ pub fn number_classes(marks: &[u8], n: usize, classes: &mut [u16], reps: &mut [u
     ensures numbered { Numbered n (relation n marks.now) n result classes.new reps.new }
 {
     let mut k = 0;
-    let mut v = 0;
-    while v < n {
+    for v in 0..n {
         k = number_vertex(marks, n, v, k, classes, reps);
-        v += 1;
     }
     k
 }

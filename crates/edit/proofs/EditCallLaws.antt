@@ -1,10 +1,10 @@
 -- Laws of the calls that edit a table: their promise at each way out.
-use Rattle.std.specs.Prelude.{◌≡◌, List, [], ◌∷◌, ◌++◌, ℕ, ◌≤◌, ltb, length, take}
+use Rattle.std.specs.Prelude.{◌≡◌, List, [], ◌∷◌, ◌++◌, ℕ, ◌≤◌, ltb, length, take, Result, Ok, Err}
 use Rattle.std.proofs.Math.Path.{sym}
 use Rattle.std.proofs.Common.{ap, ◌∙◌, append-nil, arith, length-take}
 use Rattle.table.specs.Limits.{vertex_limit, edge_limit}
 use Rattle.table.specs.Table.{vertex_count, table_length, table_in}
-use Rattle.table.specs.Answers.{Row, accepted, refused, judge, Clean, written}
+use Rattle.table.specs.Answers.{Row, Answer, accepted, refused, judge, Clean, written}
 use Rattle.table.specs.AnswersLaws.{judge_clean, judge_accepted, judge_past, judge_stays, after_clean, after_refused, clean_append}
 use Rattle.table.specs.Reading.{sizes_answer}
 use Rattle.table.specs.Filling.{filling_answer, refusal_of}
@@ -13,14 +13,10 @@ use Rattle.table.specs.Acceptance.{acceptance_answer}
 use Rattle.table.specs.WellFormed.{WellFormed}
 use Rattle.table.specs.declared.FilledSizes.{FilledSizes}
 use Rattle.table.specs.declared.Refusal.{Refusal}
-use Rattle.table.specs.declared.Filling.{Filling}
-use Rattle.table.specs.declared.Filling.TheVariants.{Accepted, Refused}
-use Rattle.table.specs.declared.Acceptance.{Acceptance}
 use Rattle.order.specs.OrderCall.{order_bytes}
-use Rattle.classes.specs.ClassesCall.{memory_rows, memory_answer, class_words}
+use Rattle.classes.specs.ClassesCall.{memory_rows, class_words}
 use Rattle.classes.specs.ClassesCallLaws.{memory_fits}
 use Rattle.classes.specs.ClassesRules.{ClassesFit}
-use Rattle.classes.specs.declared.Memory.TheVariants.{Enough, Short}
 use Rattle.reduction.specs.declared.TableCounts.{TableCounts}
 use Rattle.edit_rules.specs.Buffer.{buffer_rows}
 use Rattle.edit_rules.proofs.BufferLaws.{in_vertices, buffer_judge, buffer_clean}
@@ -35,7 +31,7 @@ use Rattle.edit.specs.EditCall.{call_counts, EditedBy}
 use Rattle.edit.specs.EditedMemory.{EditDone}
 
 -- the reader accepted the table that begins the buffer
-pub formed : (buffer : List ℕ) {reading : Filling} {sizes : FilledSizes} → reading ≡ Accepted sizes → filling_answer reading ≡ sizes_answer (table_in buffer)
+pub formed : (buffer : List ℕ) {reading : Result FilledSizes Refusal} {sizes : FilledSizes} → reading ≡ Ok sizes → filling_answer reading ≡ sizes_answer (table_in buffer)
     → Formed (table_in buffer) sizes.vertices sizes.edges
 formed buffer e a =
     let w = reading_accepted (table_in buffer) _ (rw e at a) in
@@ -43,7 +39,7 @@ formed buffer e a =
 
 -- memory that is enough for n vertices is enough for the table
 pub call_fits : (g marks spare classes : List ℕ) {n m : ℕ} → Formed g n m
-    → memory_answer Enough ≡ judge (memory_rows n (length marks) (length spare) (length classes)) [] → ClassesFit g marks spare classes
+    → acceptance_answer (Ok (record {})) ≡ judge (memory_rows n (length marks) (length spare) (length classes)) [] → ClassesFit g marks spare classes
 call_fits g marks spare classes form enough = memory_fits g marks spare classes form.well (rw form.vertices at enough)
 
 -- ---- whatever the rows
@@ -99,7 +95,7 @@ module _ (rest : List Row) (e : Edit) (game : List ℕ) (s t : ℕ) (buffer mark
   old f = call_old rows e g s t buffer marks spare classes f.number f.place
 
   -- the reader's refusal, taken out of its verdict, is the call's
-  pub call_handed : (reading : Filling) (f h : Refusal) → reading ≡ Refused f → filling_answer reading ≡ sizes_answer g → h ≡ refusal_of reading → Old h
+  pub call_handed : (reading : Result FilledSizes Refusal) (f h : Refusal) → reading ≡ Err f → filling_answer reading ≡ sizes_answer g → h ≡ refusal_of reading → Old h
   unfolding sizes_answer
   call_handed reading f h r a k =
       rw (k, r) (old f (judge_stays (buffer_rows game) _ _ _ f.number f.place (buffer_judge game _ ∙ sym (rw r at a))))
@@ -111,14 +107,14 @@ module _ (rest : List Row) (e : Edit) (game : List ℕ) (s t : ℕ) (buffer mark
     past_table : (counts : List ℕ) → judge rows counts ≡ judge (memory n ++ rest) counts
     past_table counts = rw vertices (judge_past (buffer_rows game) _ counts (buffer_clean game form.well))
 
-    pub call_short : (f : Refusal) → memory_answer (Short f) ≡ judge (memory n) [] → Old f
+    pub call_short : (f : Refusal) → acceptance_answer (Err f) ≡ judge (memory n) [] → Old f
     call_short f a = old f (past_table _ ∙ judge_stays (memory n) rest [] _ f.number f.place (sym a))
 
-    module _ (enough : memory_answer Enough ≡ judge (memory n) []) where
+    module _ (enough : acceptance_answer (Ok (record {})) ≡ judge (memory n) []) where
       memory_clean : Clean (memory n)
       memory_clean = passed_clean (memory n) enough
 
-      pub call_judged : (f : Refusal) → acceptance_answer (Acceptance.Refused f) ≡ judge rest [] → Old f
+      pub call_judged : (f : Refusal) → acceptance_answer (Err f) ≡ judge rest [] → Old f
       call_judged f a =
           old f
           (past_table _ ∙ judge_past (memory n) rest _ memory_clean
@@ -142,11 +138,10 @@ module _ (e : Edit) (buffer : List ℕ) (s t : ℕ) {n m : ℕ} (form : Formed (
   lent_scanned = rw (formed_part buffer n m form) at lent
 
   -- in a buffer of any size
-  pub lent_judged : (size : ℕ) {judged given : Acceptance} → judged ≡ given
-      → acceptance_answer judged ≡ judge (edit_facts e n m size s t (ltb scan.copy m) scan.another) []
-      → acceptance_answer given ≡ judge (edit_rows e (table_in buffer) size s t) []
-  lent_judged size is a =
-      ap acceptance_answer (sym is) ∙ a ∙ ap (λ (rs : List Row). judge rs []) (scanned_rows form s t lent_scanned size e)
+  pub lent_judged : (size : ℕ) {answer : Answer} → answer ≡ judge (edit_facts e n m size s t (ltb scan.copy m) scan.another) []
+      → answer ≡ judge (edit_rows e (table_in buffer) size s t) []
+  lent_judged size a =
+      a ∙ ap (λ (rs : List Row). judge rs []) (scanned_rows form s t lent_scanned size e)
 
 -- ---- the edit is made: the new table begins the buffer, and the memory fits it
 

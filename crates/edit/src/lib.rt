@@ -13,13 +13,13 @@ ghost use Rattle.reduction.specs.TableCall.{tabulation_answer};
 ghost use Rattle.edit.specs.EditCall.{EditCall};
 ghost use Rattle.edit.specs.EditedMemory.{EditDone};
 
-use classes::{Memory, fill_memory, judge_memory};
+use classes::{fill_memory, judge_memory};
 use edit_buffer::make_edit;
 use edit_rules::buffer::read_in;
 use edit_rules::listing::scan_edges;
 use edit_rules::{Edit, judge_edit};
-use reduction::{TableCounts, Tabulation};
-use table::{Acceptance, Filling, refusal_of};
+use reduction::TableCounts;
+use table::{Refusal, refusal_of};
 
 // Makes an edit that was judged, and writes the order and the classes of the new table.
 // `copy` is where a scan found the first copy of the edge.
@@ -61,29 +61,23 @@ fn edit_table(
     marks: &mut [u8],
     spare: &mut [u8],
     classes: &mut [u16],
-) -> Tabulation
+) -> Result<TableCounts, Refusal>
     requires { Formed (table_in buffer.old) n m }
     ensures { EditCall edit buffer.old source target marks.old spare.old classes.old (tabulation_answer result)
         buffer.new marks.new spare.new classes.new }
 {
-    let memory = judge_memory(n, marks.len(), spare.len(), classes.len());
-    if let Memory::Short(refusal) = memory {
-        return Tabulation::Refused(refusal);
-    }
+    judge_memory(n, marks.len(), spare.len(), classes.len())?;
     let len = buffer.len();
     let size = 2 + 2 * n + 2 * m;
     let s = source as usize;
     let t = target as usize;
     let scan = scan_edges(&buffer[..size], n, m, s, t);
     let copy = scan.copy;
-    let judged = judge_edit(n, m, len, edit, s, t, copy < m, scan.another);
-    if let Acceptance::Refused(refusal) = judged {
-        return Tabulation::Refused(refusal);
-    }
+    judge_edit(n, m, len, edit, s, t, copy < m, scan.another)?;
     let counts = apply_edit(
         buffer, n, m, edit, source, target, copy, marks, spare, classes,
     );
-    Tabulation::Accepted(counts)
+    Ok(counts)
 }
 
 // Adds the edge at the end of the table that begins the buffer, and writes the order and the classes of the new table.
@@ -94,13 +88,13 @@ pub fn add_edge(
     marks: &mut [u8],
     spare: &mut [u8],
     classes: &mut [u16],
-) -> Tabulation
+) -> Result<TableCounts, Refusal>
     ensures { EditCall Arrival buffer.old source target marks.old spare.old classes.old (tabulation_answer result)
         buffer.new marks.new spare.new classes.new }
 {
     let reading = read_in(buffer);
-    let Filling::Accepted(sizes) = reading else {
-        return Tabulation::Refused(refusal_of(reading));
+    let Ok(sizes) = reading else {
+        return Err(refusal_of(reading));
     };
     edit_table(
         buffer,
@@ -123,13 +117,13 @@ pub fn remove_edge(
     marks: &mut [u8],
     spare: &mut [u8],
     classes: &mut [u16],
-) -> Tabulation
+) -> Result<TableCounts, Refusal>
     ensures { EditCall Leaving buffer.old source target marks.old spare.old classes.old (tabulation_answer result)
         buffer.new marks.new spare.new classes.new }
 {
     let reading = read_in(buffer);
-    let Filling::Accepted(sizes) = reading else {
-        return Tabulation::Refused(refusal_of(reading));
+    let Ok(sizes) = reading else {
+        return Err(refusal_of(reading));
     };
     edit_table(
         buffer,

@@ -13,12 +13,10 @@ fn chain(sources: &[u16], count: usize, n: usize, heads: &mut [u16], before: &mu
     requires by_index { ((x : ℕ) → x < count → get_or sources.now x 0 < n) × ((v : ℕ) → get_or heads.old v 0 ≡ 0) }
     ensures { Chained sources.now count heads.new before.new }
 {
-    let mut x = 0;
-    while x < count {
-        let v = sources[x] as usize;
+    for x in 0..count {
+        let v = usize::from(sources[x]);
         before[x] = heads[v];
-        x += 1;
-        heads[v] = x as u16;
+        heads[v] = (x + 1) as u16;
     }
 }
 
@@ -75,11 +73,9 @@ fn link_rows(
     requires n_in_bounds { (n ≤ length heads.now) × (count ≤ length before.now) × (n ≤ length head.old) × (count ≤ length links.old) }
     ensures { Linked sources.now targets.now m count links.new }
 {
-    let mut v = 0;
-    while v < n {
+    for v in 0..n {
         slices::fill(head, 0, n, count as u16);
         link_row(sources, targets, m, count, n, v, heads, before, head, links);
-        v += 1;
     }
 }
 

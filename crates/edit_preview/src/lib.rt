@@ -7,13 +7,13 @@ ghost use Rattle.edit_rules.specs.declared.Edit.TheVariants.{Arrival, Leaving};
 ghost use Rattle.reduction.specs.TableCall.{tabulation_answer};
 ghost use Rattle.edit_preview.specs.PreviewCall.{PreviewCall};
 
-use classes::{Memory, judge_memory};
+use classes::judge_memory;
 use edit::apply_edit;
 use edit_rules::buffer::read_in;
 use edit_rules::listing::scan_edges;
 use edit_rules::{Edit, judge_edit};
-use reduction::Tabulation;
-use table::{Acceptance, Filling, Refusal, refusal_of, slices};
+use reduction::TableCounts;
+use table::{Refusal, refusal_of, refused, slices};
 
 // Judges the second set and the edit for a first table of n vertices and m edges that was read, and makes the edit in a copy that begins the
 // second table.
@@ -28,36 +28,27 @@ fn preview_table(
     marks: &mut [u8],
     spare: &mut [u8],
     classes: &mut [u16],
-) -> Tabulation
+) -> Result<TableCounts, Refusal>
     requires { Formed (table_in game.now) n m }
     ensures { PreviewCall edit game.now source target table.old marks.old spare.old classes.old (tabulation_answer result)
         table.new marks.new spare.new classes.new }
 {
-    let memory = judge_memory(n, marks.len(), spare.len(), classes.len());
-    if let Memory::Short(refusal) = memory {
-        return Tabulation::Refused(refusal);
-    }
+    judge_memory(n, marks.len(), spare.len(), classes.len())?;
     let len = table.len();
     let size = 2 + 2 * n + 2 * m;
     if len < size {
-        return Tabulation::Refused(Refusal {
-            number: 24,
-            place: size,
-        });
+        return refused(24, size);
     }
     let s = source as usize;
     let t = target as usize;
     let scan = scan_edges(&game[..size], n, m, s, t);
     let copy = scan.copy;
-    let judged = judge_edit(n, m, len, edit, s, t, copy < m, scan.another);
-    if let Acceptance::Refused(refusal) = judged {
-        return Tabulation::Refused(refusal);
-    }
+    judge_edit(n, m, len, edit, s, t, copy < m, scan.another)?;
     slices::copy(table, 0, game, size);
     let counts = apply_edit(
         table, n, m, edit, source, target, copy, marks, spare, classes,
     );
-    Tabulation::Accepted(counts)
+    Ok(counts)
 }
 
 // Adds the edge to a copy of the table that begins `game`, in the second table, and writes the order and the classes of the new table.
@@ -69,13 +60,13 @@ pub fn preview_add(
     marks: &mut [u8],
     spare: &mut [u8],
     classes: &mut [u16],
-) -> Tabulation
+) -> Result<TableCounts, Refusal>
     ensures { PreviewCall Arrival game.now source target table.old marks.old spare.old classes.old (tabulation_answer result)
         table.new marks.new spare.new classes.new }
 {
     let reading = read_in(game);
-    let Filling::Accepted(sizes) = reading else {
-        return Tabulation::Refused(refusal_of(reading));
+    let Ok(sizes) = reading else {
+        return Err(refusal_of(reading));
     };
     preview_table(
         game,
@@ -101,13 +92,13 @@ pub fn preview_remove(
     marks: &mut [u8],
     spare: &mut [u8],
     classes: &mut [u16],
-) -> Tabulation
+) -> Result<TableCounts, Refusal>
     ensures { PreviewCall Leaving game.now source target table.old marks.old spare.old classes.old (tabulation_answer result)
         table.new marks.new spare.new classes.new }
 {
     let reading = read_in(game);
-    let Filling::Accepted(sizes) = reading else {
-        return Tabulation::Refused(refusal_of(reading));
+    let Ok(sizes) = reading else {
+        return Err(refusal_of(reading));
     };
     preview_table(
         game,

@@ -1,7 +1,8 @@
 -- Laws of the call that replays a trace: its promise at each way out.
-use Rattle.std.specs.Prelude.{◌≡◌, ℕ, ◌≤◌, length, take}
+use Rattle.std.specs.Prelude.{◌≡◌, ℕ, ◌≤◌, length, take, Result, Ok, Err}
 use Rattle.std.proofs.Math.Path.{sym}
 use Rattle.std.proofs.Common.{◌∙◌, arith}
+use Rattle.table.specs.declared.FilledSizes.{FilledSizes}
 use mathlib.Core.List.{List, [], ◌∷◌, ◌++◌, append-nil}
 use Rattle.table.specs.Limits.{vertex_limit, edge_limit}
 use Rattle.table.specs.Table.{vertex_count, table_length, table_in}
@@ -11,16 +12,12 @@ use Rattle.table.specs.Reading.{sizes_answer}
 use Rattle.table.specs.Filling.{filling_answer, refusal_of}
 use Rattle.table.specs.Acceptance.{acceptance_answer}
 use Rattle.table.specs.declared.Refusal.{Refusal}
-use Rattle.table.specs.declared.Filling.{Filling}
-use Rattle.table.specs.declared.Filling.TheVariants.{Refused}
-use Rattle.table.specs.declared.Acceptance.{Acceptance}
 use Rattle.table.specs.declared.NoCounts.{NoCounts}
 use Rattle.order.specs.OrderCall.{order_bytes}
-use Rattle.classes.specs.ClassesCall.{memory_rows, memory_answer, class_words}
+use Rattle.classes.specs.ClassesCall.{memory_rows, class_words}
 use Rattle.classes.specs.ClassesCallLaws.{memory_fits}
 use Rattle.classes.specs.ClassesRules.{ClassesFit}
 use Rattle.classes.specs.NumberedMemory.{ClassesDone}
-use Rattle.classes.specs.declared.Memory.TheVariants.{Enough, Short}
 use Rattle.edit_rules.specs.Buffer.{buffer_rows}
 use Rattle.edit_rules.proofs.BufferLaws.{in_vertices, buffer_judge, buffer_clean}
 use Rattle.edit_rules.specs.EditParts.{Formed}
@@ -57,7 +54,7 @@ module _ (buffer trace marks spare classes : List ℕ) where
   }
 
   -- the reader's, taken out of its verdict
-  pub start_handed : (reading : Filling) (f h : Refusal) → reading ≡ Refused f → filling_answer reading ≡ sizes_answer (table_in buffer) → h ≡ refusal_of reading
+  pub start_handed : (reading : Result FilledSizes Refusal) (f h : Refusal) → reading ≡ Err f → filling_answer reading ≡ sizes_answer (table_in buffer) → h ≡ refusal_of reading
       → ReplayCall buffer trace marks spare classes (refused h.number h.place) 0 buffer marks spare classes
   unfolding sizes_answer start_rows
   start_handed reading f h r a k =
@@ -72,15 +69,15 @@ module _ (buffer trace marks spare classes : List ℕ) where
     unfolding start_rows
     past_table = rw vertices (judge_past (buffer_rows buffer) _ [] (buffer_clean buffer form.well))
 
-    pub start_short : (f : Refusal) → memory_answer (Short f) ≡ judge (memory n) []
+    pub start_short : (f : Refusal) → acceptance_answer (Err f) ≡ judge (memory n) []
         → ReplayCall buffer trace marks spare classes (refused f.number f.place) 0 buffer marks spare classes
     start_short f a = start_old f.number f.place (past_table ∙ judge_stays (memory n) (trace_rows trace) [] [] f.number f.place (sym a))
 
-    module _ (enough : memory_answer Enough ≡ judge (memory n) []) where
+    module _ (enough : acceptance_answer (Ok (record {})) ≡ judge (memory n) []) where
       memory_clean : Clean (memory n)
       memory_clean = (judge_accepted (memory n) [] [] (sym enough)).0
 
-      pub start_unfit : (f : Refusal) → acceptance_answer (Acceptance.Refused f) ≡ judge (trace_rows trace) []
+      pub start_unfit : (f : Refusal) → acceptance_answer (Err f) ≡ judge (trace_rows trace) []
           → ReplayCall buffer trace marks spare classes (refused f.number f.place) 0 buffer marks spare classes
       start_unfit f a = start_old f.number f.place (past_table ∙ judge_past (memory n) (trace_rows trace) [] memory_clean ∙ sym a)
 
@@ -151,14 +148,14 @@ module _ {buffer trace : List ℕ} {n m : ℕ} (form : Formed (table_in buffer) 
       classes_after = filled.classes_after;
     }
 
-    pub ran_refused : (f : Refusal) → r.verdict ≡ Acceptance.Refused f
+    pub ran_refused : (f : Refusal) → r.verdict ≡ Err f
         → Replayed buffer trace marks spare classes (refused f.number f.place) r.done buffer₁ marks' spare' classes'
     ran_refused f e =
         let stop = (replayed buffer trace).stop in
         ran_replayed (refused f.number f.place)
         (sym (rw (append-nil stop) at (judge_stays stop [] [] (call_counts last) f.number f.place (sym (rw e at ran.verdict)))))
 
-    pub ran_accepted : (none : NoCounts) → r.verdict ≡ Acceptance.Accepted none
+    pub ran_accepted : (none : NoCounts) → r.verdict ≡ Ok none
         → Replayed buffer trace marks spare classes (accepted (k ∷ n ∷ r.edges ∷ [])) r.done buffer₁ marks' spare' classes'
     unfolding call_counts
     ran_accepted none e =

@@ -10,17 +10,17 @@ ghost use Rattle.reduction.specs.TableCall.{tabulation_answer};
 ghost use Rattle.edit_replay.specs.ReplayCall.{ReplayCall};
 ghost use Rattle.edit_replay.specs.ReplayedMemory.{Replayed};
 
-use classes::{Memory, fill_memory, judge_memory};
+use classes::{fill_memory, judge_memory};
 use edit_rules::buffer::read_in;
 use edit_run::run_entries;
 use edit_trace::judge_trace;
-use reduction::{TableCounts, Tabulation};
-use table::{Acceptance, Filling, refusal_of};
+use reduction::TableCounts;
+use table::{Refusal, refusal_of};
 
 // The verdict, and how many entries are done, whether or not all are accepted.
 #[derive(Clone, Copy)]
 pub struct Replaying {
-    pub verdict: Tabulation,
+    pub verdict: Result<TableCounts, Refusal>,
     pub entries: usize,
 }
 
@@ -45,14 +45,14 @@ fn apply_trace(
     let end = 2 + 2 * n + 2 * edges;
     let k = fill_memory(&buffer[..end], n, marks, spare, classes);
     let verdict = run.verdict;
-    if let Acceptance::Refused(refusal) = verdict {
+    if let Err(refusal) = verdict {
         return Replaying {
-            verdict: Tabulation::Refused(refusal),
+            verdict: Err(refusal),
             entries: run.done,
         };
     }
     Replaying {
-        verdict: Tabulation::Accepted(TableCounts {
+        verdict: Ok(TableCounts {
             classes: k,
             vertices: n,
             edges,
@@ -76,16 +76,16 @@ fn replay_table(
         buffer.new marks.new spare.new classes.new }
 {
     let memory = judge_memory(n, marks.len(), spare.len(), classes.len());
-    if let Memory::Short(refusal) = memory {
+    if let Err(refusal) = memory {
         return Replaying {
-            verdict: Tabulation::Refused(refusal),
+            verdict: Err(refusal),
             entries: 0,
         };
     }
     let judged = judge_trace(trace);
-    if let Acceptance::Refused(refusal) = judged {
+    if let Err(refusal) = judged {
         return Replaying {
-            verdict: Tabulation::Refused(refusal),
+            verdict: Err(refusal),
             entries: 0,
         };
     }
@@ -105,9 +105,9 @@ pub fn replay(
         buffer.new marks.new spare.new classes.new }
 {
     let reading = read_in(buffer);
-    let Filling::Accepted(sizes) = reading else {
+    let Ok(sizes) = reading else {
         return Replaying {
-            verdict: Tabulation::Refused(refusal_of(reading)),
+            verdict: Err(refusal_of(reading)),
             entries: 0,
         };
     };

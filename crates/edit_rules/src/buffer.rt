@@ -4,7 +4,7 @@ ghost use Rattle.table.specs.Table.{table_in};
 ghost use Rattle.table.specs.Filling.{filling_answer};
 ghost use Rattle.table.specs.Reading.{sizes_answer};
 
-use table::Filling;
+use table::{FilledSizes, Refusal};
 
 // How many words the table has by its sizes, or all words of the buffer where there are fewer.
 fn table_end(buffer: &[u16]) -> usize
@@ -15,14 +15,11 @@ fn table_end(buffer: &[u16]) -> usize
         return len;
     }
     let needed = 2 + 2 * (buffer[0] as usize) + 2 * (buffer[1] as usize);
-    if len < needed {
-        return len;
-    }
-    needed
+    needed.min(len)
 }
 
 // Reads the table that begins the buffer. A buffer that is too short is a table of another length than its sizes ask.
-pub fn read_in(buffer: &[u16]) -> Filling
+pub fn read_in(buffer: &[u16]) -> Result<FilledSizes, Refusal>
     ensures { filling_answer result ≡ sizes_answer (table_in buffer.now) }
 {
     let end = table_end(buffer);

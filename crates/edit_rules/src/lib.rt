@@ -12,9 +12,8 @@ ghost use Rattle.table.specs.Acceptance.{acceptance_answer};
 ghost use Rattle.edit_rules.specs.Edges.{misplaced};
 ghost use Rattle.edit_rules.specs.EditParts.{change_facts, edit_facts};
 
-use table::acceptor::refused;
 use table::limits::EDGES;
-use table::{Acceptance, NoCounts};
+use table::{NoCounts, Refusal, refused};
 
 #[derive(Clone, Copy)]
 pub enum Edit {
@@ -41,7 +40,14 @@ fn is_misplaced(edit: Edit, there: bool) -> bool
 }
 
 // 38 for a leaving, by whether another edge of the source is there; 39 for an arrival into a buffer of `size` words.
-fn judge_change(n: usize, m: usize, size: usize, edit: Edit, s: usize, another: bool) -> Acceptance
+fn judge_change(
+    n: usize,
+    m: usize,
+    size: usize,
+    edit: Edit,
+    s: usize,
+    another: bool,
+) -> Result<NoCounts, Refusal>
     requires { (n ≤ vertex_limit) × (m ≤ edge_limit) }
     ensures { acceptance_answer result ≡ judge (change_facts edit n m size s another) [] }
 {
@@ -53,11 +59,11 @@ fn judge_change(n: usize, m: usize, size: usize, edit: Edit, s: usize, another: 
             if size < 2 + 2 * n + 2 * m + 2 {
                 return refused(39, m);
             }
-            Acceptance::Accepted(NoCounts {})
+            Ok(NoCounts {})
         }
         Edit::Leaving => {
             if another {
-                return Acceptance::Accepted(NoCounts {});
+                return Ok(NoCounts {});
             }
             refused(38, s)
         }
@@ -75,7 +81,7 @@ pub fn judge_edit(
     t: usize,
     there: bool,
     another: bool,
-) -> Acceptance
+) -> Result<NoCounts, Refusal>
     requires { (n ≤ vertex_limit) × (m ≤ edge_limit) }
     ensures { acceptance_answer result ≡ judge (edit_facts edit n m size s t there another) [] }
 {

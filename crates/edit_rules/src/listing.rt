@@ -17,7 +17,7 @@ fn leads_so(table: &[u16], n: usize, m: usize, j: usize, s: usize, t: usize, the
         return false;
     }
     let hit = table[2 + 2 * n + m + j] as usize == t;
-    if there { hit } else { !hit }
+    hit == there
 }
 
 // Takes edge j into a scan for the edges from s to t.
@@ -28,18 +28,15 @@ fn scan_edge(table: &[u16], n: usize, m: usize, j: usize, s: usize, t: usize, sc
 {
     if leads_so(table, n, m, j, s, t, false) {
         return Scan {
-            copy: scan.copy,
             another: true,
+            ..scan
         };
     }
     if scan.copy < m {
         return scan;
     }
     if leads_so(table, n, m, j, s, t, true) {
-        return Scan {
-            copy: j,
-            another: scan.another,
-        };
+        return Scan { copy: j, ..scan };
     }
     scan
 }
@@ -53,20 +50,13 @@ pub fn scan_edges(table: &[u16], n: usize, m: usize, s: usize, t: usize) -> Scan
         copy: m,
         another: false,
     };
-    let mut j = 0;
-    let found = loop {
-        if m <= j {
-            break scan;
-        }
+    for j in 0..m {
         scan = scan_edge(table, n, m, j, s, t, scan);
-        if scan.another {
-            if scan.copy < m {
-                break scan;
-            }
+        if scan.another && scan.copy < m {
+            return scan;
         }
-        j += 1;
-    };
-    found
+    }
+    scan
 }
 
 // The first edge from j on that leads from s to t, or m where there is none.
@@ -74,17 +64,12 @@ fn find_edge(table: &[u16], n: usize, m: usize, s: usize, t: usize, j: usize) ->
     requires { Formed table.now n m × (j ≤ m) }
     ensures { result ≡ first (leads table.now s t true) j m }
 {
-    let mut k = j;
-    let found = loop {
-        if k >= m {
-            break k;
-        }
+    for k in j..m {
         if leads_so(table, n, m, k, s, t, true) {
-            break k;
+            return k;
         }
-        k += 1;
-    };
-    found
+    }
+    m
 }
 
 // Puts the edges from a on, below b, behind the first e edges. Returns how many there are then.

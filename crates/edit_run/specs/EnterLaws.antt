@@ -1,5 +1,5 @@
 -- Laws of an entry's rows by the edges before it: what is held gives them.
-use Rattle.std.specs.Prelude.{◌≡◌, refl, Bool, true, false, cond, ℕ, ◌+◌, ◌-◌, ◌≤◌, ◌<◌, max, eqb, ltb, get_or}
+use Rattle.std.specs.Prelude.{◌≡◌, refl, Bool, true, false, cond, ℕ, ◌+◌, ◌-◌, ◌≤◌, ◌<◌, max, eqb, ltb, get_or, Ok, Err}
 use Rattle.std.proofs.Common.{◌∙◌, arith, ne_eqb, lt-ltb, le-ltb, leb-false, ltb-false}
 use Rattle.std.proofs.Math.Path.{ap}
 use mathlib.Core.List.{List, [], ◌∷◌}
@@ -10,7 +10,6 @@ use Rattle.theory.proofs.Logic.BoolsLaws.{bit_le, or_fails}
 use Rattle.table.specs.Limits.{edge_limit}
 use Rattle.table.specs.Table.{table_length}
 use Rattle.table.specs.Answers.{refused, judge, Clean}
-use Rattle.table.specs.declared.Acceptance.{Acceptance}
 use Rattle.table.specs.declared.NoCounts.{NoCounts}
 use Rattle.table.specs.declared.Refusal.{Refusal}
 use Rattle.edit_rules.specs.EditParts.{change_facts, edit_facts}
@@ -123,7 +122,7 @@ module _ {S T : List ℕ} {m N n size : ℕ} where
     }
 
     pub going_end : N ≤ m + i → (none : NoCounts)
-        → Halted S T m N n size (record { verdict = Acceptance.Accepted none; done = i; edges = edges; most = most }) copies
+        → Halted S T m N n size (record { verdict = Ok none; done = i; edges = edges; most = most }) copies
     going_end h none = record {
       high = go.inside;
       passed = go.passed;
@@ -138,7 +137,7 @@ module _ {S T : List ℕ} {m N n size : ℕ} where
 
     pub going_stop : m + i < N → (f : Refusal) → refused f.number f.place ≡ judge (facts_at S T m n size i) []
         → {copies' : List ℕ} → copies' ≡ copies
-        → Halted S T m N n size (record { verdict = Acceptance.Refused f; done = i; edges = edges; most = most }) copies'
+        → Halted S T m N n size (record { verdict = Err f; done = i; edges = edges; most = most }) copies'
     going_stop below f h same = record {
       high = go.inside;
       passed = go.passed;

@@ -1,8 +1,10 @@
 -- The run over pairs is the run over tables: before each entry the table has the edges then, and the longest table so far the most edges.
-use Rattle.std.specs.Prelude.{◌≡◌, refl, Bool, true, false, not, cond, eqb, ltb}
+use Rattle.std.specs.Prelude.{◌≡◌, refl, Bool, true, false, not, cond, eqb, ltb, Result}
 use Rattle.std.proofs.Common.{sym, ◌∙◌, inl, inr, add-one, arith, lt-ltb, le-ltb, ltb-true, leb-true}
 use Rattle.std.proofs.Math.Path.{ap, ap₂, subst}
 use Rattle.std.proofs.Math.Bool.{So}
+use Rattle.table.specs.declared.Refusal.{Refusal}
+use Rattle.table.specs.declared.NoCounts.{NoCounts}
 use mathlib.Core.List.{List, [], ◌∷◌}
 use Prim.Native.Nat.{ℕ, zero, suc, ◌+◌, ◌≤◌, ◌<◌, max}
 use Rattle.std.proofs.Math.ListN.{length}
@@ -15,7 +17,6 @@ use Rattle.theory.proofs.Plans.LinkLaws.{pair_is_lem}
 use Rattle.table.specs.Table.{table_edges, source_at, target_at, table_length, game_of}
 use Rattle.table.specs.Answers.{Row, refused, judge, Clean}
 use Rattle.table.specs.Acceptance.{acceptance_answer}
-use Rattle.table.specs.declared.Acceptance.{Acceptance}
 use Rattle.table.specs.Reading.{lacks_edge}
 use Rattle.table.specs.WellFormed.{WellFormed}
 use Rattle.edit_rules.specs.Edges.{edges_in, with_edges, others, edited_edges, edited, edit_rows}
@@ -147,7 +148,7 @@ module _ (g trace : List ℕ) (n m size : ℕ) (f : Formed g n m) (k : ℕ) (few
     last_well = (running D inside halted.passed).1
 
     -- the run ends so, with these rows
-    pub record Ended (v : Acceptance) : Type 0 where
+    pub record Ended (v : Result NoCounts Refusal) : Type 0 where
       pub rows : List Row
       pub run : run_over size (entries_in trace) g ≡ record { table = table_at D; longest = L; done = D; stop = rows }
       pub verdict : acceptance_answer v ≡ judge rows []
@@ -178,7 +179,7 @@ module _ (g trace : List ℕ) (n m size : ℕ) (f : Formed g n m) (k : ℕ) (few
     }
 
     -- at an entry with an end not below n
-    pub ended_outside : k ≤ D → D < entry_count trace → (v : Acceptance) → acceptance_answer v ≡ refused 37 (entry_at trace D).0 → Ended v
+    pub ended_outside : k ≤ D → D < entry_count trace → (v : Result NoCounts Refusal) → acceptance_answer v ≡ refused 37 (entry_at trace D).0 → Ended v
     ended_outside h l v a =
         let e = entry_at trace D in
         let q : D ≡ k = omega (arith, inside) in

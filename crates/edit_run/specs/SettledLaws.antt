@@ -1,6 +1,8 @@
 -- What a run over pairs leaves in the buffer is what the run over tables does.
-use Rattle.std.specs.Prelude.{◌≡◌, List, ◌∷◌, ◌++◌}
+use Rattle.std.specs.Prelude.{◌≡◌, List, ◌∷◌, ◌++◌, Result}
 use Rattle.std.proofs.Common.{sym, ap, ap₂, ◌∙◌, subst, leb-false}
+use Rattle.table.specs.declared.Refusal.{Refusal}
+use Rattle.table.specs.declared.NoCounts.{NoCounts}
 use Prim.Native.Nat.{ℕ, zero, suc, ◌+◌, ◌-◌, ◌*◌, ◌≤◌, ◌<◌, max}
 use Rattle.std.proofs.Math.Decide.{dec_lt, ℕ_discrete}
 use native.Mathlib.Omega.{arith}
@@ -34,7 +36,6 @@ use Rattle.edit_run.specs.SurvivorLaws.{edges_survive}
 use Rattle.edit_run.specs.KeptLaws.{kept_few}
 use Rattle.edit_run.specs.OverLaws.{last_well, Ended, ended_stop, ended_all, ended_outside}
 use Rattle.edit_run.specs.declared.Halt.{Halt}
-use Rattle.table.specs.declared.Acceptance.{Acceptance}
 use Rattle.edit_run.specs.EnterLaws.{stepped_le, stepped_less, facts_room}
 
 -- the pairs are of vertices
@@ -146,18 +147,18 @@ module _ (buffer trace : List ℕ) {n m k : ℕ} (f : Formed (table_in buffer) n
   pub settled_few : (e ≤ m + r.done) × (r.done ≤ k) × (k ≤ entry_count trace)
   settled_few = (omega (arith, listed.count, kept_few S T copies links (m + r.done) (m + r.done)), omega (arith, halted.high), few)
 
-  ended : {v : Acceptance} → RestJudged trace k r.done r.verdict v → Ended g trace n m (length buffer) f k few S T pairs (sym beyond) halted v
+  ended : {v : Result NoCounts Refusal} → RestJudged trace k r.done r.verdict v → Ended g trace n m (length buffer) f k few S T pairs (sym beyond) halted v
   ended {v} rest = elim (dec_lt r.done k) [
-    | yes l ↦ subst (λ (a : Acceptance). Ended g trace n m (length buffer) f k few S T pairs (sym beyond) halted a) (sym (rest.stopped l))
+    | yes l ↦ subst (λ (a : Result NoCounts Refusal). Ended g trace n m (length buffer) f k few S T pairs (sym beyond) halted a) (sym (rest.stopped l))
         (ended_stop g trace n m (length buffer) f k few S T pairs (sym beyond) halted l)
     | no d ↦ elim (dec_lt r.done (entry_count trace)) [
       | yes l ↦ ended_outside g trace n m (length buffer) f k few S T pairs (sym beyond) halted (omega arith) l v (rest.outside (omega arith) l)
-      | no d₁ ↦ subst (λ (a : Acceptance). Ended g trace n m (length buffer) f k few S T pairs (sym beyond) halted a) (sym (rest.over (omega arith)))
+      | no d₁ ↦ subst (λ (a : Result NoCounts Refusal). Ended g trace n m (length buffer) f k few S T pairs (sym beyond) halted a) (sym (rest.over (omega arith)))
           (ended_all g trace n m (length buffer) f k few S T pairs (sym beyond) halted (omega arith))
     ]
   ]
 
-  pub settled : {buffer' : List ℕ} {v : Acceptance} → buffer' ≡ written (edge_words buffer e kept ends r.most) buffer → RestJudged trace k r.done r.verdict v
+  pub settled : {buffer' : List ℕ} {v : Result NoCounts Refusal} → buffer' ≡ written (edge_words buffer e kept ends r.most) buffer → RestJudged trace k r.done r.verdict v
       → RunResult buffer trace n (record { verdict = v; done = r.done; edges = e }) buffer'
   settled {buffer'} {v} put rest =
       let end = ended rest in

@@ -1,8 +1,7 @@
 -- What a run over linked pairs holds before entry i, in place of a table. No public promise cites this.
-use Rattle.std.specs.Prelude.{◌≡◌, cond, List, [], ℕ, zero, suc, ◌+◌, ◌≤◌, ◌<◌, max, ltb, length, get_or}
+use Rattle.std.specs.Prelude.{◌≡◌, cond, List, [], ℕ, zero, suc, ◌+◌, ◌≤◌, ◌<◌, max, ltb, length, get_or, Result, Ok, Err}
 use Rattle.table.specs.Limits.{edge_limit}
 use Rattle.table.specs.Acceptance.{acceptance_answer}
-use Rattle.table.specs.declared.Acceptance.{Acceptance}
 use Rattle.table.specs.Answers.{Row, accepted, refused, judge, Clean}
 use Rattle.edit_rules.specs.EditParts.{edit_facts}
 use Rattle.edit_rules.specs.declared.Edit.TheVariants.{Arrival, Leaving}
@@ -10,8 +9,9 @@ use Rattle.theory.specs.Logic.Range.{first}
 use Rattle.edit_links.specs.Links.{pair_is, Linked}
 use Rattle.edit_trace.specs.Trace.{entry_count, entry_at, entries_of}
 use Rattle.edit_run.specs.Turned.{leaving, edges_after}
-use Rattle.edit_run.specs.declared.Entry.{Entry}
 use Rattle.edit_run.specs.declared.Halt.{Halt}
+use Rattle.table.specs.declared.Refusal.{Refusal}
+use Rattle.table.specs.declared.NoCounts.{NoCounts}
 
 -- the number of edges, those that leave each vertex, and at the next entry of each pair how many copies of it are there; an entry that is done
 -- keeps its number, and an edge has 0
@@ -33,10 +33,10 @@ facts_at S T m n size i =
     edit_facts (cond (ltb 0 c) Leaving Arrival) n (length es) size s t (ltb 0 c) (ltb c (leaving s es))
 
 -- entry i is done, and what is held is so for the next; or it is refused, and nothing changes
-abbrev pub EnteredPair : List ℕ → List ℕ → ℕ → ℕ → ℕ → ℕ → ℕ → Entry → List ℕ → List ℕ → List ℕ → List ℕ → Type 0
-EnteredPair S T m N n size i (Entry.Done c) copies degrees copies' degrees' =
-    Clean (facts_at S T m n size i) × Tallied S T m N (i + 1) copies' degrees' c.edges
-EnteredPair S T m N n size i (Entry.Refused f) copies degrees copies' degrees' =
+abbrev pub EnteredPair : List ℕ → List ℕ → ℕ → ℕ → ℕ → ℕ → ℕ → Result ℕ Refusal → List ℕ → List ℕ → List ℕ → List ℕ → Type 0
+EnteredPair S T m N n size i (Ok c) copies degrees copies' degrees' =
+    Clean (facts_at S T m n size i) × Tallied S T m N (i + 1) copies' degrees' c
+EnteredPair S T m N n size i (Err f) copies degrees copies' degrees' =
     (refused f.number f.place ≡ judge (facts_at S T m n size i) []) × (copies' ≡ copies) × (degrees' ≡ degrees)
 
 -- the most edges of the tables up to that after i entries
@@ -62,7 +62,7 @@ pub record Started (S T : List ℕ) (m N : ℕ) (links copies degrees : List ℕ
   pub tally : Tallied S T m N 0 copies degrees m
 
 -- the verdict before entry `done`, where the entries from k on have an end outside: the run's own, but 37 where k stops it
-pub record RestJudged (trace : List ℕ) (k done : ℕ) (verdict r : Acceptance) : Type 0 where
+pub record RestJudged (trace : List ℕ) (k done : ℕ) (verdict r : Result NoCounts Refusal) : Type 0 where
   pub stopped : done < k → r ≡ verdict
   pub over : entry_count trace ≤ done → r ≡ verdict
   pub outside : k ≤ done → done < entry_count trace → acceptance_answer r ≡ refused 37 (entry_at trace done).0

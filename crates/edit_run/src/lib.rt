@@ -2,7 +2,7 @@
 // host calls these.
 #![tactic(auto)]
 
-ghost use Rattle.std.specs.Prelude.{◌≡◌, cond, ℕ, ◌+◌, ◌*◌, ◌<◌, ◌≤◌, max, [], ◌∷◌, eqb, leb, ltb, length, get_or};
+ghost use Rattle.std.specs.Prelude.{◌≡◌, cond, ℕ, ◌+◌, ◌*◌, ◌<◌, ◌≤◌, [], ◌∷◌, eqb, leb, ltb, length, get_or};
 ghost use Rattle.table.specs.Limits.{vertex_limit, edge_limit};
 ghost use Rattle.theory.specs.Logic.Bools.{◌&◌};
 ghost use Rattle.theory.specs.Logic.Range.{first};
@@ -21,29 +21,16 @@ ghost use Rattle.edit_run.specs.RunResult.{RunResult};
 use edit_links::link_pairs;
 use edit_rules::{Edit, judge_edit};
 use index::count_sources;
-use table::acceptor::refused;
 use table::limits::{EDGES, VERTICES};
-use table::{Acceptance, NoCounts, Refusal, slices};
+use table::{NoCounts, Refusal, refused, slices};
 
 // The most edges and entries together.
 const LINKED: usize = EDGES + EDGES;
 
-#[derive(Clone, Copy)]
-pub struct EdgeCount {
-    pub edges: usize,
-}
-
-// What becomes of an entry.
-#[derive(Clone, Copy)]
-pub enum Entry {
-    Done(EdgeCount),
-    Refused(Refusal),
-}
-
 // What becomes of the entries: whether all are accepted, how many are done, and the edges of the table then.
 #[derive(Clone, Copy)]
 pub struct Entries {
-    pub verdict: Acceptance,
+    pub verdict: Result<NoCounts, Refusal>,
     pub done: usize,
     pub edges: usize,
 }
@@ -51,7 +38,7 @@ pub struct Entries {
 // How a run over pairs ends: whether all entries are accepted, how many are done, the edges then, and the most that there were.
 #[derive(Clone, Copy)]
 pub struct Halt {
-    pub verdict: Acceptance,
+    pub verdict: Result<NoCounts, Refusal>,
     pub done: usize,
     pub edges: usize,
     pub most: usize,
@@ -79,14 +66,7 @@ fn step(k: usize, c: usize) -> usize
     if c == 0 { k + 1 } else { k - c }
 }
 
-// The higher of two numbers.
-fn higher(a: usize, b: usize) -> usize
-    ensures { result ≡ max a b }
-{
-    if a < b { b } else { a }
-}
-
-// Judges entry i by the copies of its edge and the edges of its source, and takes it into these counts.
+// Judges entry i by the copies of its edge and the edges of its source, and takes it into these counts; the edges then.
 fn enter(
     sources: &[u16],
     targets: &[u16],
@@ -99,7 +79,7 @@ fn enter(
     edges: usize,
     copies: &mut [u16],
     degrees: &mut [u16],
-) -> Entry
+) -> Result<usize, Refusal>
     requires pairs { Pairs sources.now targets.now count n × (m ≤ count) × Linked sources.now targets.now m count links.now × (m + i < count) }
     requires n_le_vertex_limit { (n ≤ vertex_limit) × (edges ≤ edge_limit) × (count ≤ length links.now) × (count < length copies.old) × (n ≤ length degrees.old) }
     requires tallied { Tallied sources.now targets.now m count i copies.old degrees.old edges }
@@ -112,16 +92,11 @@ fn enter(
     let t = targets[y] as usize;
     let degree = degrees[s] as usize;
     let there = 0 < k;
-    let judged = judge_edit(n, edges, size, find_edit(there), s, t, there, k < degree);
-    if let Acceptance::Refused(refusal) = judged {
-        return Entry::Refused(refusal);
-    }
+    judge_edit(n, edges, size, find_edit(there), s, t, there, k < degree)?;
     let next = links[y] as usize;
     copies[next] = flip(c);
     degrees[s] = step(degree, k) as u16;
-    Entry::Done(EdgeCount {
-        edges: step(edges, k),
-    })
+    Ok(step(edges, k))
 }
 
 // Takes the entries into the counts one by one, until one is refused.
@@ -143,34 +118,28 @@ fn run_pairs(
 {
     let mut edges = m;
     let mut most = m;
-    let mut done = 0;
-    loop {
-        if count <= m + done {
-            break Halt {
-                verdict: Acceptance::Accepted(NoCounts {}),
-                done,
-                edges,
-                most,
-            };
-        }
+    for done in 0..count - m {
         let entry = enter(
             sources, targets, m, count, n, size, links, done, edges, copies, degrees,
         );
         match entry {
-            Entry::Done(now) => {
-                edges = now.edges;
-            }
-            Entry::Refused(refusal) => {
-                break Halt {
-                    verdict: Acceptance::Refused(refusal),
+            Ok(now) => edges = now,
+            Err(refusal) => {
+                return Halt {
+                    verdict: Err(refusal),
                     done,
                     edges,
                     most,
                 };
             }
         }
-        most = higher(most, edges);
-        done += 1;
+        most = most.max(edges);
+    }
+    Halt {
+        verdict: Ok(NoCounts {}),
+        done: count - m,
+        edges,
+        most,
     }
 }
 
@@ -178,10 +147,7 @@ fn run_pairs(
 fn is_kept(copies: u16, link: usize, end: usize) -> bool
     ensures { result ≡ (eqb copies 0 & leb end link) }
 {
-    if copies != 0 {
-        return false;
-    }
-    end <= link
+    copies == 0 && end <= link
 }
 
 // Puts a pair behind the first e pairs, if it is kept. Returns how many there are then.
@@ -212,11 +178,9 @@ fn keep_pairs(
     ensures { Appended (kept_pairs sources.now targets.now copies.now links.now end end) 0 kept.old kept.new ends.old ends.new result }
 {
     let mut e = 0;
-    let mut x = 0;
-    while x < end {
-        let keep = is_kept(copies[x], links[x] as usize, end);
+    for x in 0..end {
+        let keep = is_kept(copies[x], usize::from(links[x]), end);
         e = put_pair(keep, sources[x], targets[x], kept, ends, e);
-        x += 1;
     }
     e
 }
@@ -227,20 +191,12 @@ fn find_outside(trace: &[u16], n: usize) -> usize
     ensures { result ≡ first (outside trace.now n) 0 (entry_count trace.now) }
 {
     let count = trace[0] as usize;
-    let mut i = 0;
-    let found = loop {
-        if count <= i {
-            break i;
+    for i in 0..count {
+        if n <= usize::from(trace[1 + i]) || n <= usize::from(trace[1 + count + i]) {
+            return i;
         }
-        if n <= trace[1 + i] as usize {
-            break i;
-        }
-        if n <= trace[1 + count + i] as usize {
-            break i;
-        }
-        i += 1;
-    };
-    found
+    }
+    count
 }
 
 // The first m words of a buffer, and behind them the first k of another.
@@ -322,7 +278,13 @@ fn link_all(
 }
 
 // The run's verdict, once it stands before entry `done`: entry k, if there is one, has an end not below n.
-fn judge_rest(trace: &[u16], k: usize, more: bool, done: usize, verdict: Acceptance) -> Acceptance
+fn judge_rest(
+    trace: &[u16],
+    k: usize,
+    more: bool,
+    done: usize,
+    verdict: Result<NoCounts, Refusal>,
+) -> Result<NoCounts, Refusal>
     requires { (length trace.now ≡ 1 + 2 * entry_count trace.now) × (done ≤ k) × (k ≤ entry_count trace.now) × (more ≡ ltb k (entry_count trace.now)) }
     ensures { RestJudged trace.now k done verdict result }
 {

@@ -6,14 +6,13 @@ ghost use Rattle.table.specs.Answers.{judge};
 ghost use Rattle.table.specs.Acceptance.{acceptance_answer};
 ghost use Rattle.edit_trace.specs.Trace.{trace_rows};
 
-use table::acceptor::refused;
-use table::{Acceptance, NoCounts};
+use table::{NoCounts, Refusal, refused};
 
 // The most entries of a trace.
 pub const ENTRIES: usize = 4096;
 
 // Judges the words of a trace: 40.
-pub fn judge_trace(trace: &[u16]) -> Acceptance
+pub fn judge_trace(trace: &[u16]) -> Result<NoCounts, Refusal>
     ensures { acceptance_answer result ≡ judge (trace_rows trace.now) [] }
 {
     let len = trace.len();
@@ -27,5 +26,5 @@ pub fn judge_trace(trace: &[u16]) -> Acceptance
     if ENTRIES < count {
         return refused(40, 0);
     }
-    Acceptance::Accepted(NoCounts {})
+    Ok(NoCounts {})
 }

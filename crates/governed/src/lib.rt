@@ -8,29 +8,33 @@ ghost use Rattle.order.specs.OrderCall.{ordering_answer};
 ghost use Rattle.classes.specs.ClassesCall.{classification_answer};
 ghost use Rattle.governed.specs.GovernedCall.{GovernedCall, governed_answer, GovernedClassesCall};
 
-use classes::{Classification, write_numbered};
-use order::{Ordering, write_relation};
+use classes::{ClassCount, write_numbered};
+use order::{PassCount, write_relation};
 use order_acceptor::judge_marks;
-use table::{Acceptance, Filling, refusal_of};
+use table::{NoCounts, Refusal, refusal_of};
 
 // Judges the game and the buffers, and writes the largest governed bisimulation into both. The verdict carries the pass count.
-pub fn write_governed(game: &[u16], marks: &mut [u8], spare: &mut [u8]) -> Ordering
+pub fn write_governed(
+    game: &[u16],
+    marks: &mut [u8],
+    spare: &mut [u8],
+) -> Result<PassCount, Refusal>
     ensures { GovernedCall game.now marks.old spare.old (ordering_answer result) marks.new spare.new }
 {
     let reading = table_reader::read_sizes(game);
-    let Filling::Accepted(sizes) = reading else {
-        return Ordering::Refused(refusal_of(reading));
+    let Ok(sizes) = reading else {
+        return Err(refusal_of(reading));
     };
     write_relation(game, sizes.vertices, marks, spare, true)
 }
 
 // Judges the game and the marks: accepted if the marked pairs form a governed bisimulation.
-pub fn accept_governed(game: &[u16], marks: &[u8]) -> Acceptance
+pub fn accept_governed(game: &[u16], marks: &[u8]) -> Result<NoCounts, Refusal>
     ensures { acceptance_answer result ≡ governed_answer game.now marks.now }
 {
     let reading = table_reader::read_sizes(game);
-    let Filling::Accepted(sizes) = reading else {
-        return Acceptance::Refused(refusal_of(reading));
+    let Ok(sizes) = reading else {
+        return Err(refusal_of(reading));
     };
     judge_marks(game, sizes.vertices, marks, true)
 }
@@ -41,12 +45,12 @@ pub fn write_governed_classes(
     marks: &mut [u8],
     spare: &mut [u8],
     classes: &mut [u16],
-) -> Classification
+) -> Result<ClassCount, Refusal>
     ensures { GovernedClassesCall game.now marks.old spare.old classes.old (classification_answer result) marks.new spare.new classes.new }
 {
     let reading = table_reader::read_sizes(game);
-    let Filling::Accepted(sizes) = reading else {
-        return Classification::Refused(refusal_of(reading));
+    let Ok(sizes) = reading else {
+        return Err(refusal_of(reading));
     };
     write_numbered(game, sizes.vertices, marks, spare, classes, true)
 }

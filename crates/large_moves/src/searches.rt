@@ -1,36 +1,36 @@
 // The searches for refusals 83 and 84. No host calls them.
+#![tactic(auto, using(large_table::proofs::Searches::search_steps))]
+
 ghost use Rattle.std.specs.Prelude.{◌≡◌};
 ghost use Rattle.theory.specs.Logic.Range.{first};
 ghost use Rattle.large_moves.specs.Moves.{move_strays, edge_leaves, Lengths};
 
-use crate::tests;
+use crate::Moves;
 
-// 83: the first vertex whose move isn't an edge of its own, n where there is none.
-pub fn first_stray(game: &[u32], solution: &[u32], n: usize, m: usize) -> usize
-    requires { Lengths game.now solution.now n m }
-    ensures { result ≡ first (move_strays game.now solution.now n m) 0 n }
-{
-    let mut v = 0;
-    while v < n {
-        if tests::move_strays(game, solution, n, m, v) {
-            return v;
+impl Moves<'_> {
+    // 83: the first vertex whose move isn't an edge of its own, n where there is none.
+    pub(crate) fn first_stray(self) -> usize
+        requires { Lengths self.game.now self.solution.now self.n self.m }
+        ensures { result ≡ first (move_strays self.entry.game.now self.entry.solution.now self.entry.n self.entry.m) 0 self.entry.n }
+    {
+        for v in 0..self.n {
+            if self.move_strays(v) {
+                return v;
+            }
         }
-        v += 1;
+        self.n
     }
-    v
-}
 
-// 84: the first kept edge that leads to a vertex of the other winner, m where there is none.
-pub fn first_leaving(game: &[u32], solution: &[u32], n: usize, m: usize) -> usize
-    requires { Lengths game.now solution.now n m }
-    ensures { result ≡ first (edge_leaves game.now solution.now n m) 0 m }
-{
-    let mut j = 0;
-    while j < m {
-        if tests::edge_leaves(game, solution, n, m, j) {
-            return j;
+    // 84: the first kept edge that leads to a vertex of the other winner, m where there is none.
+    pub(crate) fn first_leaving(self) -> usize
+        requires { Lengths self.game.now self.solution.now self.n self.m }
+        ensures { result ≡ first (edge_leaves self.entry.game.now self.entry.solution.now self.entry.n self.entry.m) 0 self.entry.m }
+    {
+        for j in 0..self.m {
+            if self.edge_leaves(j) {
+                return j;
+            }
         }
-        j += 1;
+        self.m
     }
-    j
 }

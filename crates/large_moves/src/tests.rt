@@ -2,38 +2,42 @@
 ghost use Rattle.std.specs.Prelude.{◌≡◌, ◌<◌};
 ghost use Rattle.large_moves.specs.Moves.{move_strays, keeps_edge, edge_leaves, Lengths};
 
-// Whether the move of v isn't an edge of v.
-pub fn move_strays(game: &[u32], solution: &[u32], n: usize, m: usize, v: usize) -> bool
-    requires { Lengths game.now solution.now n m × (v < n) }
-    ensures { result ≡ move_strays game.now solution.now n m v }
-{
-    let e = solution[n + v] as usize;
-    if m <= e {
-        return true;
-    }
-    game[2 + 2 * n + e] as usize != v
-}
+use crate::Moves;
 
-// Whether edge j of v is kept: any edge where the winner doesn't own v, the move of v where it does.
-pub fn keeps_edge(game: &[u32], solution: &[u32], n: usize, m: usize, v: usize, j: usize) -> bool
-    requires { Lengths game.now solution.now n m × (v < n) }
-    ensures { result ≡ keeps_edge game.now solution.now n v j }
-{
-    if solution[v] != game[2 + n + v] {
-        return true;
+impl Moves<'_> {
+    // Whether the move of v isn't an edge of v.
+    pub(crate) fn move_strays(self, v: usize) -> bool
+        requires { Lengths self.game.now self.solution.now self.n self.m × (v < self.n) }
+        ensures { result ≡ move_strays self.entry.game.now self.entry.solution.now self.entry.n self.entry.m v }
+    {
+        let e = self.solution[self.n + v] as usize;
+        if self.m <= e {
+            return true;
+        }
+        self.game[2 + 2 * self.n + e] as usize != v
     }
-    solution[n + v] as usize == j
-}
 
-// Whether edge j is kept and leads to a vertex of the other winner.
-pub fn edge_leaves(game: &[u32], solution: &[u32], n: usize, m: usize, j: usize) -> bool
-    requires { Lengths game.now solution.now n m × (j < m) }
-    ensures { result ≡ edge_leaves game.now solution.now n m j }
-{
-    let v = game[2 + 2 * n + j] as usize;
-    let w = game[2 + 2 * n + m + j] as usize;
-    if solution[w] == solution[v] {
-        return false;
+    // Whether edge j of v is kept: any edge where the winner doesn't own v, the move of v where it does.
+    pub fn keeps_edge(self, v: usize, j: usize) -> bool
+        requires { Lengths self.game.now self.solution.now self.n self.m × (v < self.n) }
+        ensures { result ≡ keeps_edge self.entry.game.now self.entry.solution.now self.entry.n v j }
+    {
+        if self.solution[v] != self.game[2 + self.n + v] {
+            return true;
+        }
+        self.solution[self.n + v] as usize == j
     }
-    keeps_edge(game, solution, n, m, v, j)
+
+    // Whether edge j is kept and leads to a vertex of the other winner.
+    pub(crate) fn edge_leaves(self, j: usize) -> bool
+        requires { Lengths self.game.now self.solution.now self.n self.m × (j < self.m) }
+        ensures { result ≡ edge_leaves self.entry.game.now self.entry.solution.now self.entry.n self.entry.m j }
+    {
+        let v = self.game[2 + 2 * self.n + j] as usize;
+        let w = self.game[2 + 2 * self.n + self.m + j] as usize;
+        if self.solution[w] == self.solution[v] {
+            return false;
+        }
+        self.keeps_edge(v, j)
+    }
 }

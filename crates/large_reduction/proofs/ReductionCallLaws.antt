@@ -1,5 +1,5 @@
 -- The reader's rows for the reduced game, and what the searches leave for the calls that follow them.
-use Rattle.std.specs.Prelude.{◌≡◌, refl, Bool, true, false, cond, List, [], ◌∷◌, ◌++◌, ℕ, ◌+◌, ◌≤◌, ◌<◌, ltb, length}
+use Rattle.std.specs.Prelude.{◌≡◌, refl, Bool, true, false, cond, List, [], ◌∷◌, ◌++◌, ℕ, ◌+◌, ◌≤◌, ◌<◌, ltb, length, Ok, Err}
 use Rattle.std.proofs.Common.{sym, arith, leb-false, lt-ltb, le-ltb}
 use Rattle.std.proofs.Math.Bool.{So}
 use Rattle.theory.specs.Logic.Range.{first}
@@ -10,7 +10,6 @@ use Rattle.table.specs.AnswersLaws.{judge_accepted, judge_past, not_both, refuse
 use Rattle.table.specs.Filling.{filling_answer}
 use Rattle.table.specs.declared.Refusal.{Refusal}
 use Rattle.table.specs.declared.FilledSizes.{FilledSizes}
-use Rattle.table.specs.declared.Filling.TheVariants.{Accepted, Refused}
 use Rattle.large_table.specs.Reading.{large_rows, large_answer}
 use Rattle.large_images.specs.Images.{class_at, Classes}
 use Rattle.large_reduction.specs.ReductionCall.{shifted}
@@ -54,18 +53,18 @@ low_number (x ∷ xs) counts k p h e = go x.condition e (low_number xs counts k 
     go false e ih = ih e
 
 -- the reader's numbers, so that 90 can be added
-pub refusal_number : (r : List ℕ) (f : Refusal) → filling_answer (Refused f) ≡ large_answer r → f.number ≤ 6
+pub refusal_number : (r : List ℕ) (f : Refusal) → filling_answer (Err f) ≡ large_answer r → f.number ≤ 6
 unfolding large_answer large_rows
 refusal_number r f e =
     low_number _ _ f.number f.place (omega arith, (omega arith, (omega arith, (omega arith, (omega arith, tt))))) (sym e)
 
 -- past a reduced game that the reader accepts, the other rows decide
-pub shifted_past : (r : List ℕ) (s : FilledSizes) → filling_answer (Accepted s) ≡ large_answer r → (rs : List Row)
+pub shifted_past : (r : List ℕ) (s : FilledSizes) → filling_answer (Ok s) ≡ large_answer r → (rs : List Row)
     → judge (shifted (large_rows r) ++ rs) [] ≡ judge rs []
 unfolding large_answer
 shifted_past r s e rs = judge_past (shifted (large_rows r)) rs [] (clean_shifted (large_rows r) (judge_accepted (large_rows r) _ _ (sym e)).0)
 
-pub shifted_refused : (r : List ℕ) (f : Refusal) → filling_answer (Refused f) ≡ large_answer r → (rs : List Row)
+pub shifted_refused : (r : List ℕ) (f : Refusal) → filling_answer (Err f) ≡ large_answer r → (rs : List Row)
     → judge (shifted (large_rows r) ++ rs) [] ≡ refused (f.number + 90) f.place
 unfolding large_answer
 shifted_refused r f e rs = shifted_stays (large_rows r) rs _ [] f.number f.place (sym e)

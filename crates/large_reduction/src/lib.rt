@@ -14,10 +14,9 @@ ghost use Rattle.large_table.specs.Reading.{large_rows, LargeFormed};
 ghost use Rattle.large_images.specs.Images.{image_rows, Classes};
 ghost use Rattle.large_reduction.specs.ReductionCall.{shifted, merge_rows, reduction_answer};
 
-use large_images::searches as images;
+use large_images::Merge;
 use large_table::{first_at_least, read};
-use table::acceptor::refused;
-use table::{Acceptance, Filling, NoCounts};
+use table::{NoCounts, Refusal, refused};
 
 // Judges a game, a reduced game, the class of each vertex and a certificate: the reader's refusals of the game, 90 more of the reduced game,
 // then 97 to 106 in order, each over the whole input before the next. Accepted only if each vertex has the winner of its class.
@@ -26,84 +25,95 @@ pub fn check_reduction(
     reduced: &[u32],
     classes: &[u32],
     certificate: &[u32],
-) -> Acceptance
+) -> Result<NoCounts, Refusal>
     ensures { acceptance_answer result ≡ reduction_answer game.now reduced.now classes.now certificate.now }
 {
-    match read(game) {
-        Filling::Refused(refusal) => Acceptance::Refused(refusal),
-        Filling::Accepted(_) => judge_reduced(game, reduced, classes, certificate),
-    }
+    read(game)?;
+    judge_reduced(game, reduced, classes, certificate)
 }
 
 // 91 to 96: the reduced game, for a game that was read.
-fn judge_reduced(game: &[u32], reduced: &[u32], classes: &[u32], certificate: &[u32]) -> Acceptance
+fn judge_reduced(
+    game: &[u32],
+    reduced: &[u32],
+    classes: &[u32],
+    certificate: &[u32],
+) -> Result<NoCounts, Refusal>
     requires { LargeFormed game.now }
     ensures { acceptance_answer result ≡ judge (shifted (large_rows reduced.now) ++ merge_rows game.now reduced.now classes.now certificate.now) [] }
 {
     match read(reduced) {
-        Filling::Refused(refusal) => refused(refusal.number + 90, refusal.place),
-        Filling::Accepted(_) => judge_classes(game, reduced, classes, certificate),
+        Err(refusal) => refused(refusal.number + 90, refusal.place),
+        Ok(_) => judge_classes(game, reduced, classes, certificate),
     }
 }
 
 // 97 to 100, for two games that were read: the reduced game's rows, and the classes.
-fn judge_classes(game: &[u32], reduced: &[u32], classes: &[u32], certificate: &[u32]) -> Acceptance
+fn judge_classes(
+    game: &[u32],
+    reduced: &[u32],
+    classes: &[u32],
+    certificate: &[u32],
+) -> Result<NoCounts, Refusal>
     requires { LargeFormed game.now × LargeFormed reduced.now }
     ensures { acceptance_answer result ≡ judge (merge_rows game.now reduced.now classes.now certificate.now) [] }
 {
-    let n = game[0] as usize;
-    let m = game[1] as usize;
-    let k = reduced[0] as usize;
-    let q = reduced[1] as usize;
-    let descent = searches::first_descent(reduced, k, q);
-    if descent < q {
+    let merge = Merge {
+        game,
+        reduced,
+        classes,
+        certificate,
+        n: game[0] as usize,
+        m: game[1] as usize,
+        k: reduced[0] as usize,
+        q: reduced[1] as usize,
+    };
+    let descent = searches::first_descent(merge);
+    if descent < merge.q {
         return refused(97, descent);
     }
-    if classes.len() != n {
+    if classes.len() != merge.n {
         return refused(98, classes.len());
     }
-    let beyond = first_at_least(classes, k, 0, n);
-    if beyond < n {
+    let beyond = first_at_least(classes, merge.k, 0, merge.n);
+    if beyond < merge.n {
         return refused(99, beyond);
     }
-    let different = searches::first_different(game, reduced, classes, n, m, k, q);
-    if different < n {
+    let different = searches::first_different(merge);
+    if different < merge.n {
         return refused(100, different);
     }
-    judge_images(game, reduced, classes, certificate)
+    judge_images(merge)
 }
 
 // 101 to 106: the certificate, for games that were read and classes that are vertices of the reduced game.
-fn judge_images(game: &[u32], reduced: &[u32], classes: &[u32], certificate: &[u32]) -> Acceptance
-    requires { TableOf game.now (vertex_count game.now) (table_edges game.now) × TableOf reduced.now (vertex_count reduced.now) (table_edges reduced.now) × Classes classes.now (vertex_count game.now) (vertex_count reduced.now) }
-    ensures { acceptance_answer result ≡ judge (image_rows game.now reduced.now classes.now certificate.now) [] }
+fn judge_images(merge: Merge) -> Result<NoCounts, Refusal>
+    requires tables { TableOf merge.game.now merge.n merge.m × TableOf merge.reduced.now merge.k merge.q × Classes merge.classes.now merge.n merge.k }
+    requires sizes { (merge.n ≡ vertex_count merge.game.now) × (merge.m ≡ table_edges merge.game.now) × (merge.k ≡ vertex_count merge.reduced.now) × (merge.q ≡ table_edges merge.reduced.now) }
+    ensures { acceptance_answer result ≡ judge (image_rows merge.entry.game.now merge.entry.reduced.now merge.entry.classes.now merge.entry.certificate.now) [] }
 {
-    let n = game[0] as usize;
-    let m = game[1] as usize;
-    let k = reduced[0] as usize;
-    let q = reduced[1] as usize;
-    if certificate.len() != n + k + 2 * m {
-        return refused(101, certificate.len());
+    if merge.certificate.len() != merge.n + merge.k + 2 * merge.m {
+        return refused(101, merge.certificate.len());
     }
-    let empty = images::first_empty(classes, certificate, n, m, k);
-    if empty < k {
+    let empty = merge.first_empty();
+    if empty < merge.k {
         return refused(102, empty);
     }
-    let image = images::first_image(game, reduced, classes, certificate, n, m, k, q);
-    if image < m {
+    let image = merge.first_image();
+    if image < merge.m {
         return refused(103, image);
     }
-    let start = images::first_start(game, reduced, certificate, n, m, k, q);
-    if start < n {
+    let start = merge.first_start();
+    if start < merge.n {
         return refused(104, start);
     }
-    let owner = images::first_owner(game, reduced, classes, certificate, n, m, k, q);
-    if owner < n {
+    let owner = merge.first_owner();
+    if owner < merge.n {
         return refused(105, owner);
     }
-    let after = images::first_after(game, reduced, certificate, n, m, k, q);
-    if after < m {
+    let after = merge.first_after();
+    if after < merge.m {
         return refused(106, after);
     }
-    Acceptance::Accepted(NoCounts {})
+    Ok(NoCounts {})
 }

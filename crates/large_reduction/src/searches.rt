@@ -1,4 +1,6 @@
 // The searches for refusals 97 and 100. No host calls them.
+#![tactic(auto, using(large_table::proofs::Searches::search_steps))]
+
 ghost use Rattle.std.specs.Prelude.{◌≡◌};
 ghost use Rattle.theory.specs.Logic.Range.{first};
 ghost use Rattle.large_table.specs.Words.{TableOf};
@@ -6,41 +8,30 @@ ghost use Rattle.large_images.specs.Images.{Classes};
 ghost use Rattle.large_reduction.specs.ReductionCall.{edge_descends, priority_differs};
 
 use crate::tests;
+use large_images::Merge;
 
 // 97: the first edge of the reduced game with a lower source than the one before it.
-pub fn first_descent(reduced: &[u32], k: usize, q: usize) -> usize
-    requires { TableOf reduced.now k q }
-    ensures { result ≡ first (edge_descends reduced.now k) 0 q }
+pub fn first_descent(merge: Merge) -> usize
+    requires { TableOf merge.reduced.now merge.k merge.q }
+    ensures { result ≡ first (edge_descends merge.entry.reduced.now merge.entry.k) 0 merge.entry.q }
 {
-    let mut e = 0;
-    while e < q {
-        if tests::edge_descends(reduced, k, q, e) {
+    for e in 0..merge.q {
+        if tests::edge_descends(merge, e) {
             return e;
         }
-        e += 1;
     }
-    e
+    merge.q
 }
 
 // 100: the first vertex whose class has another priority.
-pub fn first_different(
-    game: &[u32],
-    reduced: &[u32],
-    classes: &[u32],
-    n: usize,
-    m: usize,
-    k: usize,
-    q: usize,
-) -> usize
-    requires { TableOf game.now n m × TableOf reduced.now k q × Classes classes.now n k }
-    ensures { result ≡ first (priority_differs game.now reduced.now classes.now) 0 n }
+pub fn first_different(merge: Merge) -> usize
+    requires { TableOf merge.game.now merge.n merge.m × TableOf merge.reduced.now merge.k merge.q × Classes merge.classes.now merge.n merge.k }
+    ensures { result ≡ first (priority_differs merge.entry.game.now merge.entry.reduced.now merge.entry.classes.now) 0 merge.entry.n }
 {
-    let mut v = 0;
-    while v < n {
-        if tests::priority_differs(game, reduced, classes, n, m, k, q, v) {
+    for v in 0..merge.n {
+        if tests::priority_differs(merge, v) {
             return v;
         }
-        v += 1;
     }
-    v
+    merge.n
 }

@@ -4,31 +4,24 @@ ghost use Rattle.large_table.specs.Words.{TableOf};
 ghost use Rattle.large_images.specs.Images.{Classes};
 ghost use Rattle.large_reduction.specs.ReductionCall.{edge_descends, priority_differs};
 
+use large_images::Merge;
+
 // Whether edge e has a lower source than the edge before it.
-pub fn edge_descends(reduced: &[u32], k: usize, q: usize, e: usize) -> bool
-    requires { TableOf reduced.now k q × (e < q) }
-    ensures { result ≡ edge_descends reduced.now k e }
+pub fn edge_descends(merge: Merge, e: usize) -> bool
+    requires { TableOf merge.reduced.now merge.k merge.q × (e < merge.q) }
+    ensures { result ≡ edge_descends merge.entry.reduced.now merge.entry.k e }
 {
     if e == 0 {
         return false;
     }
-    reduced[2 + 2 * k + e] < reduced[1 + 2 * k + e]
+    merge.reduced[2 + 2 * merge.k + e] < merge.reduced[1 + 2 * merge.k + e]
 }
 
 // Whether v and its class have different priorities.
-pub fn priority_differs(
-    game: &[u32],
-    reduced: &[u32],
-    classes: &[u32],
-    n: usize,
-    m: usize,
-    k: usize,
-    q: usize,
-    v: usize,
-) -> bool
-    requires { TableOf game.now n m × TableOf reduced.now k q × Classes classes.now n k × (v < n) }
-    ensures { result ≡ priority_differs game.now reduced.now classes.now v }
+pub fn priority_differs(merge: Merge, v: usize) -> bool
+    requires { TableOf merge.game.now merge.n merge.m × TableOf merge.reduced.now merge.k merge.q × Classes merge.classes.now merge.n merge.k × (v < merge.n) }
+    ensures { result ≡ priority_differs merge.entry.game.now merge.entry.reduced.now merge.entry.classes.now v }
 {
-    let d = classes[v] as usize;
-    game[2 + v] != reduced[2 + d]
+    let d = merge.classes[v] as usize;
+    merge.game[2 + v] != merge.reduced[2 + d]
 }

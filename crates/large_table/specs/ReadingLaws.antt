@@ -1,6 +1,6 @@
 -- Laws of the reader of large games: its computed rows render its rules, so it refuses k at p exactly as these say, and it accepts exactly
 -- the tables that `LargeFormed` describes.
-use Rattle.std.specs.Prelude.{◌≡◌, refl, ◌↔◌, ◌≢◌, List, [], ◌∷◌, ◌++◌, ℕ, ◌<◌, length}
+use Rattle.std.specs.Prelude.{◌≡◌, refl, ◌↔◌, ◌≢◌, List, [], ◌∷◌, ◌++◌, ℕ, ◌<◌, length, Ok, Err}
 use Rattle.std.proofs.Common.{sym, arith, ltb-true, lt-ltb, eqb-true, eq-eqb}
 use Rattle.std.proofs.Math.Decide.{ℕ_discrete}
 use Rattle.table.specs.Table.{vertex_count, table_edges, table_length}
@@ -12,7 +12,6 @@ use Rattle.table.specs.ReadingLaws.{differs, owner_renders, end_renders, owners_
 use Rattle.table.specs.Filling.{filling_answer}
 use Rattle.table.specs.declared.FilledSizes.{FilledSizes}
 use Rattle.table.specs.declared.Refusal.{Refusal}
-use Rattle.table.specs.declared.Filling.TheVariants.{Accepted, Refused}
 use Rattle.large_table.specs.Reading.{large_rows, large_answer, LargeFormed, LargeSized}
 use Rattle.large_table.specs.LargeRules.{large_rules}
 
@@ -68,16 +67,16 @@ large_accepts g w = judge_clean (large_rows g) _ (formed_clean g w)
 
 -- ---- for a caller of `read`, whose rows are the reader's and then its own
 
-pub large_sized : (g : List ℕ) (c : FilledSizes) → filling_answer (Accepted c) ≡ large_answer g → LargeSized g c
+pub large_sized : (g : List ℕ) (c : FilledSizes) → filling_answer (Ok c) ≡ large_answer g → LargeSized g c
 large_sized g c e =
     let a = large_accepted g _ (sym e) in
     record { formed = a.0; vertices = cc a.1; edges = cc a.1 }
 
-pub large_past : (g : List ℕ) (c : FilledSizes) → filling_answer (Accepted c) ≡ large_answer g → (rs : List Row) (counts : List ℕ)
+pub large_past : (g : List ℕ) (c : FilledSizes) → filling_answer (Ok c) ≡ large_answer g → (rs : List Row) (counts : List ℕ)
     → judge (large_rows g ++ rs) counts ≡ judge rs counts
 large_past g c e rs counts = judge_past (large_rows g) rs counts (formed_clean g (large_sized g c e).formed)
 
-pub large_stays : (g : List ℕ) (f : Refusal) → filling_answer (Refused f) ≡ large_answer g → (rs : List Row) (counts : List ℕ)
-    → judge (large_rows g ++ rs) counts ≡ filling_answer (Refused f)
+pub large_stays : (g : List ℕ) (f : Refusal) → filling_answer (Err f) ≡ large_answer g → (rs : List Row) (counts : List ℕ)
+    → judge (large_rows g ++ rs) counts ≡ filling_answer (Err f)
 unfolding large_answer
 large_stays g f e rs counts = judge_stays (large_rows g) rs _ counts f.number f.place (sym e)

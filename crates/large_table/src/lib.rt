@@ -8,10 +8,10 @@ ghost use Rattle.table.specs.Flags.{at_least};
 ghost use Rattle.table.specs.Filling.{filling_answer};
 ghost use Rattle.large_table.specs.Reading.{large_answer};
 
-use table::{FilledSizes, Filling, Refusal};
+use table::{FilledSizes, Refusal, refused};
 
 // Judges the table of a large game: refusals 1, 2, 4, 5 and 6 in order, each over the whole table before the next.
-pub fn read(game: &[u32]) -> Filling
+pub fn read(game: &[u32]) -> Result<FilledSizes, Refusal>
     ensures { filling_answer result ≡ large_answer game.now }
 {
     let len = game.len();
@@ -34,29 +34,22 @@ pub fn read(game: &[u32]) -> Filling
     if end < len {
         return refused(6, end);
     }
-    Filling::Accepted(FilledSizes {
+    Ok(FilledSizes {
         vertices: n,
         edges: m,
     })
 }
 
 // The first word from `from` on, below `end`, that is `limit` or more; `end` where there is none. A part of the calls; no host calls it.
+#[tactic(auto, using(crate::proofs::Searches::search_steps))]
 pub fn first_at_least(words: &[u32], limit: usize, from: usize, end: usize) -> usize
     requires { (from ≤ end) × (end ≤ length words.now) }
     ensures { result ≡ first (at_least words.now limit) from end }
 {
-    let mut k = from;
-    while k < end {
+    for k in from..end {
         if limit <= words[k] as usize {
             return k;
         }
-        k += 1;
     }
-    k
-}
-
-fn refused(number: u32, place: usize) -> Filling
-    ensures { result ≡ Filling.Refused (record { number = number; place = place }) }
-{
-    Filling::Refused(Refusal { number, place })
+    end
 }

@@ -12,7 +12,7 @@ pub fn length_for(n: usize) -> usize
     requires { n ≤ vertex_limit }
     ensures { result ≡ marks_length n }
 {
-    (n * n + 7) / 8
+    (n * n).div_ceil(8)
 }
 
 // Whether mark i is set.
@@ -57,6 +57,7 @@ pub fn finds(
 {
     let end = ys.end;
     let mut k = ys.from;
+    // a loop that yields its value by break, the form that document 01 names for this search
     let found = loop {
         if k >= end {
             break false;

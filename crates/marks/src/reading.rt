@@ -11,10 +11,8 @@ fn read_whole(marks: &[u8], first: usize, count: usize) -> u64
     ensures { BitsRead marks.now (first * 8) (8 * count) result }
 {
     let mut word = 0u64;
-    let mut k = 0;
-    while k < count {
-        word = word | ((marks[first + k] as u64) << (8 * k));
-        k += 1;
+    for k in 0..count {
+        word = word | (u64::from(marks[first + k]) << (8 * k));
     }
     word
 }

@@ -29,19 +29,13 @@ fn some_ends(
     requires reaches { Reaches marks.now targets.now xs.from xs.end ys.from ys.end across down }
     ensures { result ≡ any_from xs.from xs.end (search_ends marks.now targets.now ys.from ys.end across down wanted found) }
 {
-    let end = xs.end;
-    let mut i = xs.from;
-    let hit = loop {
-        if i >= end {
-            break false;
-        }
-        let base = (targets[i] as usize) * across;
+    for i in xs.from..xs.end {
+        let base = usize::from(targets[i]) * across;
         if finds(marks, targets, ys, base, down, wanted) == found {
-            break true;
+            return true;
         }
-        i += 1;
-    };
-    hit
+    }
+    false
 }
 
 // Whether the priorities are equal.

@@ -36,11 +36,9 @@ fn write_whole(marks: &mut [u8], at: usize, word: u64, count: usize) -> u64
 {
     let first = at / 8;
     let mut rest = word;
-    let mut k = 0;
-    while k < count {
+    for k in 0..count {
         marks[first + k] = (rest & 255) as u8;
         rest = rest >> 8;
-        k += 1;
     }
     rest
 }
@@ -94,10 +92,8 @@ pub fn write_marks(rows: &[u64], n: usize, marks: &mut [u8])
     requires { (n ≤ vertex_limit) × (n * row_words ≤ length rows.now) × (marks_length n ≤ length marks.old) }
     ensures { RowsWritten n (cell rows.now) marks.old marks.new }
 {
-    let mut v = 0;
-    while v < n {
+    for v in 0..n {
         write_row(rows, n, v, marks);
-        v += 1;
     }
 }
 
@@ -106,10 +102,8 @@ pub fn write_small(rows: &[u64], n: usize, marks: &mut [u8])
     requires { (n ≤ word_bits) × (n ≤ length rows.now) × (marks_length n ≤ length marks.old) }
     ensures { RowsWritten n (λ v x. digit (get_or rows.now v 0) x) marks.old marks.new }
 {
-    let mut v = 0;
-    while v < n {
+    for v in 0..n {
         write_bits(marks, v * n, rows[v], n);
-        v += 1;
     }
 }
 
@@ -118,9 +112,8 @@ pub fn copy_marks(from: &[u8], to: &mut [u8], count: usize)
     requires { (count ≤ length from.now) × (count ≤ length to.old) }
     ensures { Copied count from.now to.old to.new }
 {
-    let mut i = 0;
-    while i < count {
+    // not `copy_from_slice`: the archives would call `memmove`
+    for i in 0..count {
         to[i] = from[i];
-        i += 1;
     }
 }

@@ -1,5 +1,5 @@
 -- The order call: document 01, "The order", with its table of refusals. Rows and promise are for any relation that is written by passes.
-use Rattle.std.specs.Prelude.{◌≡◌, List, [], ◌∷◌, ◌++◌, ℕ}
+use Rattle.std.specs.Prelude.{◌≡◌, List, [], ◌∷◌, ◌++◌, ℕ, Result, Ok, Err}
 use Rattle.theory.specs.Order.Passes.{Marks}
 use Rattle.theory.specs.Games.Game.{Game}
 use Rattle.theory.specs.Order.Order.{order_marks, order_passes}
@@ -7,8 +7,8 @@ use Rattle.table.specs.Table.{vertex_count, game_of}
 use Rattle.table.specs.Answers.{Row, memory_row, Answer, accepted, refused, judge, after}
 use Rattle.table.specs.Reading.{game_rows}
 use Rattle.marks.specs.Marks.{marks_length, bytes}
-use Rattle.order.specs.declared.Ordering.{Ordering}
-use Rattle.order.specs.declared.Ordering.TheVariants.{Accepted, Refused}
+use Rattle.table.specs.declared.Refusal.{Refusal}
+use Rattle.order.specs.declared.PassCount.{PassCount}
 
 -- 1 to 8, 21, 22
 unfoldable pub order_rows : List ℕ → List ℕ → List ℕ → List Row
@@ -24,9 +24,9 @@ abbrev pub order_answer : List ℕ → List ℕ → List ℕ → Answer
 order_answer = passes_answer order_passes
 
 -- what the cases of the verdict say
-abbrev pub ordering_answer : Ordering → Answer
-ordering_answer (Accepted p) = accepted (p.passes ∷ [])
-ordering_answer (Refused f) = refused f.number f.place
+abbrev pub ordering_answer : Result PassCount Refusal → Answer
+ordering_answer (Ok p) = accepted (p.passes ∷ [])
+ordering_answer (Err f) = refused f.number f.place
 
 -- the marks of a relation of a table's game, in memory; those of the order
 abbrev pub bytes_of : (Game → Marks) → List ℕ → List ℕ

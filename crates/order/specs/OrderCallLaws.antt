@@ -1,5 +1,5 @@
 -- Laws of the calls that write a relation by passes: their promise at each way out.
-use Rattle.std.specs.Prelude.{◌≡◌, ℕ, ◌≤◌, ◌<◌, length}
+use Rattle.std.specs.Prelude.{◌≡◌, ℕ, ◌≤◌, ◌<◌, length, Err}
 use Rattle.std.proofs.Math.Path.{sym}
 use Rattle.std.proofs.Common.{◌∙◌, lt-ltb, le-ltb}
 use mathlib.Core.List.{List, [], ◌∷◌}
@@ -13,7 +13,6 @@ use Rattle.table.specs.Filling.{filling_answer}
 use Rattle.table.specs.ReadingLaws.{reading_stays, well_clean}
 use Rattle.table.specs.WellFormed.{WellFormed}
 use Rattle.table.specs.declared.Refusal.{Refusal}
-use Rattle.table.specs.declared.Filling.TheVariants.{Refused}
 use Rattle.marks.specs.Marks.{marks_length}
 use Rattle.order.specs.OrderCall.{order_rows, passes_answer, bytes_of, MarksCall}
 use Rattle.order.specs.OrderWritten.{MarksDone}
@@ -28,7 +27,7 @@ module _ (relation : Game → Marks) (passes : Game → ℕ) (game marks spare :
   }
 
   -- the reader's refusal is the call's
-  pub order_handed : (f : Refusal) → filling_answer (Refused f) ≡ sizes_answer game
+  pub order_handed : (f : Refusal) → filling_answer (Err f) ≡ sizes_answer game
       → MarksCall relation passes game marks spare (refused f.number f.place) marks spare
   order_handed f e = order_old f.number f.place (unfold passes_answer order_rows in reading_stays game f e _ _)
 

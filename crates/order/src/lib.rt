@@ -16,18 +16,12 @@ use marks::packed::length_for;
 use marks::writing::copy_marks;
 use order_small_losses::edges::SMALL;
 use small::fill_small;
-use table::{Filling, Refusal, refusal_of};
+use table::{Refusal, refusal_of, refused};
 use wide::fill_wide;
 
 #[derive(Clone, Copy)]
 pub struct PassCount {
     pub passes: u32,
-}
-
-#[derive(Clone, Copy)]
-pub enum Ordering {
-    Accepted(PassCount),
-    Refused(Refusal),
 }
 
 // Writes the order of a well-formed table or, with `mirror`, its governed bisimulation into a buffer that is long enough. The arrays of each width
@@ -72,34 +66,28 @@ pub fn write_relation(
     marks: &mut [u8],
     spare: &mut [u8],
     mirror: bool,
-) -> Ordering
+) -> Result<PassCount, Refusal>
     requires { WellFormed game.now × (n ≡ vertex_count game.now) }
     ensures { MarksCall (marks_by mirror) (passes_by mirror) game.now marks.old spare.old (ordering_answer result) marks.new spare.new }
 {
     let needed = length_for(n);
     if marks.len() < needed {
-        return Ordering::Refused(Refusal {
-            number: 21,
-            place: needed,
-        });
+        return refused(21, needed);
     }
     if spare.len() < needed {
-        return Ordering::Refused(Refusal {
-            number: 22,
-            place: needed,
-        });
+        return refused(22, needed);
     }
     let passes = fill_relation(game, marks, spare, mirror);
-    Ordering::Accepted(PassCount { passes })
+    Ok(PassCount { passes })
 }
 
 // Judges the game and the buffers, and writes the order into both. The verdict carries the pass count.
-pub fn write_order(game: &[u16], marks: &mut [u8], spare: &mut [u8]) -> Ordering
+pub fn write_order(game: &[u16], marks: &mut [u8], spare: &mut [u8]) -> Result<PassCount, Refusal>
     ensures { OrderCall game.now marks.old spare.old (ordering_answer result) marks.new spare.new }
 {
     let reading = table_reader::read_sizes(game);
-    let Filling::Accepted(sizes) = reading else {
-        return Ordering::Refused(refusal_of(reading));
+    let Ok(sizes) = reading else {
+        return Err(refusal_of(reading));
     };
     write_relation(game, sizes.vertices, marks, spare, false)
 }

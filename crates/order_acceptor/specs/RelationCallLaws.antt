@@ -1,5 +1,5 @@
 -- Laws of the relation acceptors: their verdict at each way out, and what is asked of a marked pair.
-use Rattle.std.specs.Prelude.{◌≡◌, Bool, ℕ, ◌-◌, ◌≤◌, ◌<◌, ltb, length, drop}
+use Rattle.std.specs.Prelude.{◌≡◌, Bool, ℕ, ◌-◌, ◌≤◌, ◌<◌, ltb, length, drop, Err}
 use Rattle.std.proofs.Math.Path.{refl, sym, ap}
 use Rattle.std.proofs.Common.{◌∙◌, arith, lt-ltb, le-ltb}
 use Rattle.std.proofs.Math.Logic.{inl, inr}
@@ -17,7 +17,6 @@ use Rattle.table.specs.Filling.{filling_answer}
 use Rattle.table.specs.ReadingLaws.{reading_stays, well_clean}
 use Rattle.table.specs.WellFormed.{WellFormed}
 use Rattle.table.specs.declared.Refusal.{Refusal}
-use Rattle.table.specs.declared.Filling.TheVariants.{Refused}
 use Rattle.marks.specs.Marks.{marks_length, relation, has_unused}
 use Rattle.order_acceptor.specs.RelationCall.{direct_pair, governed_pair, pair_by, fails, first_failing, acceptor_rows, acceptor_answer}
 
@@ -29,7 +28,7 @@ first_failing_le asked g marks = first_le _ 0 (pair_count g) (omega arith)
 
 module _ (asked : Game → Rel → Rel) (g marks : List ℕ) where
   -- the reader's refusal is the call's
-  pub relation_handed : (f : Refusal) → filling_answer (Refused f) ≡ sizes_answer g → refused f.number f.place ≡ acceptor_answer asked g marks
+  pub relation_handed : (f : Refusal) → filling_answer (Err f) ≡ sizes_answer g → refused f.number f.place ≡ acceptor_answer asked g marks
   unfolding acceptor_answer acceptor_rows
   relation_handed f e = sym (reading_stays g f e _ _)
 

@@ -75,16 +75,15 @@ fn first_failing(game: &[u16], starts: &[u16], targets: &[u16], marks: &[u8], mi
 {
     let n = game[0] as usize;
     let mut v = 0;
+    // loops that are left by label with the failing pair, the form that document 01 names for this search
     let failing = 'rows: loop {
         if v >= n {
             break 'rows Pair { v, w: 0 };
         }
-        let mut w = 0;
-        while w < n {
+        for w in 0..n {
             if pair_fails(game, starts, targets, marks, v, w, mirror) {
                 break 'rows Pair { v, w };
             }
-            w += 1;
         }
         v += 1;
     };

@@ -10,12 +10,11 @@ ghost use Rattle.table.specs.Acceptance.{acceptance_answer};
 ghost use Rattle.order_acceptor.specs.RelationCall.{pair_by, acceptor_answer, relation_answer};
 
 use marks::packed::{has_unused, length_for};
-use table::acceptor::refused;
-use table::{Acceptance, Filling, NoCounts, refusal_of};
+use table::{NoCounts, Refusal, refusal_of, refused};
 
 // Judges the marks for a game of n vertices that was read: accepted if the marked pairs form a direct simulation or, with `mirror`, a governed
 // bisimulation. A part of the two acceptors; no host calls it.
-pub fn judge_marks(game: &[u16], n: usize, marks: &[u8], mirror: bool) -> Acceptance
+pub fn judge_marks(game: &[u16], n: usize, marks: &[u8], mirror: bool) -> Result<NoCounts, Refusal>
     requires { WellFormed game.now × (n ≡ vertex_count game.now) }
     ensures { acceptance_answer result ≡ acceptor_answer (pair_by mirror) game.now marks.now }
 {
@@ -32,16 +31,16 @@ pub fn judge_marks(game: &[u16], n: usize, marks: &[u8], mirror: bool) -> Accept
     if place < pairs {
         return refused(10, place);
     }
-    Acceptance::Accepted(NoCounts {})
+    Ok(NoCounts {})
 }
 
 // Judges the game and the marks: accepted if the marked pairs form a direct simulation.
-pub fn accept_relation(game: &[u16], marks: &[u8]) -> Acceptance
+pub fn accept_relation(game: &[u16], marks: &[u8]) -> Result<NoCounts, Refusal>
     ensures { acceptance_answer result ≡ relation_answer game.now marks.now }
 {
     let reading = table_reader::read_sizes(game);
-    let Filling::Accepted(sizes) = reading else {
-        return Acceptance::Refused(refusal_of(reading));
+    let Ok(sizes) = reading else {
+        return Err(refusal_of(reading));
     };
     judge_marks(game, sizes.vertices, marks, false)
 }

@@ -28,13 +28,11 @@ fn add_edges(game: &[u16], edges: &mut [u64])
     let m = game[1] as usize;
     let sources = 2 + 2 * n;
     let targets = sources + m;
-    let mut j = 0;
-    while j < m {
+    for j in 0..m {
         let v = game[sources + j] as usize;
         let x = game[targets + j] as usize;
         add(edges, v, x, true);
         add(edges, VERTICES + x, v, true);
-        j += 1;
     }
 }
 
@@ -57,12 +55,10 @@ fn falling(edges: &[u64], near: Row, player: Row, x: Row) -> Row
     ensures { RowIs result (falling_rows edges.now near player x) }
 {
     let mut out = [0u64; WORDS];
-    let mut j = 0;
-    while j < WORDS {
+    for j in 0..WORDS {
         let own = near[j] & player[j];
         let stuck = apart_word(edges, j * 64, near[j] ^ own, x);
         out[j] = own | stuck;
-        j += 1;
     }
     out
 }

@@ -86,9 +86,7 @@ pub fn lose_all(
     requires by_index { (x : ℕ) → x < row_bits → cell losing.old 0 x ≡ false }
     ensures { LossesTo edges.now related.now lost.now falls.now changed near.now row_bits next.new losing.new }
 {
-    let mut j = 0;
-    while j < WORDS {
+    for j in 0..WORDS {
         lose_word(edges, related, lost, falls, changed, near, j, next, losing);
-        j += 1;
     }
 }

@@ -4,7 +4,8 @@ ghost use Rattle.words.specs.Word.{word_bits, digit};
 ghost use Rattle.order_rows.specs.Bits.{row_bits, RowIs};
 ghost use Rattle.order_sets.specs.Losses.{differs};
 
-use order_rows::row::{Row, WORDS, end_of};
+use order_rows::row::{Row, end_of};
+use std::array;
 
 // Those of 64 vertices from `base` on, below n, whose word from `from` on isn't the value.
 pub fn differing_word(words: &[u16], from: usize, n: usize, value: u16, base: usize) -> u64
@@ -13,11 +14,9 @@ pub fn differing_word(words: &[u16], from: usize, n: usize, value: u16, base: us
 {
     let end = end_of(base, n);
     let mut out: u64 = 0;
-    let mut w = base;
-    while w < end {
+    for w in base..end {
         let found = words[from + w];
         out = words::with(out, w - base, found != value);
-        w += 1;
     }
     out
 }
@@ -27,11 +26,5 @@ pub fn differing(words: &[u16], from: usize, n: usize, value: u16) -> Row
     requires { from + n ≤ length words.now }
     ensures { RowIs result (differs words.now from n value) }
 {
-    let mut out = [0u64; WORDS];
-    let mut j = 0;
-    while j < WORDS {
-        out[j] = differing_word(words, from, n, value, j * 64);
-        j += 1;
-    }
-    out
+    array::from_fn(|j| differing_word(words, from, n, value, j * 64))
 }

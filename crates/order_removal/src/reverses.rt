@@ -42,10 +42,8 @@ fn lose_column(next: &mut [u64], losing: &mut [u64], which: Row, v: usize)
     requires { (relation_words ≤ length next.old) × (row_words ≤ length losing.old) × (v < row_bits) }
     ensures { LosesToo (column_pairs which v) next.old losing.old next.new losing.new }
 {
-    let mut j = 0;
-    while j < WORDS {
+    for j in 0..WORDS {
         lose_word(next, losing, j * 64, which[j], v);
-        j += 1;
     }
 }
 

@@ -22,15 +22,12 @@ pub fn first_equal(game: &[u16], v: usize) -> usize
     ensures { result ≡ first (λ u. equal_priority (game_of game.now) (game_of game.now) u v) 0 v }
 {
     let priority = game[2 + v];
-    let mut u = 0;
-    while u < v {
-        let found = game[2 + u];
-        if found == priority {
+    for u in 0..v {
+        if game[2 + u] == priority {
             return u;
         }
-        u += 1;
     }
-    u
+    v
 }
 
 // Copies row u into row v, which is the next.
@@ -112,10 +109,8 @@ pub fn begin(
     let n = game[0] as usize;
     // No vertex has owner 2.
     let all = differing(game, 2 + n, n, 2);
-    let mut v = 0;
-    while v < n {
+    for v in 0..n {
         start_row(game, edges, related, lost, falls, all, v);
         add(changed, 0, v, is_some(row(lost, v)));
-        v += 1;
     }
 }

@@ -7,6 +7,7 @@ ghost use Rattle.words.specs.Words.{has};
 ghost use Rattle.order_rows.specs.Bits.{row_bits, RowIs, row_words, cell, InRows, Put, Added, united_rows, apart};
 
 use crate::row::{Row, WORDS, either, is_some, meets, without};
+use std::array;
 
 // Row v.
 pub fn row(words: &[u64], v: usize) -> Row
@@ -14,25 +15,17 @@ pub fn row(words: &[u64], v: usize) -> Row
     ensures { RowIs result (cell words.now v) }
 {
     let at = v * WORDS;
-    let mut out = [0u64; WORDS];
-    let mut k = 0;
-    while k < WORDS {
-        out[k] = words[at + k];
-        k += 1;
-    }
-    out
+    array::from_fn(|k| words[at + k])
 }
 
-// Puts r into row v.
+// Puts r into row v, word by word: `copy_from_slice` here also tests at run time whether the two overlap.
 pub fn put(words: &mut [u64], v: usize, r: Row)
     requires { InRows words.old v }
     ensures { Put words.old words.new v r }
 {
     let at = v * WORDS;
-    let mut k = 0;
-    while k < WORDS {
+    for k in 0..WORDS {
         words[at + k] = r[k];
-        k += 1;
     }
 }
 
@@ -74,11 +67,9 @@ pub fn unite(words: &[u64], base: usize, which: Row) -> Row
     ensures { RowIs result (united_rows words.now base which) }
 {
     let mut out = [0u64; WORDS];
-    let mut j = 0;
-    while j < WORDS {
+    for j in 0..WORDS {
         let more = unite_word(words, base + j * 64, which[j], out);
         out = more;
-        j += 1;
     }
     out
 }
@@ -107,11 +98,9 @@ pub fn strip(words: &[u64], which: Row, from: Row) -> Row
     ensures { RowIs result (λ x. has from x & not (united_rows words.now 0 which x)) }
 {
     let mut out = from;
-    let mut j = 0;
-    while j < WORDS {
+    for j in 0..WORDS {
         let less = strip_word(words, j * 64, which[j], out);
         out = less;
-        j += 1;
     }
     out
 }
@@ -136,11 +125,5 @@ pub fn apart_of(words: &[u64], which: Row, x: Row) -> Row
     requires { row_bits * row_words ≤ length words.now }
     ensures { RowIs result (λ a. has which a & apart words.now a x) }
 {
-    let mut out = [0u64; WORDS];
-    let mut j = 0;
-    while j < WORDS {
-        out[j] = apart_word(words, j * 64, which[j], x);
-        j += 1;
-    }
-    out
+    array::from_fn(|j| apart_word(words, j * 64, which[j], x))
 }

@@ -6,6 +6,7 @@ ghost use Rattle.words.specs.Word.{word_bits};
 ghost use Rattle.words.specs.Words.{has};
 ghost use Rattle.order_rows.specs.Bits.{row_bits, row_words, RowIs};
 
+use std::array;
 use table::limits::VERTICES;
 
 pub const WORDS: usize = VERTICES / 64;
@@ -17,46 +18,28 @@ pub fn end_of(base: usize, n: usize) -> usize
     requires { base ≤ row_bits }
     ensures { result ≡ min n (base + word_bits) }
 {
-    if base + 64 < n { base + 64 } else { n }
+    n.min(base + 64)
 }
 
 // What is in either.
 pub fn either(a: Row, b: Row) -> Row
     ensures { RowIs result (λ x. has a x or has b x) }
 {
-    let mut out = [0u64; WORDS];
-    let mut k = 0;
-    while k < WORDS {
-        out[k] = a[k] | b[k];
-        k += 1;
-    }
-    out
+    array::from_fn(|k| a[k] | b[k])
 }
 
 // What is in both.
 pub fn common(a: Row, b: Row) -> Row
     ensures { RowIs result (λ x. has a x & has b x) }
 {
-    let mut out = [0u64; WORDS];
-    let mut k = 0;
-    while k < WORDS {
-        out[k] = a[k] & b[k];
-        k += 1;
-    }
-    out
+    array::from_fn(|k| a[k] & b[k])
 }
 
 // What is in a and not in b.
 pub fn without(a: Row, b: Row) -> Row
     ensures { RowIs result (λ x. has a x & not (has b x)) }
 {
-    let mut out = [0u64; WORDS];
-    let mut k = 0;
-    while k < WORDS {
-        out[k] = a[k] ^ (a[k] & b[k]);
-        k += 1;
-    }
-    out
+    array::from_fn(|k| a[k] ^ (a[k] & b[k]))
 }
 
 // Whether there is something in it.
@@ -64,10 +47,8 @@ pub fn is_some(a: Row) -> bool
     ensures { result ≡ any_below row_bits (has a) }
 {
     let mut all: u64 = 0;
-    let mut k = 0;
-    while k < WORDS {
-        all = all | a[k];
-        k += 1;
+    for word in &a {
+        all |= *word;
     }
     words::is_some(all)
 }
@@ -84,10 +65,8 @@ pub fn size(a: Row) -> u32
     ensures { result ≡ count row_bits (has a) }
 {
     let mut total: u32 = 0;
-    let mut k = 0;
-    while k < WORDS {
-        total += words::size(a[k]);
-        k += 1;
+    for word in &a {
+        total += words::size(*word);
     }
     total
 }

@@ -29,13 +29,11 @@ fn add_edges(game: &[u16], edges: &mut [u64])
     let m = game[1] as usize;
     let sources = 2 + 2 * n;
     let targets = sources + m;
-    let mut j = 0;
-    while j < m {
-        let v = game[sources + j] as usize;
-        let x = game[targets + j] as usize;
+    for j in 0..m {
+        let v = usize::from(game[sources + j]);
+        let x = usize::from(game[targets + j]);
         edges[v] = words::with(edges[v], x, true);
         edges[SMALL + x] = words::with(edges[SMALL + x], v, true);
-        j += 1;
     }
 }
 

@@ -92,11 +92,9 @@ pub fn begin(
     // No vertex has owner 2.
     let all = differing_word(game, 2 + n, n, 2, 0);
     let mut changed: u64 = 0;
-    let mut v = 0;
-    while v < n {
+    for v in 0..n {
         start_row(game, edges, related, lost, falls, all, v);
         changed = words::with(changed, v, words::is_some(lost[v]));
-        v += 1;
     }
     changed
 }

@@ -11,24 +11,23 @@ ghost use Rattle.plan_links.specs.PlanFormed.{WordsPass};
 ghost use Rattle.plan_links.specs.LinkIndex.{LinkIndex};
 ghost use Rattle.plan.specs.Acceptance.{plan_rows, plan_answer};
 
-use table::acceptor::refused;
 use table::limits::{LINKS, POSITION_STARTS};
-use table::{Acceptance, Filling, NoCounts, refusal_of};
+use table::{NoCounts, Refusal, refusal_of, refused};
 
 // Judges a game, a player (0 Even, 1 Odd) and a plan: the reader's refusals, then 11 to 16 in order. Accepted exactly if the plan wins
 // for the player from the vertex of position 0.
-pub fn accept_plan(game: &[u16], player: u32, plan: &[u16]) -> Acceptance
+pub fn accept_plan(game: &[u16], player: u32, plan: &[u16]) -> Result<NoCounts, Refusal>
     ensures { acceptance_answer result ≡ plan_answer game.now player plan.now }
 {
     let reading = table_reader::read_sizes(game);
-    let Filling::Accepted(_) = reading else {
-        return Acceptance::Refused(refusal_of(reading));
+    let Ok(_) = reading else {
+        return Err(refusal_of(reading));
     };
     judge_plan(game, player, plan)
 }
 
 // 11 to 16, for a game that was read already. A part of `accept_plan`, and of the calls that judge a plan after other checks.
-pub fn judge_plan(game: &[u16], player: u32, plan: &[u16]) -> Acceptance
+pub fn judge_plan(game: &[u16], player: u32, plan: &[u16]) -> Result<NoCounts, Refusal>
     requires { WellFormed game.now }
     ensures { acceptance_answer result ≡ judge (plan_rows game.now player plan.now) [] }
 {
@@ -52,7 +51,7 @@ pub fn judge_plan(game: &[u16], player: u32, plan: &[u16]) -> Acceptance
 }
 
 // 15 and 16, over an index of the links.
-fn judge_positions(game: &[u16], player: u32, plan: &[u16]) -> Acceptance
+fn judge_positions(game: &[u16], player: u32, plan: &[u16]) -> Result<NoCounts, Refusal>
     requires { WordsPass game.now player plan.now }
     ensures { acceptance_answer result ≡ judge (drop 4 (plan_rows game.now player plan.now)) [] }
 {
@@ -68,7 +67,7 @@ fn judge_indexed(
     plan: &[u16],
     starts: &[u16],
     targets: &[u16],
-) -> Acceptance
+) -> Result<NoCounts, Refusal>
     requires words_pass { WordsPass game.now player plan.now }
     requires link_index { LinkIndex plan.now starts.now targets.now }
     ensures { acceptance_answer result ≡ judge (drop 4 (plan_rows game.now player plan.now)) [] }
@@ -82,5 +81,5 @@ fn judge_indexed(
     if returning < p {
         return refused(16, returning);
     }
-    Acceptance::Accepted(NoCounts {})
+    Ok(NoCounts {})
 }

@@ -23,6 +23,19 @@ const PATH: u16 = 16384;
 
 pub const WORK: usize = 20480;
 
+// What a search reads: the links between positions by their index, the priority and the block of each position. What it writes: the number of
+// each position, the lowest priority for each number, and the work memory.
+#[derive(Drop)]
+struct Lists<'a> {
+    starts: &'a [u16],
+    targets: &'a [u16],
+    priorities: &'a [u16],
+    blocks: &'a [u16],
+    numbers: &'a mut [u16],
+    leasts: &'a mut [u16],
+    work: &'a mut [u16],
+}
+
 // Where the search stands: the next position to begin at, the lengths of the path and of what waits, the last order, the next component.
 #[derive(Clone, Copy)]
 struct Search {
@@ -37,179 +50,131 @@ struct Search {
 pub fn word_at(words: &[u16], i: usize) -> u16
     ensures { result ≡ get_or words.now i 0 }
 {
-    if i < words.len() { words[i] } else { 0 }
+    words.get(i).copied().unwrap_or(0)
 }
 
 // Stores word i; nothing beyond the end.
 fn store(words: &mut [u16], i: usize, value: u16) {
-    if i < words.len() {
-        words[i] = value;
+    if let Some(word) = words.get_mut(i) {
+        *word = value;
     }
-}
-
-// The cast of a word, in a function of its own: that it keeps the value is shown here once.
-fn wide(word: u16) -> usize {
-    word as usize
-}
-
-// One more, or one fewer, as far as the range goes.
-fn next(count: u16) -> u16 {
-    if count < 65535 { count + 1 } else { count }
-}
-
-fn previous(count: u16) -> u16 {
-    if 0 < count { count - 1 } else { count }
 }
 
 // Word i of a part.
 fn cell(part: u16, i: u16) -> usize {
-    part as usize + i as usize
+    usize::from(part) + usize::from(i)
 }
 
 // Word i becomes `value`, if that is lower.
 fn lower(words: &mut [u16], i: usize, value: u16) {
-    if value < word_at(words, i) {
-        store(words, i, value);
+    if let Some(word) = words.get_mut(i) {
+        *word = value.min(*word);
     }
 }
 
-// Position v is entered: it comes next in the order, waits, and ends the path.
-fn enter(starts: &[u16], work: &mut [u16], s: Search, v: u16) -> Search {
-    let order = next(s.order);
-    store(work, cell(ORDER, v), order);
-    store(work, cell(LOW, v), order);
-    store(work, cell(NEXT, v), word_at(starts, wide(v)));
-    store(work, cell(WAITING, s.waiting), v);
-    store(work, cell(PATH, s.depth), v);
-    Search {
-        root: s.root,
-        depth: next(s.depth),
-        waiting: next(s.waiting),
-        order: order,
-        component: s.component,
+impl Lists<'_> {
+    // Word i of a part of the work memory; 0 beyond the end.
+    fn at(&self, part: u16, i: u16) -> u16 {
+        word_at(self.work, cell(part, i))
     }
-}
 
-// The search begins at its root, unless that is in no block or was entered already.
-fn begin(starts: &[u16], blocks: &[u16], work: &mut [u16], s: Search) -> Search {
-    let v = s.root;
-    let further = Search {
-        root: next(v),
-        depth: s.depth,
-        waiting: s.waiting,
-        order: s.order,
-        component: s.component,
-    };
-    if word_at(blocks, wide(v)) == GONE {
-        return further;
+    // Stores word i of a part of the work memory; nothing beyond the end.
+    fn set(&mut self, part: u16, i: u16, value: u16) {
+        store(self.work, cell(part, i), value);
     }
-    if word_at(work, cell(ORDER, v)) != 0 {
-        return further;
-    }
-    enter(starts, work, further, v)
-}
 
-// Follows link t of position v, the path's end, if it stays in the block.
-fn follow(
-    starts: &[u16],
-    targets: &[u16],
-    blocks: &[u16],
-    work: &mut [u16],
-    s: Search,
-    v: u16,
-    t: u16,
-) -> Search {
-    store(work, cell(NEXT, v), next(t));
-    let w = word_at(targets, wide(t));
-    if word_at(blocks, wide(w)) != word_at(blocks, wide(v)) {
-        return s;
+    // Position v is entered: it comes next in the order, waits, and ends the path.
+    fn enter(&mut self, s: Search, v: u16) -> Search {
+        let order = s.order.saturating_add(1);
+        self.set(ORDER, v, order);
+        self.set(LOW, v, order);
+        self.set(NEXT, v, word_at(self.starts, usize::from(v)));
+        self.set(WAITING, s.waiting, v);
+        self.set(PATH, s.depth, v);
+        Search {
+            depth: s.depth.saturating_add(1),
+            waiting: s.waiting.saturating_add(1),
+            order,
+            ..s
+        }
     }
-    let order = word_at(work, cell(ORDER, w));
-    if order == 0 {
-        return enter(starts, work, s, w);
-    }
-    lower(work, cell(LOW, v), order);
-    s
-}
 
-// Takes one position of the component of v off those that wait, and v off the path with the last one.
-fn close(
-    priorities: &[u16],
-    numbers: &mut [u16],
-    leasts: &mut [u16],
-    work: &mut [u16],
-    s: Search,
-    v: u16,
-) -> Search {
-    let waiting = previous(s.waiting);
-    let w = word_at(work, cell(WAITING, waiting));
-    store(work, cell(ORDER, w), GONE);
-    store(numbers, wide(w), s.component);
-    lower(leasts, wide(s.component), word_at(priorities, wide(w)));
-    if w != v {
-        return Search {
-            root: s.root,
-            depth: s.depth,
-            waiting: waiting,
-            order: s.order,
-            component: s.component,
+    // The search begins at its root, unless that is in no block or was entered already.
+    fn begin(&mut self, s: Search) -> Search {
+        let v = s.root;
+        let further = Search {
+            root: v.saturating_add(1),
+            ..s
         };
+        if word_at(self.blocks, usize::from(v)) == GONE {
+            return further;
+        }
+        if self.at(ORDER, v) != 0 {
+            return further;
+        }
+        self.enter(further, v)
     }
-    store(leasts, wide(next(s.component)), GONE);
-    Search {
-        root: s.root,
-        depth: previous(s.depth),
-        waiting: waiting,
-        order: s.order,
-        component: next(s.component),
-    }
-}
 
-// Leaves position v, the path's end, with no link left: it closes its component, or hands the order it leads back to on.
-fn leave(
-    priorities: &[u16],
-    numbers: &mut [u16],
-    leasts: &mut [u16],
-    work: &mut [u16],
-    s: Search,
-    v: u16,
-) -> Search {
-    let low = word_at(work, cell(LOW, v));
-    if low == word_at(work, cell(ORDER, v)) {
-        return close(priorities, numbers, leasts, work, s, v);
+    // Follows link t of position v, the path's end, if it stays in the block.
+    fn follow(&mut self, s: Search, v: u16, t: u16) -> Search {
+        self.set(NEXT, v, t.saturating_add(1));
+        let w = word_at(self.targets, usize::from(t));
+        if word_at(self.blocks, usize::from(w)) != word_at(self.blocks, usize::from(v)) {
+            return s;
+        }
+        let order = self.at(ORDER, w);
+        if order == 0 {
+            return self.enter(s, w);
+        }
+        lower(self.work, cell(LOW, v), order);
+        s
     }
-    let depth = previous(s.depth);
-    let before = word_at(work, cell(PATH, previous(depth)));
-    lower(work, cell(LOW, before), low);
-    Search {
-        root: s.root,
-        depth: depth,
-        waiting: s.waiting,
-        order: s.order,
-        component: s.component,
-    }
-}
 
-// One step: the search begins at the next root, follows the next link of the path's end, or leaves that position.
-fn step(
-    starts: &[u16],
-    targets: &[u16],
-    priorities: &[u16],
-    blocks: &[u16],
-    numbers: &mut [u16],
-    leasts: &mut [u16],
-    work: &mut [u16],
-    s: Search,
-) -> Search {
-    if s.depth == 0 {
-        return begin(starts, blocks, work, s);
+    // Takes one position of the component of v off those that wait, and v off the path with the last one.
+    fn close(&mut self, s: Search, v: u16) -> Search {
+        let waiting = s.waiting.saturating_sub(1);
+        let w = self.at(WAITING, waiting);
+        self.set(ORDER, w, GONE);
+        store(self.numbers, usize::from(w), s.component);
+        let priority = word_at(self.priorities, usize::from(w));
+        lower(self.leasts, usize::from(s.component), priority);
+        if w != v {
+            return Search { waiting, ..s };
+        }
+        let component = s.component.saturating_add(1);
+        store(self.leasts, usize::from(component), GONE);
+        Search {
+            depth: s.depth.saturating_sub(1),
+            waiting,
+            component,
+            ..s
+        }
     }
-    let v = word_at(work, cell(PATH, previous(s.depth)));
-    let t = word_at(work, cell(NEXT, v));
-    if t < word_at(starts, cell(1, v)) {
-        return follow(starts, targets, blocks, work, s, v, t);
+
+    // Leaves position v, the path's end, with no link left: it closes its component, or hands the order it leads back to on.
+    fn leave(&mut self, s: Search, v: u16) -> Search {
+        let low = self.at(LOW, v);
+        if low == self.at(ORDER, v) {
+            return self.close(s, v);
+        }
+        let depth = s.depth.saturating_sub(1);
+        let before = self.at(PATH, depth.saturating_sub(1));
+        lower(self.work, cell(LOW, before), low);
+        Search { depth, ..s }
     }
-    leave(priorities, numbers, leasts, work, s, v)
+
+    // One step: the search begins at the next root, follows the next link of the path's end, or leaves that position.
+    fn step(&mut self, s: Search) -> Search {
+        if s.depth == 0 {
+            return self.begin(s);
+        }
+        let v = self.at(PATH, s.depth.saturating_sub(1));
+        let t = self.at(NEXT, v);
+        if t < word_at(self.starts, cell(1, v)) {
+            return self.follow(s, v, t);
+        }
+        self.leave(s, v)
+    }
 }
 
 // Writes a number for each of the p positions in blocks, and for each number the lowest priority of its positions, in at most `steps` steps.
@@ -226,6 +191,15 @@ pub fn number_components(
     steps: usize,
 ) {
     store(leasts, 0, GONE);
+    let mut lists = Lists {
+        starts,
+        targets,
+        priorities,
+        blocks,
+        numbers,
+        leasts,
+        work,
+    };
     let mut s = Search {
         root: 0,
         depth: 0,
@@ -233,16 +207,10 @@ pub fn number_components(
         order: 0,
         component: 0,
     };
-    let mut left = steps;
-    while 0 < left {
-        if s.depth == 0 {
-            if p <= wide(s.root) {
-                return;
-            }
+    for _ in 0..steps {
+        if s.depth == 0 && p <= usize::from(s.root) {
+            return;
         }
-        s = step(
-            starts, targets, priorities, blocks, numbers, leasts, work, s,
-        );
-        left -= 1;
+        s = lists.step(s);
     }
 }

@@ -1,8 +1,9 @@
 -- Laws of an index of links.
 use Rattle.std.specs.Prelude.{◌≡◌, Bool, List, ℕ, ◌+◌, ◌≤◌, ◌<◌, length, get_or}
 use Rattle.std.proofs.Common.{arith}
-use Rattle.index.specs.Index.{Column, Indexed, among}
-use Rattle.index.specs.IndexLaws.{among_any, indexed_within, indexed_below}
+use Rattle.index.specs.declared.Run.{Run}
+use Rattle.index.specs.Index.{Column, Indexed, run_of, among}
+use Rattle.index.specs.IndexLaws.{among_any, indexed_order, indexed_within, indexed_below}
 use Rattle.plan_links.specs.PlanTable.{position_count, link_count, any_link}
 use Rattle.plan_links.specs.PlanFormed.{PlanFormed}
 use Rattle.plan_links.specs.LinkIndex.{LinkIndex}
@@ -26,3 +27,13 @@ pub record Target (n : ℕ) (targets : List ℕ) (t : ℕ) : Type 0 where
 
 pub indexed_target : {n : ℕ} {starts targets : List ℕ} → Indexed n starts targets → (v t : ℕ) → v < n → get_or starts v 0 ≤ t → t < get_or starts (v + 1) 0 → Target n targets t
 indexed_target index v t h a b = record { inside = omega (arith, indexed_within index (v + 1) (omega arith)); below = indexed_below index v t h a b }
+
+-- the same of a walk over the group, in the code's struct, and where it ends
+module _ {n v t : ℕ} {starts targets : List ℕ} {run : Run} (index : Indexed n starts targets) (h : v < n) (e : run ≡ run_of starts v) where
+  pub run_target : run.from ≤ t → t < run.end → Target n targets t
+  run_target from end = indexed_target index v t h (rw e at from) (rw e at end)
+
+  pub run_end : (run.from ≤ run.end → t ≤ run.end) → run.end ≤ t → t ≡ get_or starts (v + 1) 0
+  run_end inside left =
+      let d : t ≡ run.end = omega (arith, inside (rw e (indexed_order index v h)), left) in
+      rw e at d

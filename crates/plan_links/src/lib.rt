@@ -49,21 +49,12 @@ pub fn first_beyond(plan: &[u16], n: usize) -> usize
     ensures { result ≡ first_beyond n plan.now }
 {
     let p = plan[0] as usize;
-    let mut k = 2;
-    while k < plan.len() {
-        if limit(k, p, n) <= plan[k] as usize {
+    for k in 2..plan.len() {
+        if limit(k, p, n) <= usize::from(plan[k]) {
             return k;
         }
-        k += 1;
     }
-    k
-}
-
-// The cast of a word, in a function of its own: that it keeps the value is shown here once, for the three reads below.
-fn wide(word: u16) -> usize
-    ensures { result ≡ word }
-{
-    word as usize
+    plan.len()
 }
 
 // The vertex of position i.
@@ -71,7 +62,7 @@ pub fn vertex_of(plan: &[u16], i: usize) -> usize
     requires { PlanSized plan.now × (i < position_count plan.now) }
     ensures { result ≡ vertex_at plan.now i }
 {
-    wide(plan[2 + i])
+    usize::from(plan[2 + i])
 }
 
 fn source_of(plan: &[u16], k: usize) -> usize
@@ -79,7 +70,7 @@ fn source_of(plan: &[u16], k: usize) -> usize
     ensures { result ≡ link_source plan.now k }
 {
     let p = plan[0] as usize;
-    wide(plan[2 + p + k])
+    usize::from(plan[2 + p + k])
 }
 
 fn target_of(plan: &[u16], k: usize) -> usize
@@ -88,7 +79,7 @@ fn target_of(plan: &[u16], k: usize) -> usize
 {
     let p = plan[0] as usize;
     let l = plan[1] as usize;
-    wide(plan[2 + p + l + k])
+    usize::from(plan[2 + p + l + k])
 }
 
 // Whether link k follows no edge: one look at the flags of the edges.
@@ -107,14 +98,12 @@ fn first_straying(edges: &[u64], game: &[u16], plan: &[u16]) -> usize
     ensures { result ≡ first_stray game.now plan.now }
 {
     let l = plan[1] as usize;
-    let mut k = 0;
-    while k < l {
+    for k in 0..l {
         if strays(edges, game, plan, k) {
             return k;
         }
-        k += 1;
     }
-    k
+    l
 }
 
 // 14: the first link along no edge; the number of links where there is none. Flags of the edges are in a local array of 32,768 bytes.

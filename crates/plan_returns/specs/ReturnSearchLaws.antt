@@ -1,6 +1,6 @@
 -- Refusal 16 by the index of links and the list of priorities is refusal 16 by the plan's words; and a search inside blocks finds every return
 -- of the wrong parity, since blocks confine these.
-use Rattle.std.specs.Prelude.{◌≡◌, refl, false, List, ℕ, ◌%◌, ◌≤◌, ◌<◌, leb, length, get_or}
+use Rattle.std.specs.Prelude.{◌≡◌, refl, false, List, ℕ, ◌+◌, ◌%◌, ◌≤◌, ◌<◌, leb, length, get_or}
 use Rattle.std.proofs.Common.{ap, inl, inr, le_refl, arith}
 use Rattle.std.proofs.Math.Path.{ap₂}
 use Rattle.std.proofs.Math.Bool.{not, So}
@@ -14,6 +14,7 @@ use Rattle.theory.proofs.Logic.RangeLaws.{first_ext}
 use Rattle.theory.specs.Games.Game.{parity}
 use Rattle.theory.specs.Plans.Reach.{Reach, reaches}
 use Rattle.theory.proofs.Plans.ReachLaws.{each_in, each_out, reaches_in, reaches_out}
+use Rattle.table.specs.Limits.{position_limit}
 use Rattle.table.specs.Table.{player_of}
 use Rattle.plan_links.specs.PlanTable.{position_count, has_link}
 use Rattle.plan_links.specs.LinkIndex.{LinkIndex}
@@ -27,6 +28,11 @@ use Rattle.plan_returns.specs.ReturnSearch.{Workspace, listed_priority, passes, 
 pub workspace_kept : {p : ℕ} {starts targets priorities blocks seen queue blocks' seen' queue' : List ℕ} → Workspace p starts targets priorities blocks seen queue
     → length blocks' ≡ length blocks → length seen' ≡ length seen → length queue' ≡ length queue → Workspace p starts targets priorities blocks' seen' queue'
 workspace_kept w c a b = record { index = w.index; few = w.few; values = w.values; grouped = omega (arith, w.grouped); stamps = omega (arith, w.stamps); entries = omega (arith, w.entries) }
+
+-- a search keeps the lengths of blocks, and its work memory has room for all positions
+pub workspace_room : {p : ℕ} {starts targets priorities blocks seen queue blocks' seen' queue' : List ℕ} → Workspace p starts targets priorities blocks seen queue
+    → length blocks' ≡ length blocks → length seen' ≡ position_limit → length queue' ≡ position_limit + 1 → Workspace p starts targets priorities blocks' seen' queue'
+workspace_room w c a b = record { index = w.index; few = w.few; values = w.values; grouped = omega (arith, w.grouped); stamps = omega (arith, w.few, a); entries = omega (arith, w.few, b) }
 
 -- ---- the test of positions
 

@@ -1,8 +1,9 @@
 -- Laws of the calls that write a table, for any game K of classes: their promise at each way out.
-use Rattle.std.specs.Prelude.{◌≡◌, ℕ, ◌<◌, length}
+use Rattle.std.specs.Prelude.{◌≡◌, ℕ, ◌<◌, length, Result, Ok, Err}
 use Rattle.std.proofs.Common.{sym, ◌∙◌, lt-ltb}
 use mathlib.Core.List.{List, [], ◌∷◌}
 use Rattle.theory.specs.Games.Game.{Game}
+use Rattle.table.specs.Acceptance.{acceptance_answer}
 use Rattle.table.specs.Table.{vertex_count, table_edges, table_length}
 use Rattle.table.specs.Answers.{Row, memory_row, accepted, refused, judge}
 use Rattle.table.specs.AnswersLaws.{judge_hit, judge_clean, judge_past, judge_stays, after_clean, after_refused}
@@ -12,14 +13,11 @@ use Rattle.table.specs.ReadingLaws.{reading_accepted}
 use Rattle.table.specs.WellFormed.{WellFormed, WellSized}
 use Rattle.table.specs.declared.FilledSizes.{FilledSizes}
 use Rattle.table.specs.declared.Refusal.{Refusal}
-use Rattle.table.specs.declared.Filling.{Filling}
-use Rattle.table.specs.declared.Filling.TheVariants.{Accepted, Refused}
 use Rattle.order.specs.OrderCall.{order_bytes}
-use Rattle.classes.specs.ClassesCall.{memory_rows, memory_answer, class_rows, class_words}
+use Rattle.classes.specs.ClassesCall.{memory_rows, class_rows, class_words}
 use Rattle.classes.specs.ClassesCallLaws.{rows_handed, rows_short}
 use Rattle.classes.specs.ClassesRules.{ClassesFit}
 use Rattle.classes.specs.ClassesRulesLaws.{classes_clean}
-use Rattle.classes.specs.declared.Memory.TheVariants.{Short}
 use Rattle.reduction.specs.TableCall.{table_rows, table_counts, class_table, TableCall}
 use Rattle.reduction.specs.TableRules.{TableFits}
 use Rattle.reduction.proofs.TableRulesLaws.{table_clean}
@@ -27,7 +25,7 @@ use Rattle.reduction.specs.Tables.{TableDone}
 use Rattle.reduction.specs.declared.TableCounts.{TableCounts}
 
 -- the reader accepted
-pub sized : {game : List ℕ} {reading : Filling} {sizes : FilledSizes} → reading ≡ Accepted sizes → filling_answer reading ≡ sizes_answer game → WellSized game sizes
+pub sized : {game : List ℕ} {reading : Result FilledSizes Refusal} {sizes : FilledSizes} → reading ≡ Ok sizes → filling_answer reading ≡ sizes_answer game → WellSized game sizes
 sized {game} e a = reading_accepted game _ (rw e at a)
 
 module _ (K : Game → Game) (game marks spare classes output : List ℕ) where
@@ -55,13 +53,13 @@ module _ (K : Game → Game) (game marks spare classes output : List ℕ) where
   stays k p e = judge_stays (class_rows game marks spare classes) _ [] counts k p e
 
   -- the reader's refusal, taken out of its verdict, is the call's
-  pub table_handed : (reading : Filling) (f g : Refusal) → reading ≡ Refused f → filling_answer reading ≡ sizes_answer game → g ≡ refusal_of reading
+  pub table_handed : (reading : Result FilledSizes Refusal) (f g : Refusal) → reading ≡ Err f → filling_answer reading ≡ sizes_answer game → g ≡ refusal_of reading
       → TableCall K game marks spare classes output (refused g.number g.place) marks spare classes output
   table_handed reading f g e a r =
       rw (r, e) (table_old f.number f.place (stays _ _ (rows_handed game marks spare classes [] f (rw e at a))))
 
   pub table_short : WellFormed game → (f : Refusal)
-      → memory_answer (Short f) ≡ judge (memory_rows (vertex_count game) (length marks) (length spare) (length classes)) []
+      → acceptance_answer (Err f) ≡ judge (memory_rows (vertex_count game) (length marks) (length spare) (length classes)) []
       → TableCall K game marks spare classes output (refused f.number f.place) marks spare classes output
   table_short well f e = table_old f.number f.place (stays _ _ (rows_short game marks spare classes [] well f e))
 

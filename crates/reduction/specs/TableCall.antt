@@ -1,12 +1,13 @@
 -- The calls that write a game of classes: document 01, "Classes, quotient, reduced game", with their table of refusals.
-use Rattle.std.specs.Prelude.{◌≡◌, List, [], ◌∷◌, ◌++◌, ℕ}
+use Rattle.std.specs.Prelude.{◌≡◌, List, [], ◌∷◌, ◌++◌, ℕ, Result, Ok, Err}
 use Rattle.theory.specs.Games.Game.{Game, edge_count}
 use Rattle.table.specs.Table.{vertex_count, table_edges, table_length, game_of}
 use Rattle.table.specs.TableWords.{edges_of, table_words}
 use Rattle.table.specs.Answers.{Row, memory_row, Answer, accepted, refused, judge, after}
 use Rattle.order.specs.OrderCall.{order_bytes}
 use Rattle.classes.specs.ClassesCall.{class_rows, class_total, class_words}
-use Rattle.reduction.specs.declared.Tabulation.{Tabulation}
+use Rattle.table.specs.declared.Refusal.{Refusal}
+use Rattle.reduction.specs.declared.TableCounts.{TableCounts}
 
 -- the rows of the classes call, and 24, which goes by the input's sizes
 unfoldable pub table_rows : List ℕ → List ℕ → List ℕ → List ℕ → List ℕ → List Row
@@ -14,9 +15,9 @@ table_rows game marks spare classes output =
     class_rows game marks spare classes ++ (memory_row 24 (table_length (vertex_count game) (table_edges game)) output ∷ [])
 
 -- what the cases of the verdict say: accepted with the class count and the table's vertices and edges
-abbrev pub tabulation_answer : Tabulation → Answer
-tabulation_answer (Tabulation.Accepted c) = accepted (c.classes ∷ c.vertices ∷ c.edges ∷ [])
-tabulation_answer (Tabulation.Refused f) = refused f.number f.place
+abbrev pub tabulation_answer : Result TableCounts Refusal → Answer
+tabulation_answer (Ok c) = accepted (c.classes ∷ c.vertices ∷ c.edges ∷ [])
+tabulation_answer (Err f) = refused f.number f.place
 
 -- accepted with the class count and the vertices and edges of K
 abbrev pub table_counts : (Game → Game) → List ℕ → List ℕ

@@ -8,8 +8,8 @@ ghost use Rattle.table.specs.WellFormed.{WellSized};
 ghost use Rattle.reduction_edges.specs.Rows.{game_by};
 ghost use Rattle.reduction.specs.TableCall.{tabulation_answer, TableCall};
 
-use classes::{Memory, judge_memory};
-use table::{FilledSizes, Filling, Refusal, refusal_of};
+use classes::judge_memory;
+use table::{FilledSizes, Refusal, refusal_of, refused};
 
 // The number of classes, and the vertices and edges of the table that is written.
 #[derive(Clone, Copy)]
@@ -17,12 +17,6 @@ pub struct TableCounts {
     pub classes: usize,
     pub vertices: usize,
     pub edges: usize,
-}
-
-#[derive(Clone, Copy)]
-pub enum Tabulation {
-    Accepted(TableCounts),
-    Refused(Refusal),
 }
 
 // Judges the memory for a game that was read, and writes the order, the classes, and the table of the quotient or, with `drop`, of the
@@ -35,25 +29,19 @@ pub fn tabulate_classes(
     classes: &mut [u16],
     output: &mut [u16],
     drop: bool,
-) -> Tabulation
+) -> Result<TableCounts, Refusal>
     requires { WellSized game.now sizes }
     ensures { TableCall (game_by drop) game.now marks.old spare.old classes.old output.old (tabulation_answer result)
         marks.new spare.new classes.new output.new }
 {
-    let memory = judge_memory(sizes.vertices, marks.len(), spare.len(), classes.len());
-    if let Memory::Short(refusal) = memory {
-        return Tabulation::Refused(refusal);
-    }
+    judge_memory(sizes.vertices, marks.len(), spare.len(), classes.len())?;
     let needed = 2 + 2 * sizes.vertices + 2 * sizes.edges;
     if output.len() < needed {
-        return Tabulation::Refused(Refusal {
-            number: 24,
-            place: needed,
-        });
+        return refused(24, needed);
     }
     let filled = tables::fill_memory(game, marks, spare, classes, output, drop);
     let counts = filled.counts;
-    Tabulation::Accepted(counts)
+    Ok(counts)
 }
 
 // Judges the game and the memory, and writes the order, the classes and the table of the quotient game. Its edges ascend.
@@ -63,13 +51,13 @@ pub fn write_quotient(
     spare: &mut [u8],
     classes: &mut [u16],
     output: &mut [u16],
-) -> Tabulation
+) -> Result<TableCounts, Refusal>
     ensures { TableCall quotient game.now marks.old spare.old classes.old output.old (tabulation_answer result)
         marks.new spare.new classes.new output.new }
 {
     let reading = table_reader::read_sizes(game);
-    let Filling::Accepted(sizes) = reading else {
-        return Tabulation::Refused(refusal_of(reading));
+    let Ok(sizes) = reading else {
+        return Err(refusal_of(reading));
     };
     tabulate_classes(game, sizes, marks, spare, classes, output, false)
 }
@@ -81,13 +69,13 @@ pub fn write_reduced(
     spare: &mut [u8],
     classes: &mut [u16],
     output: &mut [u16],
-) -> Tabulation
+) -> Result<TableCounts, Refusal>
     ensures { TableCall reduced game.now marks.old spare.old classes.old output.old (tabulation_answer result)
         marks.new spare.new classes.new output.new }
 {
     let reading = table_reader::read_sizes(game);
-    let Filling::Accepted(sizes) = reading else {
-        return Tabulation::Refused(refusal_of(reading));
+    let Ok(sizes) = reading else {
+        return Err(refusal_of(reading));
     };
     tabulate_classes(game, sizes, marks, spare, classes, output, true)
 }

@@ -3,15 +3,16 @@
 ghost use Rattle.std.specs.Prelude.{◌≡◌, ◌+◌, ◌*◌, ◌≤◌, length, get_or};
 ghost use Rattle.theory.specs.Logic.Range.{tabulate};
 ghost use Rattle.theory.specs.Order.Order.{order};
-ghost use Rattle.table.specs.Limits.{vertex_limit, edge_limit};
+ghost use Rattle.table.specs.Limits.{vertex_limit, edge_limit, pair_words};
 ghost use Rattle.table.specs.Table.{vertex_count, table_edges, table_length, game_of};
 ghost use Rattle.table.specs.Answers.{written};
 ghost use Rattle.table.specs.Placing.{placed};
 ghost use Rattle.table.specs.WellFormed.{WellFormed};
 ghost use Rattle.classes.specs.Numbering.{Ordered, classes_in, Represented};
+ghost use Rattle.reduction_rows.specs.Reached.{words_for};
 ghost use Rattle.reduction_edges.specs.Rows.{game_by};
 ghost use Rattle.reduction.specs.TableRules.{TableFits};
-ghost use Rattle.reduction.specs.Tables.{head_by, spread, Ascending, small_vertices, Workspace, TableFilled, TableDone};
+ghost use Rattle.reduction.specs.Tables.{head_by, spread, Ascending, Workspace, TableFilled, TableDone};
 
 use crate::TableCounts;
 use classes::numbering::number_classes;
@@ -35,10 +36,9 @@ fn put_again(words: &mut [u16], at: usize, count: usize)
     requires { at + count + count ≤ length words.old }
     ensures { words.new ≡ placed (at + count) (tabulate count (λ i. get_or words.old (at + i) 0)) words.old }
 {
-    let mut i = 0;
-    while i < count {
+    // not `copy_within`: the archives would call `memmove`
+    for i in 0..count {
         words[at + count + i] = words[at + i];
-        i += 1;
     }
 }
 
@@ -48,12 +48,10 @@ fn write_sources(stops: &[u16], k: usize, output: &mut [u16], at: usize)
     ensures { output.new ≡ placed at (spread at stops.now k) output.old }
 {
     let mut start = at;
-    let mut c = 0;
-    while c < k {
-        let stop = stops[c] as usize;
+    for c in 0..k {
+        let stop = usize::from(stops[c]);
         slices::fill(output, start, stop - start, c as u16);
         start = stop;
-        c += 1;
     }
 }
 
@@ -105,8 +103,8 @@ fn fill_within(
     }
 }
 
-// The same for a small game, in local arrays of 768 bytes.
-fn fill_small(
+// The same in local arrays: N words each for the representatives and the places, W for the rows.
+fn fill_sized<const N: usize, const W: usize>(
     game: &[u16],
     marks: &[u8],
     classes: &mut [u16],
@@ -115,38 +113,19 @@ fn fill_small(
 ) -> TableCounts
     requires well_formed { WellFormed game.now × Ordered (game_of game.now) marks.now }
     requires game_in_bounds { (vertex_count game.now ≤ length classes.old) × (table_length (vertex_count game.now) (table_edges game.now) ≤ length output.old) }
-    requires game_bound { vertex_count game.now ≤ small_vertices }
+    requires arrays_fit { (vertex_count game.now ≤ N) × (vertex_count game.now * words_for (vertex_count game.now) ≤ W) }
+    requires sizes_bound { (N ≤ vertex_limit) × (W ≤ pair_words) }
     ensures { TableFilled (game_by drop) game.now classes.old output.old result classes.new output.new }
 {
-    let mut reps = [0u16; SMALL_VERTICES];
-    let mut words = [0u64; SMALL_VERTICES];
-    let mut stops = [0u16; SMALL_VERTICES];
+    let mut reps = [0u16; N];
+    let mut words = [0u64; W];
+    let mut stops = [0u16; N];
     fill_within(
         game, marks, classes, output, drop, &mut reps, &mut words, &mut stops,
     )
 }
 
-// The same for any game, in local arrays of 34,816 bytes.
-fn fill_large(
-    game: &[u16],
-    marks: &[u8],
-    classes: &mut [u16],
-    output: &mut [u16],
-    drop: bool,
-) -> TableCounts
-    requires well_formed { WellFormed game.now × Ordered (game_of game.now) marks.now }
-    requires game_in_bounds { (vertex_count game.now ≤ length classes.old) × (table_length (vertex_count game.now) (table_edges game.now) ≤ length output.old) }
-    ensures { TableFilled (game_by drop) game.now classes.old output.old result classes.new output.new }
-{
-    let mut reps = [0u16; VERTICES];
-    let mut words = [0u64; PAIR_WORDS];
-    let mut stops = [0u16; VERTICES];
-    fill_within(
-        game, marks, classes, output, drop, &mut reps, &mut words, &mut stops,
-    )
-}
-
-// The same, in arrays that go by the game's size.
+// The same, in arrays that go by the game's size: 768 bytes for a small game, and 34,816 for any other.
 fn fill_table(
     game: &[u16],
     marks: &[u8],
@@ -160,9 +139,9 @@ fn fill_table(
 {
     let n = game[0] as usize;
     if SMALL_VERTICES < n {
-        return fill_large(game, marks, classes, output, drop);
+        return fill_sized::<VERTICES, PAIR_WORDS>(game, marks, classes, output, drop);
     }
-    fill_small(game, marks, classes, output, drop)
+    fill_sized::<SMALL_VERTICES, SMALL_VERTICES>(game, marks, classes, output, drop)
 }
 
 // Writes all lent memory: the order, the classes and the table.

@@ -50,60 +50,51 @@ fn append_row(
     r
 }
 
-// Puts the targets of class c behind the first e words. Returns how many words there are then.
-fn append_class(
-    game: &[u16],
-    marks: &[u8],
-    classes: &[u16],
-    reps: &[u16],
-    words: &[u64],
+// What the targets of the classes are read from: the game, the marks of its order, the classes and their representatives, and for each of these
+// the row that holds what it reaches. With `drop`, the targets are those of the reduced game.
+#[derive(Clone, Copy)]
+struct Source<'a> {
+    game: &'a [u16],
+    marks: &'a [u8],
+    classes: &'a [u16],
+    reps: &'a [u16],
+    words: &'a [u64],
     width: usize,
     drop: bool,
-    c: usize,
-    ends: &mut [u16],
-    e: usize,
-) -> usize
-    requires prepared { Prepared game.now marks.now classes.now reps.now × (c < classes_in (game_of game.now)) }
-    requires rows_fit { RowsFit game.now width words.now × RowsReach (game_of game.now) width words.now }
-    requires room { Room e (picked (classes_in (game_of game.now)) ((game_by drop (game_of game.now)).edge c)) ends.old }
-    ensures { Put (picked (classes_in (game_of game.now)) ((game_by drop (game_of game.now)).edge c)) e ends.old ends.new result }
-{
-    let n = game[0] as usize;
-    let r = reps[c] as usize;
-    let at = r * width;
-    let end = at + width;
-    let mut dropped = [0u64; WORDS];
-    drop_row(game, marks, r, &words[at..end], drop, &mut dropped);
-    append_row(classes, n, &words[at..end], &dropped, ends, e)
+    ghost rows_fit: { RowsFit game.now width words.now × RowsReach (game_of game.now) width words.now },
 }
 
-// Lists the targets of k classes whose rows hold what they reach, from `at` on, and where those of each class stop.
-fn list_classes(
-    game: &[u16],
-    marks: &[u8],
-    classes: &[u16],
-    reps: &[u16],
-    words: &[u64],
-    width: usize,
-    k: usize,
-    drop: bool,
-    stops: &mut [u16],
-    ends: &mut [u16],
-    at: usize,
-) -> usize
-    requires prepared { Prepared game.now marks.now classes.now reps.now × (k ≡ classes_in (game_of game.now)) }
-    requires rows_fit { RowsFit game.now width words.now × RowsReach (game_of game.now) width words.now }
-    requires k_in_bounds { (k ≤ length stops.old) × (at + table_edges game.now ≤ length ends.old) × (at ≤ 2 + 2 * vertex_limit) }
-    ensures { Listed k (game_by drop (game_of game.now)).edge at k ends.old ends.new stops.new result }
-{
-    let mut e = at;
-    let mut c = 0;
-    while c < k {
-        e = append_class(game, marks, classes, reps, words, width, drop, c, ends, e);
-        stops[c] = e as u16;
-        c += 1;
+impl Source<'_> {
+    // Puts the targets of class c behind the first e words. Returns how many words there are then.
+    fn append_class(self, c: usize, ends: &mut [u16], e: usize) -> usize
+        requires prepared { Prepared self.game.now self.marks.now self.classes.now self.reps.now }
+        requires c_in_bounds { c < classes_in (game_of self.game.now) }
+        requires room { Room e (picked (classes_in (game_of self.game.now)) ((game_by self.drop (game_of self.game.now)).edge c)) ends.old }
+        ensures { Put (picked (classes_in (game_of self.entry.game.now)) ((game_by self.entry.drop (game_of self.entry.game.now)).edge c)) e ends.old ends.new result }
+    {
+        let n = self.game[0] as usize;
+        let r = self.reps[c] as usize;
+        let at = r * self.width;
+        let row = &self.words[at..at + self.width];
+        let mut dropped = [0u64; WORDS];
+        drop_row(self.game, self.marks, r, row, self.drop, &mut dropped);
+        append_row(self.classes, n, row, &dropped, ends, e)
     }
-    e
+
+    // Lists the targets of k classes, from `at` on, and where those of each class stop.
+    fn list_classes(self, k: usize, stops: &mut [u16], ends: &mut [u16], at: usize) -> usize
+        requires prepared { Prepared self.game.now self.marks.now self.classes.now self.reps.now }
+        requires k_value { k ≡ classes_in (game_of self.game.now) }
+        requires k_in_bounds { (k ≤ length stops.old) × (at + table_edges self.game.now ≤ length ends.old) × (at ≤ 2 + 2 * vertex_limit) }
+        ensures { Listed k (game_by self.entry.drop (game_of self.entry.game.now)).edge at k ends.old ends.new stops.new result }
+    {
+        let mut e = at;
+        for c in 0..k {
+            e = self.append_class(c, ends, e);
+            stops[c] = e as u16;
+        }
+        e
+    }
 }
 
 // Lists the targets of the edges of the quotient or, with `drop`, of the reduced game, from `at` on, class by class and ascending, and the place
@@ -128,7 +119,14 @@ pub fn list_edges(
 {
     let width = words_for(game[0] as usize);
     reach_rows(game, classes, reps, width, words);
-    list_classes(
-        game, marks, classes, reps, words, width, k, drop, stops, ends, at,
-    )
+    let source = Source {
+        game,
+        marks,
+        classes,
+        reps,
+        words,
+        width,
+        drop,
+    };
+    source.list_classes(k, stops, ends, at)
 }

@@ -15,83 +15,90 @@ use order_rows::row::end_of;
 use table::flags::raise;
 use words::members::next_member;
 
-// The marks of d's row from w on, as many as a word has bits, without the mark of d itself.
-fn word_of(marks: &[u8], n: usize, d: usize, w: usize) -> u64
-    requires { Marked n marks.now × (d < n) × (w < n) × (w % word_bits ≡ 0) }
-    ensures { (k : ℕ) → k < word_bits → digit result k ≡ ltb (w + k) n & below_other n marks.now d (w + k) }
-{
-    let end = end_of(w, n);
-    let word = read_wide(marks, d * n + w, end - w);
-    let own = words::with(0, d % 64, d / 64 == w / 64);
-    word ^ (word & own)
+// The targets of a class, as a row of bits, and the marks of n vertices that they are compared by.
+#[derive(Clone, Copy)]
+struct Targets<'a> {
+    marks: &'a [u8],
+    n: usize,
+    row: &'a [u64],
+    ghost marked: { Marked n marks.now },
+    ghost row_fits: { RowFits n row.now },
 }
 
-// Those of the row's word from w on that d is below, without d itself. Most words of a row are empty where a class has few targets.
-fn beaten_word(marks: &[u8], n: usize, row: &[u64], d: usize, w: usize) -> u64
-    requires { Marked n marks.now × RowFits n row.now × (d < n) × (w < n) × (w % word_bits ≡ 0) }
-    ensures { (k : ℕ) → k < word_bits → digit result k ≡ beaten_at n marks.now row.now d w k }
-{
-    let here = row[w / 64];
-    if here == 0 {
-        return 0;
+impl Targets<'_> {
+    // The marks of d's row from w on, as many as a word has bits, without the mark of d itself.
+    fn word_of(self, d: usize, w: usize) -> u64
+        requires { (d < self.n) × (w < self.n) × (w % word_bits ≡ 0) }
+        ensures { (k : ℕ) → k < word_bits → digit result k ≡ ltb (w + k) self.entry.n & below_other self.entry.n self.entry.marks.now d (w + k) }
+    {
+        let end = end_of(w, self.n);
+        let word = read_wide(self.marks, d * self.n + w, end - w);
+        let own = words::with(0, d % 64, d / 64 == w / 64);
+        word ^ (word & own)
     }
-    word_of(marks, n, d, w) & here
-}
 
-// Whether d is below another one in the row.
-fn is_beaten(marks: &[u8], n: usize, row: &[u64], d: usize) -> bool
-    requires { Marked n marks.now × RowFits n row.now × (d < n) }
-    ensures { result ≡ beaten n marks.now row.now d }
-{
-    let mut w = 0;
-    while w < n {
-        if words::is_some(beaten_word(marks, n, row, d, w)) {
-            return true;
+    // Those of the row's word from w on that d is below, without d itself. Most words of a row are empty where a class has few targets.
+    fn beaten_word(self, d: usize, w: usize) -> u64
+        requires { (d < self.n) × (w < self.n) × (w % word_bits ≡ 0) }
+        ensures { (k : ℕ) → k < word_bits → digit result k ≡ beaten_at self.entry.n self.entry.marks.now self.entry.row.now d w k }
+    {
+        let here = self.row[w / 64];
+        if here == 0 {
+            return 0;
         }
-        w += 64;
+        self.word_of(d, w) & here
     }
-    false
-}
 
-// Puts all others of the row that d is below into `dropped`.
-fn unite_others(marks: &[u8], n: usize, row: &[u64], d: usize, dropped: &mut [u64])
-    requires { Marked n marks.now × RowFits n row.now × RowFits n dropped.old × (d < n) }
-    ensures { (x : ℕ) → x < n → has dropped.new x ≡ (has dropped.old x or (has row.now x & below_other n marks.now d x)) }
-{
-    let mut w = 0;
-    while w < n {
-        let more = beaten_word(marks, n, row, d, w);
-        dropped[w / 64] = dropped[w / 64] | more;
-        w += 64;
+    // Whether d is below another one in the row.
+    fn is_beaten(self, d: usize) -> bool
+        requires { d < self.n }
+        ensures { result ≡ beaten self.entry.n self.entry.marks.now self.entry.row.now d }
+    {
+        for w in (0..self.n).step_by(64) {
+            if words::is_some(self.beaten_word(d, w)) {
+                return true;
+            }
+        }
+        false
     }
-}
 
-// Puts what is dropped because of d, one of the row, into `dropped`: for Even d itself, where it is below another, and for Odd the others that
-// d is below.
-fn drop_by(marks: &[u8], n: usize, even: bool, row: &[u64], d: usize, dropped: &mut [u64])
-    requires { Marked n marks.now × RowFits n row.now × RowFits n dropped.old × (d < n) }
-    ensures { (x : ℕ) → x < n → has dropped.new x ≡ (has dropped.old x or drops even n marks.now row.now d x) }
-{
-    if !even {
-        unite_others(marks, n, row, d, dropped);
-        return;
+    // Puts all others of the row that d is below into `dropped`.
+    fn unite_others(self, d: usize, dropped: &mut [u64])
+        requires { RowFits self.n dropped.old × (d < self.n) }
+        ensures { (x : ℕ) → x < self.entry.n → has dropped.new x ≡ (has dropped.old x or (has self.entry.row.now x & below_other self.entry.n self.entry.marks.now d x)) }
+    {
+        for w in (0..self.n).step_by(64) {
+            dropped[w / 64] |= self.beaten_word(d, w);
+        }
     }
-    if !is_beaten(marks, n, row, d) {
-        return;
-    }
-    raise(dropped, d);
-}
 
-// Over zeros: puts what is dropped because of any of the row into `dropped`.
-fn drop_all(marks: &[u8], n: usize, even: bool, row: &[u64], dropped: &mut [u64])
-    requires marked { Marked n marks.now × RowFits n row.now × RowFits n dropped.old }
-    requires by_index { (i : ℕ) → get_or dropped.old i 0 ≡ 0 }
-    ensures { (x : ℕ) → x < n → has dropped.new x ≡ dropped_by even n marks.now row.now x }
-{
-    let mut d = next_member(row, 0, n);
-    while d < n {
-        drop_by(marks, n, even, row, d, dropped);
-        d = next_member(row, d + 1, n);
+    // Puts what is dropped because of d, one of the row, into `dropped`: for Even d itself, where it is below another, and for Odd the others
+    // that d is below.
+    fn drop_by(self, even: bool, d: usize, dropped: &mut [u64])
+        requires { RowFits self.n dropped.old × (d < self.n) }
+        ensures { (x : ℕ) → x < self.entry.n → has dropped.new x ≡ (has dropped.old x or drops even self.entry.n self.entry.marks.now self.entry.row.now d x) }
+    {
+        if !even {
+            self.unite_others(d, dropped);
+            return;
+        }
+        if !self.is_beaten(d) {
+            return;
+        }
+        raise(dropped, d);
+    }
+
+    // Over zeros: puts what is dropped because of any of the row into `dropped`.
+    fn drop_all(self, even: bool, dropped: &mut [u64])
+        requires row_fits { RowFits self.n dropped.old }
+        requires by_index { (i : ℕ) → get_or dropped.old i 0 ≡ 0 }
+        ensures { (x : ℕ) → x < self.entry.n → has dropped.new x ≡ dropped_by even self.entry.n self.entry.marks.now self.entry.row.now x }
+    {
+        let mut d = next_member(self.row, 0, self.n);
+        while d < self.n {
+            self.drop_by(even, d, dropped);
+            d = next_member(self.row, d + 1, self.n);
+        }
     }
 }
 
@@ -107,5 +114,6 @@ pub fn drop_row(game: &[u16], marks: &[u8], r: usize, row: &[u64], drop: bool, d
         return;
     }
     let n = game[0] as usize;
-    drop_all(marks, n, game[2 + n + r] == 0, row, dropped);
+    let targets = Targets { marks, n, row };
+    targets.drop_all(game[2 + n + r] == 0, dropped);
 }

@@ -15,50 +15,7 @@ pub fn words_for(n: usize) -> usize
     requires { n ≤ vertex_limit }
     ensures { result ≡ words_for n }
 {
-    (n + 63) / 64
-}
-
-// The representative of v's class.
-fn lowest_of(classes: &[u16], reps: &[u16], v: usize) -> usize
-    requires { (v < length classes.now) × (get_or classes.now v 0 < length reps.now) }
-    ensures { result ≡ get_or reps.now (get_or classes.now v 0) 0 }
-{
-    reps[classes[v] as usize] as usize
-}
-
-// Puts the class of edge j's target into the row of its source.
-fn reach_edge(
-    game: &[u16],
-    classes: &[u16],
-    reps: &[u16],
-    width: usize,
-    j: usize,
-    words: &mut [u64],
-)
-    requires grouped { Grouped game.now classes.now reps.now × RowsFit game.now width words.old }
-    requires j_bound { j < table_edges game.now }
-    ensures { Raised words.old words.new (edge_place game.now width j) }
-{
-    let n = game[0] as usize;
-    let m = game[1] as usize;
-    let s = game[2 + 2 * n + j] as usize;
-    let t = game[2 + 2 * n + m + j] as usize;
-    let d = lowest_of(classes, reps, t);
-    raise(words, s * width * 64 + d);
-}
-
-// Over zeros: row v gets the classes in which v has a successor.
-fn reach_edges(game: &[u16], classes: &[u16], reps: &[u16], width: usize, words: &mut [u64])
-    requires grouped { Grouped game.now classes.now reps.now × RowsFit game.now width words.old }
-    requires by_index { (i : ℕ) → get_or words.old i 0 ≡ 0 }
-    ensures { Reaching (game_of game.now) width words.new }
-{
-    let m = game[1] as usize;
-    let mut j = 0;
-    while j < m {
-        reach_edge(game, classes, reps, width, j, words);
-        j += 1;
-    }
+    n.div_ceil(64)
 }
 
 // Leaves in row r what is in row v too.
@@ -68,24 +25,65 @@ fn meet_row(words: &mut [u64], width: usize, r: usize, v: usize)
 {
     let to = r * width;
     let from = v * width;
-    let mut k = 0;
-    while k < width {
-        words[to + k] = words[to + k] & words[from + k];
-        k += 1;
+    for k in 0..width {
+        words[to + k] &= words[from + k];
     }
 }
 
-// Leaves in the row of each representative what is in the rows of all members of its class.
-fn meet_members(game: &[u16], classes: &[u16], reps: &[u16], width: usize, words: &mut [u64])
-    requires { Grouped game.now classes.now reps.now × RowsFit game.now width words.old }
-    ensures { MembersMet (game_of game.now) width (vertex_count game.now) words.old words.new }
-{
-    let n = game[0] as usize;
-    let mut v = 0;
-    while v < n {
-        let r = lowest_of(classes, reps, v);
-        meet_row(words, width, r, v);
-        v += 1;
+// A game, its classes and their representatives, and how many words a row has.
+#[derive(Clone, Copy)]
+struct Groups<'a> {
+    game: &'a [u16],
+    classes: &'a [u16],
+    reps: &'a [u16],
+    width: usize,
+}
+
+impl Groups<'_> {
+    // The representative of v's class.
+    fn lowest_of(self, v: usize) -> usize
+        requires { (v < length self.classes.now) × (get_or self.classes.now v 0 < length self.reps.now) }
+        ensures { result ≡ get_or self.entry.reps.now (get_or self.entry.classes.now v 0) 0 }
+    {
+        self.reps[self.classes[v] as usize] as usize
+    }
+
+    // Puts the class of edge j's target into the row of its source.
+    fn reach_edge(self, j: usize, words: &mut [u64])
+        requires grouped { Grouped self.game.now self.classes.now self.reps.now × RowsFit self.game.now self.width words.old }
+        requires j_bound { j < table_edges self.game.now }
+        ensures { Raised words.old words.new (edge_place self.entry.game.now self.entry.width j) }
+    {
+        let n = self.game[0] as usize;
+        let m = self.game[1] as usize;
+        let s = self.game[2 + 2 * n + j] as usize;
+        let t = self.game[2 + 2 * n + m + j] as usize;
+        let d = self.lowest_of(t);
+        raise(words, s * self.width * 64 + d);
+    }
+
+    // Over zeros: row v gets the classes in which v has a successor.
+    fn reach_edges(self, words: &mut [u64])
+        requires grouped { Grouped self.game.now self.classes.now self.reps.now × RowsFit self.game.now self.width words.old }
+        requires by_index { (i : ℕ) → get_or words.old i 0 ≡ 0 }
+        ensures { Reaching (game_of self.entry.game.now) self.entry.width words.new }
+    {
+        let m = self.game[1] as usize;
+        for j in 0..m {
+            self.reach_edge(j, words);
+        }
+    }
+
+    // Leaves in the row of each representative what is in the rows of all members of its class.
+    fn meet_members(self, words: &mut [u64])
+        requires { Grouped self.game.now self.classes.now self.reps.now × RowsFit self.game.now self.width words.old }
+        ensures { MembersMet (game_of self.entry.game.now) self.entry.width (vertex_count self.entry.game.now) words.old words.new }
+    {
+        let n = self.game[0] as usize;
+        for v in 0..n {
+            let r = self.lowest_of(v);
+            meet_row(words, self.width, r, v);
+        }
     }
 }
 
@@ -95,6 +93,12 @@ pub fn reach_rows(game: &[u16], classes: &[u16], reps: &[u16], width: usize, wor
     requires by_index { (i : ℕ) → get_or words.old i 0 ≡ 0 }
     ensures { RowsReach (game_of game.now) width words.new }
 {
-    reach_edges(game, classes, reps, width, words);
-    meet_members(game, classes, reps, width, words);
+    let groups = Groups {
+        game,
+        classes,
+        reps,
+        width,
+    };
+    groups.reach_edges(words);
+    groups.meet_members(words);
 }

@@ -36,13 +36,7 @@ fn sum_of(values: &[u16], k: usize) -> usize
     requires { (k ≤ vertex_limit) × (k ≤ length values.now) }
     ensures { result ≡ sum k (λ c. get_or values.now c 0) }
 {
-    let mut total = 0;
-    let mut c = 0;
-    while c < k {
-        total += values[c] as usize;
-        c += 1;
-    }
-    total
+    values[..k].iter().map(|value| usize::from(*value)).sum()
 }
 
 // Writes how many members each class has, by the class words of a game, and how many edges, by the table of its reduced game. Returns both

@@ -10,8 +10,8 @@ ghost use Rattle.report.specs.Page.{OnPage};
 
 use report_findings::{Report, findings};
 use std::io::Read;
+use table::Sizes;
 use table::limits::{PAIR_BYTES, TABLE_WORDS, VERTICES};
-use table::{Reading, Sizes};
 
 // Reading stops after a word more than the longest table has.
 const READ_WORDS: usize = TABLE_WORDS + 1;
@@ -105,7 +105,7 @@ fn print_lines(
 {
     let verdict = report.verdict;
     match verdict {
-        Reading::Refused(refusal) => print::two(
+        Err(refusal) => print::two(
             rt,
             page,
             0,
@@ -114,9 +114,7 @@ fn print_lines(
             b" at ",
             refusal.place as u64,
         ),
-        Reading::Accepted(sizes) => print_accepted(
-            rt, page, sizes, report, classes, members, edges,
-        ),
+        Ok(sizes) => print_accepted(rt, page, sizes, report, classes, members, edges),
     }
 }
 

@@ -37,12 +37,9 @@ fn text(rt: &impl Print, page: &mut [u8], at: usize, s: &[u8]) -> usize
     requires { OnPage (length page.old) at }
     ensures { OnPage (length page.old) result }
 {
-    let size = s.len();
     let mut k = at;
-    let mut i = 0;
-    while i < size {
-        k = push(rt, page, k, s[i]);
-        i += 1;
+    for byte in s {
+        k = push(rt, page, k, *byte);
     }
     k
 }
@@ -89,8 +86,7 @@ pub fn vertices(rt: &impl Print, page: &mut [u8], at: usize, classes: &[u16], n:
     ensures { OnPage (length page.old) result }
 {
     let mut k = at;
-    let mut v = 0;
-    while v < n {
+    for (v, class) in classes[..n].iter().enumerate() {
         k = two(
             rt,
             page,
@@ -98,9 +94,8 @@ pub fn vertices(rt: &impl Print, page: &mut [u8], at: usize, classes: &[u16], n:
             b"vertex ",
             v as u64,
             b" class ",
-            classes[v] as u64,
+            u64::from(*class),
         );
-        v += 1;
     }
     k
 }
@@ -118,19 +113,17 @@ pub fn classes(
     ensures { OnPage (length page.old) result }
 {
     let mut end = at;
-    let mut c = 0;
-    while c < k {
+    for (c, (members, edges)) in members[..k].iter().zip(&edges[..k]).enumerate() {
         let begun = labelled(rt, page, end, b"class ", c as u64);
         end = two(
             rt,
             page,
             begun,
             b" members ",
-            members[c] as u64,
+            u64::from(*members),
             b" edges ",
-            edges[c] as u64,
+            u64::from(*edges),
         );
-        c += 1;
     }
     end
 }

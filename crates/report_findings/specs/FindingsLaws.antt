@@ -1,5 +1,5 @@
 -- The memory is enough, so that the report of an accepted game is what is filled in and counted.
-use Rattle.std.specs.Prelude.{◌≡◌, List, ℕ, ◌≤◌}
+use Rattle.std.specs.Prelude.{◌≡◌, List, ℕ, ◌≤◌, Result, Ok, Err}
 use Rattle.std.proofs.Math.Path.{refl}
 use Rattle.std.proofs.Common.{sym, ap, ◌∙◌, mul-le-mul}
 use native.Mathlib.Omega.{arith}
@@ -13,7 +13,6 @@ use Rattle.table.specs.ReadingLaws.{read_accepted, well_clean}
 use Rattle.table.specs.WellFormed.{WellFormed}
 use Rattle.table.specs.declared.Sizes.{Sizes}
 use Rattle.table.specs.declared.Refusal.{Refusal}
-use Rattle.table.specs.declared.Reading.{Reading}
 use Rattle.marks.specs.Marks.{marks_length}
 use Rattle.classes.specs.ClassesCall.{class_total, class_words}
 use Rattle.reduction.specs.TableRules.{TableFits}
@@ -54,10 +53,10 @@ classes_fit_lem g w n h = omega (arith, few_classes g, w.vertices)
 
 -- the reader refuses
 -- what the reader's `Accepted` tells
-pub counted : {g : List ℕ} {v : Reading} {c : Sizes} → v ≡ Reading.Accepted c → reading_answer v ≡ read_answer g → WellFormed g × (c.vertices ≡ vertex_count g)
+pub counted : {g : List ℕ} {v : Result Sizes Refusal} {c : Sizes} → v ≡ Ok c → reading_answer v ≡ read_answer g → WellFormed g × (c.vertices ≡ vertex_count g)
 counted {g} h e = let a = read_accepted g _ (sym e ∙ ap reading_answer h) in (a.0, cc a.1)
 
-pub reported_refused : (g classes members edges : List ℕ) (v : Reading) (f : Refusal) → v ≡ Reading.Refused f → reading_answer v ≡ read_answer g
+pub reported_refused : (g classes members edges : List ℕ) (v : Result Sizes Refusal) (f : Refusal) → v ≡ Err f → reading_answer v ≡ read_answer g
     → Reported g classes members edges (record { verdict = v; passes = 0; classes = 0; totals = record { members = 0; edges = 0 }; vertices = 0; edges = 0 })
     classes members edges
 unfolding read_answer
@@ -83,12 +82,12 @@ module _ {g marks spare classes output : List ℕ} {passes : ℕ} {counts : Tabl
   tabulated w = record { well = w; old_classes = classes; classes_are = made.table.classes_after; old_table = output; table_is = made.table.output_after }
 
   pub reported_accepted : {members members' edges edges' : List ℕ} {totals : Totals} → Totalled g members edges totals members' edges'
-      → (v : Reading) (c : Sizes) → v ≡ Reading.Accepted c → reading_answer v ≡ read_answer g
+      → (v : Result Sizes Refusal) (c : Sizes) → v ≡ Ok c → reading_answer v ≡ read_answer g
       → Reported g classes members edges
       (record { verdict = v; passes = passes; classes = counts.classes; totals = totals; vertices = counts.vertices; edges = counts.edges })
       classes' members' edges'
   reported_accepted summed v c h e =
-      let a : read_answer g ≡ reading_answer (Reading.Accepted c) = sym e ∙ ap reading_answer h in
+      let a : read_answer g ≡ reading_answer (Ok c) = sym e ∙ ap reading_answer h in
       let clean = well_clean g (counted h e).0 in
       let t = made.table in
       record {

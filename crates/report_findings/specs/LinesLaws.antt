@@ -1,6 +1,6 @@
 -- The lines of a report on an accepted game agree: document 02, CR 10, "The totals are the sums of the lines above, k's sum equals n, and e's
 -- sum equals the edge count in the `reduced` line".
-use Rattle.std.specs.Prelude.{◌≡◌, List, ℕ, get_or}
+use Rattle.std.specs.Prelude.{◌≡◌, List, ℕ, get_or, Ok}
 use Rattle.std.proofs.Math.Path.{sym}
 use Rattle.std.proofs.Common.{ap, ◌∙◌}
 use Rattle.theory.specs.Logic.Range.{sum, tabulate}
@@ -12,7 +12,6 @@ use Rattle.table.specs.AnswersLaws.{after_clean}
 use Rattle.table.specs.Reading.{game_rows, read_answer, reading_answer}
 use Rattle.table.specs.ReadingLaws.{well_clean}
 use Rattle.table.specs.declared.Sizes.{Sizes}
-use Rattle.table.specs.declared.Reading.{Reading}
 use Rattle.classes.specs.ClassesCall.{class_total}
 use Rattle.reduction_totals.specs.Totals.{member_words, edge_words, member_total, edge_total}
 use Rattle.reduction_totals.specs.TotalsLaws.{member_total_all, edge_total_all}
@@ -26,7 +25,7 @@ module _ {g classes members edges classes' members' edges' : List ℕ} {r : Repo
   pub total_reduced : r.totals.edges ≡ r.edges
   total_reduced = d.edge_total_lem ∙ ap (number (read_answer g)) (edge_total_all g) ∙ sym d.edge_count_lem
 
-  module _ (c : Sizes) (e : r.verdict ≡ Reading.Accepted c) where
+  module _ (c : Sizes) (e : r.verdict ≡ Ok c) where
     given : {x y : ℕ} → x ≡ number (read_answer g) y → x ≡ y
     given {x} {y} q = q ∙ number_accepted y (sym d.verdict ∙ ap reading_answer e)
 

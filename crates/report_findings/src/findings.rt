@@ -7,7 +7,6 @@ ghost use Rattle.report_findings.specs.ReportMemory.{Enough};
 use crate::{Report, input_words};
 use reduction::tables::fill_memory;
 use reduction_totals::{Totals, write_totals};
-use table::Reading;
 
 // Judges the game, counts the passes, classes and the reduced game's vertices and edges, writes the class of each vertex and the members
 // and edges of each class, and sums these up. The other buffers are working memory. All are enough for any game that the reader accepts.
@@ -24,7 +23,7 @@ fn find(
     ensures { Reported game.now classes.old members.old edges.old result classes.new members.new edges.new }
 {
     let verdict = table_reader::read(game);
-    let Reading::Accepted(_) = verdict else {
+    let Ok(_) = verdict else {
         return Report {
             verdict,
             passes: 0,

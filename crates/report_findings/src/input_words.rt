@@ -6,7 +6,7 @@ ghost use Rattle.report_findings.specs.Words.{read_limit, word_at, words_of};
 fn word(low: u8, high: u8) -> u16
     ensures { result ≡ low + 256 * high }
 {
-    low as u16 + 256 * high as u16
+    u16::from_le_bytes([low, high])
 }
 
 // The word of number i; a last half word gets high byte 0.
@@ -27,10 +27,9 @@ pub fn decode(bytes: &[u8], words: &mut [u16]) -> usize
     requires { (length bytes.now ≤ 2 * read_limit) × (read_limit ≤ length words.old) }
     ensures { (result ≡ length (words_of bytes.now)) × (words.new ≡ written (words_of bytes.now) words.old) }
 {
-    let mut i = 0;
-    while 2 * i < bytes.len() {
+    let count = bytes.len().div_ceil(2);
+    for i in 0..count {
         words[i] = word_at(bytes, i);
-        i += 1;
     }
-    i
+    count
 }

@@ -5,13 +5,13 @@ pub mod findings;
 mod input_words;
 
 use reduction_totals::Totals;
-use table::Reading;
+use table::{Refusal, Sizes};
 
 // The reader's verdict; for an accepted game also the counts of passes and of classes, the sums of the classes' members and edges, and the
 // counts of the reduced game's vertices and edges.
 #[derive(Clone, Copy)]
 pub struct Report {
-    pub verdict: Reading,
+    pub verdict: Result<Sizes, Refusal>,
     pub passes: u32,
     pub classes: usize,
     pub totals: Totals,

@@ -1,6 +1,9 @@
 -- Laws of words put into a buffer at a place.
 use Rattle.std.specs.Prelude.{◌≡◌, List, [], ◌∷◌, ◌++◌, ℕ, ◌+◌, ◌≤◌, ◌<◌, length, take, drop, set}
-use Rattle.std.proofs.Common.{sym, ap, ◌∙◌, append_assoc, zero-add, add-zero, add-one, arith, length-append, take-append-drop, length-take-le, take_at, drop_at, drop-drop}
+use Rattle.std.proofs.Common.{refl, sym, ap, ◌∙◌, append_assoc, zero-add, add-zero, add-one, arith, length-append, take-append-drop, length-take-le, take_at, drop_at, drop-drop}
+use Rattle.std.proofs.lemmas.Slice.{put_mid-paste}
+use Rattle.std.proofs.lemmas.List.Edits.{paste_all}
+use borrow.Rule.Slice.PartMut.{put_mid}
 use Rattle.theory.specs.Logic.Range.{tabulate}
 use Rattle.theory.proofs.Logic.ListLaws.{length_tabulate, tabulate_snoc}
 use Rattle.table.specs.Answers.{written}
@@ -75,3 +78,8 @@ written_join at new more old e h =
 pub written_two : (x y : ℕ) (old : List ℕ) → 2 ≤ length old → set (set old 0 x) 1 y ≡ written (x ∷ y ∷ []) old
 unfolding written
 written_two x y old h = ap (λ (l : List ℕ). set l 1 y) (written_snoc [] old x (omega arith)) ∙ written_snoc (x ∷ []) old y h
+
+-- a part of k words that is written at once
+pub placed_part : (at k : ℕ) (part old : List ℕ) {new : List ℕ} → part ≡ new → length new ≡ k → put_mid at k old part ≡ placed at new old
+unfolding placed
+placed_part at k part old {new} e l = put_mid-paste at k old part new (length new) e l refl ∙ paste_all old at new (length new) refl

@@ -1,13 +1,13 @@
 -- The reader's table of refusals, 1 to 6 and 8. Parallel edges count as one, so 7 does not occur.
-use Rattle.std.specs.Prelude.{Bool, not, List, [], ◌∷◌, ℕ, ◌+◌, ◌*◌, eqb, ltb, leb, length, get_or}
+use Rattle.std.specs.Prelude.{Bool, not, List, [], ◌∷◌, ℕ, ◌+◌, ◌*◌, eqb, ltb, leb, length, get_or, Result, Ok, Err}
 use Rattle.theory.specs.Logic.Bools.{◌or◌}
 use Rattle.theory.specs.Logic.Range.{any_below, first}
 use Rattle.theory.specs.Games.Game.{edge_count}
 use Rattle.table.specs.Limits.{vertex_limit, edge_limit}
 use Rattle.table.specs.Table.{vertex_count, table_edges, source_at, table_length, game_of}
 use Rattle.table.specs.Answers.{Row, row, Answer, accepted, refused, judge}
-use Rattle.table.specs.declared.Reading.{Reading}
-use Rattle.table.specs.declared.Reading.TheVariants.{Accepted, Refused}
+use Rattle.table.specs.declared.Refusal.{Refusal}
+use Rattle.table.specs.declared.Sizes.{Sizes}
 
 -- vertex v has no edge out
 unfoldable pub lacks_edge : List ℕ → ℕ → Bool
@@ -50,6 +50,6 @@ unfoldable pub sizes_answer : List ℕ → Answer
 sizes_answer g = judge (game_rows g) (vertex_count g ∷ table_edges g ∷ [])
 
 -- what the cases of the reader's verdict say
-abbrev pub reading_answer : Reading → Answer
-reading_answer (Accepted c) = accepted (c.vertices ∷ c.edges ∷ c.different ∷ [])
-reading_answer (Refused f) = refused f.number f.place
+abbrev pub reading_answer : Result Sizes Refusal → Answer
+reading_answer (Ok c) = accepted (c.vertices ∷ c.edges ∷ c.different ∷ [])
+reading_answer (Err f) = refused f.number f.place

@@ -1,6 +1,6 @@
 -- Laws of the reader: its computed rows render document 01's, so it refuses k at p exactly as that table says, and accepts exactly
 -- the well-formed tables.
-use Rattle.std.specs.Prelude.{◌≡◌, refl, ◌⊎◌, ◌↔◌, ◌≢◌, Bool, not, List, [], ◌∷◌, ◌++◌, ℕ, ◌+◌, ◌-◌, ◌*◌, ◌≤◌, ◌<◌, eqb, ltb, leb, length, get_or}
+use Rattle.std.specs.Prelude.{◌≡◌, refl, ◌⊎◌, ◌↔◌, ◌≢◌, Bool, not, List, [], ◌∷◌, ◌++◌, ℕ, ◌+◌, ◌-◌, ◌*◌, ◌≤◌, ◌<◌, eqb, ltb, leb, length, get_or, Ok, Err}
 use Rattle.std.proofs.Common.{sym, inl, inr, ⊎_elim, add-sub_of_le, arith, ltb-true, lt-ltb, leb-true, le-leb, eqb-true, eq-eqb, ne_eqb}
 use Rattle.std.proofs.Math.Bool.{So}
 use Rattle.std.proofs.Math.Decide.{dec_lt, dec_le, ℕ_discrete}
@@ -23,7 +23,6 @@ use Rattle.table.specs.WellFormed.{WellFormed, WellSized}
 use Rattle.table.specs.Flags.{EndsInside}
 use Rattle.table.specs.declared.FilledSizes.{FilledSizes}
 use Rattle.table.specs.declared.Refusal.{Refusal}
-use Rattle.table.specs.declared.Filling.TheVariants.{Accepted, Refused}
 
 -- ---- what the reader's tests say
 
@@ -161,17 +160,17 @@ read_accepts g w = judge_clean (game_rows g) _ (well_clean g w)
 
 -- ---- for a caller of `read_sizes`, whose rows are the reader's and then its own
 
-pub reading_accepted : (g : List ℕ) (c : FilledSizes) → filling_answer (Accepted c) ≡ sizes_answer g → WellSized g c
+pub reading_accepted : (g : List ℕ) (c : FilledSizes) → filling_answer (Ok c) ≡ sizes_answer g → WellSized g c
 unfolding sizes_answer
 reading_accepted g c e =
     let a = judge_accepted (game_rows g) _ _ (sym e) in
     record { well = clean_well g a.0; vertices = cc a.1; edges = cc a.1 }
 
-pub reading_past : (g : List ℕ) (c : FilledSizes) → filling_answer (Accepted c) ≡ sizes_answer g → (rs : List Row) (counts : List ℕ)
+pub reading_past : (g : List ℕ) (c : FilledSizes) → filling_answer (Ok c) ≡ sizes_answer g → (rs : List Row) (counts : List ℕ)
     → judge (game_rows g ++ rs) counts ≡ judge rs counts
 reading_past g c e rs counts = judge_past (game_rows g) rs counts (well_clean g (reading_accepted g c e).well)
 
-pub reading_stays : (g : List ℕ) (f : Refusal) → filling_answer (Refused f) ≡ sizes_answer g → (rs : List Row) (counts : List ℕ)
-    → judge (game_rows g ++ rs) counts ≡ filling_answer (Refused f)
+pub reading_stays : (g : List ℕ) (f : Refusal) → filling_answer (Err f) ≡ sizes_answer g → (rs : List Row) (counts : List ℕ)
+    → judge (game_rows g ++ rs) counts ≡ filling_answer (Err f)
 unfolding sizes_answer
 reading_stays g f e rs counts = judge_stays (game_rows g) rs _ counts f.number f.place (sym e)

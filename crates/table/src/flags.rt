@@ -56,12 +56,10 @@ pub fn flag_edges(game: &[u16], n: usize, m: usize, flags: &mut [u64]) -> usize
     ensures edge_flags { EdgeFlags game.now flags.new }
 {
     let mut different = 0;
-    let mut j = 0;
-    while j < m {
+    for j in 0..m {
         if !flag_edge(game, n, m, flags, j) {
             different += 1;
         }
-        j += 1;
     }
     different
 }

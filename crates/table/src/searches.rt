@@ -21,14 +21,12 @@ fn first_at_least(words: &[u16], limit: usize, from: usize, end: usize) -> usize
     if (slices::highest(words, from, end - from) as usize) < limit {
         return end;
     }
-    let mut k = from;
-    while k < end {
-        if limit <= words[k] as usize {
+    for k in from..end {
+        if limit <= usize::from(words[k]) {
             return k;
         }
-        k += 1;
     }
-    k
+    end
 }
 
 // 5: the first word of an owner above 1.
@@ -72,10 +70,7 @@ fn clear_sources(game: &[u16], n: usize, m: usize, lacking: &mut [u16])
     requires n_in_bounds { (n ≤ length lacking.old) × Filled 1 lacking.old }
     ensures { lacking.new ≡ tabulate (length lacking.old) (λ v. bit (lacks_edge game.now v)) }
 {
-    let mut j = 0;
-    while j < m {
-        let v = game[2 + 2 * n + j] as usize;
-        lacking[v] = 0;
-        j += 1;
+    for j in 0..m {
+        lacking[usize::from(game[2 + 2 * n + j])] = 0;
     }
 }

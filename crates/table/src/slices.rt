@@ -9,11 +9,7 @@ pub fn fill(words: &mut [u16], at: usize, count: usize, value: u16)
     requires { at + count ≤ length words.old }
     ensures { words.new ≡ placed at (tabulate count (λ i. value)) words.old }
 {
-    let mut i = 0;
-    while i < count {
-        words[at + i] = value;
-        i += 1;
-    }
+    words[at..at + count].fill(value);
 }
 
 // Puts the first `count` words of another buffer.
@@ -21,10 +17,9 @@ pub fn copy(words: &mut [u16], at: usize, from: &[u16], count: usize)
     requires { (at + count ≤ length words.old) × (count ≤ length from.now) }
     ensures { words.new ≡ placed at (tabulate count (λ i. get_or from.now i 0)) words.old }
 {
-    let mut j = 0;
-    while j < count {
+    // not `copy_from_slice`: the archives would call `memmove`
+    for j in 0..count {
         words[at + j] = from[j];
-        j += 1;
     }
 }
 
@@ -34,10 +29,8 @@ pub fn gather(words: &mut [u16], at: usize, from: &[u16], start: usize, picks: &
     requires by_index { (i : ℕ) → i < count → start + get_or picks.now i 0 < length from.now }
     ensures { words.new ≡ placed at (tabulate count (λ i. get_or from.now (start + get_or picks.now i 0) 0)) words.old }
 {
-    let mut c = 0;
-    while c < count {
-        words[at + c] = from[start + picks[c] as usize];
-        c += 1;
+    for c in 0..count {
+        words[at + c] = from[start + usize::from(picks[c])];
     }
 }
 
@@ -47,12 +40,8 @@ pub fn highest(words: &[u16], at: usize, count: usize) -> u16
     ensures { result ≡ highest_of count (λ i. get_or words.now (at + i) 0) }
 {
     let mut most = 0;
-    let mut i = 0;
-    while i < count {
-        if most < words[at + i] {
-            most = words[at + i];
-        }
-        i += 1;
+    for word in &words[at..at + count] {
+        most = most.max(*word);
     }
     most
 }

@@ -1,5 +1,5 @@
 -- Laws of the conversion: its promise at each way out.
-use Rattle.std.specs.Prelude.{◌≡◌, ℕ, ◌+◌, ◌≤◌, ◌<◌, ltb, length, get_or}
+use Rattle.std.specs.Prelude.{◌≡◌, ℕ, ◌+◌, ◌≤◌, ◌<◌, ltb, length, get_or, Err}
 use Rattle.std.proofs.Math.Path.{sym}
 use Rattle.std.proofs.Common.{◌∙◌, eqb-true, eq-eqb, lt-ltb, le-ltb}
 use Rattle.std.proofs.Math.Bool.{So}
@@ -13,7 +13,6 @@ use Rattle.table.specs.Filling.{filling_answer}
 use Rattle.table.specs.ReadingLaws.{reading_stays, well_clean}
 use Rattle.table.specs.WellFormed.{WellFormed}
 use Rattle.table.specs.declared.Refusal.{Refusal}
-use Rattle.table.specs.declared.Filling.TheVariants.{Refused}
 use Rattle.table_convert.specs.LowestTable.{highest, lowest_table}
 use Rattle.table_convert.specs.ConvertCall.{oversize, first_oversize, convert_rows, convert_answer, ConvertCall}
 
@@ -35,7 +34,7 @@ module _ (game output : List ℕ) where
   convert_old k p e = record { verdict = sym e; output_after = sym (after_refused (convert_rows game output) _ (lowest_table game) output e) }
 
   -- the reader's refusal is the call's
-  pub convert_handed : (f : Refusal) → filling_answer (Refused f) ≡ sizes_answer game → ConvertCall game output (refused f.number f.place) output
+  pub convert_handed : (f : Refusal) → filling_answer (Err f) ≡ sizes_answer game → ConvertCall game output (refused f.number f.place) output
   convert_handed f e = convert_old f.number f.place (unfold convert_answer convert_rows in reading_stays game f e _ _)
 
   -- the reader accepted with n and m

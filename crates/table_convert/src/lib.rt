@@ -7,17 +7,17 @@ ghost use Rattle.std.specs.Prelude.{◌≡◌};
 ghost use Rattle.table.specs.Filling.{filling_answer};
 ghost use Rattle.table_convert.specs.ConvertCall.{ConvertCall};
 
-use table::{FilledSizes, Filling, Refusal, refusal_of, slices};
+use table::{FilledSizes, Refusal, refusal_of, refused, slices};
 use writing::{even_from, first_oversize, write_table};
 
 // Judges the game and the memory, and writes the table with M − q for each priority q, M the smallest even number not below the highest.
 // The verdict carries n and m.
-pub fn write_lowest(game: &[u16], output: &mut [u16]) -> Filling
+pub fn write_lowest(game: &[u16], output: &mut [u16]) -> Result<FilledSizes, Refusal>
     ensures { ConvertCall game.now output.old (filling_answer result) output.new }
 {
     let reading = table_reader::read_sizes(game);
-    let Filling::Accepted(sizes) = reading else {
-        return Filling::Refused(refusal_of(reading));
+    let Ok(sizes) = reading else {
+        return Err(refusal_of(reading));
     };
     let n = sizes.vertices;
     let m = sizes.edges;
@@ -31,14 +31,8 @@ pub fn write_lowest(game: &[u16], output: &mut [u16]) -> Filling
         return refused(36, oversize);
     }
     write_table(game, n, m, even_from(highest), output);
-    Filling::Accepted(FilledSizes {
+    Ok(FilledSizes {
         vertices: n,
         edges: m,
     })
-}
-
-fn refused(number: u32, place: usize) -> Filling
-    ensures { result ≡ Filling.Refused (record { number = number; place = place }) }
-{
-    Filling::Refused(Refusal { number, place })
 }

@@ -15,7 +15,7 @@ use table::slices;
 pub fn even_from(q: u16) -> usize
     ensures { result ≡ even_from q }
 {
-    q as usize + q as usize % 2
+    usize::from(q).next_multiple_of(2)
 }
 
 // 36: the first word of a priority 0, where the highest is 65,535.
@@ -23,14 +23,12 @@ pub fn first_oversize(game: &[u16], n: usize, most: u16) -> usize
     requires { (n ≡ vertex_count game.now) × (most ≡ highest game.now) × (2 + n ≤ length game.now) }
     ensures { result ≡ first_oversize game.now }
 {
-    let mut k = 2;
-    while k < 2 + n {
+    for k in 2..2 + n {
         if most == 65535 && game[k] == 0 {
             return k;
         }
-        k += 1;
     }
-    k
+    2 + n
 }
 
 // Writes even − q for each priority q.
@@ -38,10 +36,8 @@ fn write_priorities(game: &[u16], n: usize, even: usize, output: &mut [u16])
     requires { (2 + n ≤ length game.now) × (2 + n ≤ length output.old) × PriorityRange n even game.now }
     ensures { output.new ≡ placed 2 (tabulate n (λ v. even - priority_at game.now v)) output.old }
 {
-    let mut v = 0;
-    while v < n {
-        output[2 + v] = (even - game[2 + v] as usize) as u16;
-        v += 1;
+    for v in 0..n {
+        output[2 + v] = (even - usize::from(game[2 + v])) as u16;
     }
 }
 

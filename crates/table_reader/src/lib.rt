@@ -7,20 +7,17 @@ ghost use Rattle.table.specs.Reading.{read_answer, reading_answer, sizes_answer}
 ghost use Rattle.table.specs.Kind.{kind_of};
 
 use table::limits::{EDGES, VERTICES};
-use table::{FilledSizes, Filling, Reading, Refusal, Sizes, refusal_of, searches};
+use table::{FilledSizes, Refusal, Sizes, refusal_of, refused, searches};
 
 // Judges a game table, and counts its different edges. The calls that go on with the table ask `read_sizes`.
-pub fn read(game: &[u16]) -> Reading
+pub fn read(game: &[u16]) -> Result<Sizes, Refusal>
     ensures { reading_answer result ≡ read_answer game.now }
 {
-    let judged = read_sizes(game);
-    let Filling::Accepted(sizes) = judged else {
-        return Reading::Refused(refusal_of(judged));
-    };
+    let sizes = read_sizes(game)?;
     let n = sizes.vertices;
     let m = sizes.edges;
     let different = searches::count_different(game, n, m);
-    Reading::Accepted(Sizes {
+    Ok(Sizes {
         vertices: n,
         edges: m,
         different,
@@ -28,7 +25,7 @@ pub fn read(game: &[u16]) -> Reading
 }
 
 // Judges a game table: refusals 1 to 6 and 8 in order, each over the whole table before the next. A part of the calls; no host calls it.
-pub fn read_sizes(game: &[u16]) -> Filling
+pub fn read_sizes(game: &[u16]) -> Result<FilledSizes, Refusal>
     ensures { filling_answer result ≡ sizes_answer game.now }
 {
     let len = game.len();
@@ -58,16 +55,10 @@ pub fn read_sizes(game: &[u16]) -> Filling
     if lacking < n {
         return refused(8, lacking);
     }
-    Filling::Accepted(FilledSizes {
+    Ok(FilledSizes {
         vertices: n,
         edges: m,
     })
-}
-
-fn refused(number: u32, place: usize) -> Filling
-    ensures { result ≡ Filling.Refused (record { number = number; place = place }) }
-{
-    Filling::Refused(Refusal { number, place })
 }
 
 // The kind of a refusal: 1 the game, 2 the relation, 3 the plan, 4 the memory, 5 later additions, 0 for any other number.

@@ -9,48 +9,39 @@ pub struct Generator {
 
 // A draw and the generator's next state.
 #[derive(Clone, Copy)]
-pub struct Draw {
-    pub value: u32,
+pub struct Draw<T> {
+    pub value: T,
     pub next: Generator,
 }
 
-// A draw reduced to a word, and the generator's next state.
-#[derive(Clone, Copy)]
-pub struct Word {
-    pub value: u16,
-    pub next: Generator,
-}
-
-// a × b modulo 4,294,967,296. The product fits 64 bits.
+// a × b modulo 4,294,967,296.
 fn wrapping_mul(a: u32, b: u32) -> u32
     ensures { result ≡ (a * b) % 4294967296 }
 {
-    let product = a as u64 * b as u64;
-    (product % 4294967296) as u32
+    a.wrapping_mul(b)
 }
 
 impl Generator {
     // A step, and the draw of its new state.
-    pub fn draw(self) -> Draw
+    pub fn draw(self) -> Draw<u32>
         ensures { (result.value ≡ draw_of self.state) × (result.next.state ≡ step self.state) }
     {
-        let state = std::num::wrapping_add_u32(wrapping_mul(self.state, 1664525), 1013904223);
+        let state = wrapping_mul(self.state, 1664525).wrapping_add(1013904223);
         Draw {
             value: state / 65536,
             next: Generator { state },
         }
     }
 
-    // A draw modulo `limit`.
-    pub fn draw_below(self, limit: u32) -> Word
+    // A draw modulo `limit`, a word.
+    pub fn draw_below(self, limit: u32) -> Draw<u16>
         requires { 0 < limit }
         ensures { (result.value ≡ draw_of self.state % limit) × (result.next.state ≡ step self.state) }
     {
         let draw = self.draw();
-        let next = draw.next;
-        Word {
+        Draw {
             value: (draw.value % limit) as u16,
-            next,
+            next: draw.next,
         }
     }
 }

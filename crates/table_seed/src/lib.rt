@@ -9,7 +9,7 @@ ghost use Rattle.table.specs.Filling.{filling_answer};
 ghost use Rattle.table_seed.specs.SeedCall.{outside, unfit, SeedCall};
 
 use table::limits::{EDGES, VERTICES};
-use table::{FilledSizes, Filling, Refusal};
+use table::{FilledSizes, Refusal, refused};
 
 // The largest degree and the largest count of priorities.
 pub const DEGREES: usize = 16;
@@ -46,27 +46,21 @@ pub fn write_seeded(
     degree: u32,
     priorities: u32,
     output: &mut [u16],
-) -> Filling
+) -> Result<FilledSizes, Refusal>
     ensures { SeedCall seed vertices degree priorities output.old (filling_answer result) output.new }
 {
     if is_unfit(vertices, degree, priorities) {
-        return Filling::Refused(Refusal {
-            number: 31,
-            place: 0,
-        });
+        return refused(31, 0);
     }
     let n = vertices as usize;
     let d = degree as usize;
     let m = n * d;
     let needed = 2 + 2 * n + 2 * m;
     if output.len() < needed {
-        return Filling::Refused(Refusal {
-            number: 32,
-            place: needed,
-        });
+        return refused(32, needed);
     }
     writing::write_table(seed, n, d, priorities, output);
-    Filling::Accepted(FilledSizes {
+    Ok(FilledSizes {
         vertices: n,
         edges: m,
     })

@@ -35,10 +35,8 @@ fn write_edges(generator: Generator, n: usize, d: usize, v: usize, output: &mut 
 {
     let m = n * d;
     let mut next = generator;
-    let mut i = 0;
-    while i < d {
+    for i in 0..d {
         next = write_edge(next, n, m, v, v * d + i, output);
-        i += 1;
     }
     next
 }
@@ -71,9 +69,7 @@ pub fn write_table(seed: u32, n: usize, d: usize, c: u32, output: &mut [u16])
     output[0] = n as u16;
     output[1] = (n * d) as u16;
     let mut generator = Generator { state: seed };
-    let mut v = 0;
-    while v < n {
+    for v in 0..n {
         generator = write_vertex(generator, n, d, c, v, output);
-        v += 1;
     }
 }

@@ -1,5 +1,5 @@
 -- The promise of the verdict call at each way out, from the promises of the reader, the reduced-game call and the plan acceptor.
-use Rattle.std.specs.Prelude.{◌≡◌, ◌≢◌, ℕ, ◌+◌, ◌≤◌, ◌<◌, eqb, leb, length, get_or}
+use Rattle.std.specs.Prelude.{◌≡◌, ◌≢◌, ℕ, ◌+◌, ◌≤◌, ◌<◌, eqb, leb, length, get_or, Result, Ok, Err}
 use Rattle.std.proofs.Math.Path.{sym, ap, ap₂}
 use Rattle.std.proofs.Common.{◌∙◌, arith, le-leb, eq-eqb, ne_eqb}
 use mathlib.Core.List.{List, [], ◌∷◌, ◌++◌, append_assoc}
@@ -16,8 +16,6 @@ use Rattle.table.specs.ReadingLaws.{read_accepted, reading_accepted, well_clean}
 use Rattle.table.specs.WellFormed.{WellFormed, WellSized}
 use Rattle.table.specs.declared.FilledSizes.{FilledSizes}
 use Rattle.table.specs.declared.Refusal.{Refusal}
-use Rattle.table.specs.declared.Filling.{Filling}
-use Rattle.table.specs.declared.Filling.TheVariants.{Accepted, Refused}
 use Rattle.order.specs.OrderCall.{order_bytes}
 use Rattle.classes.specs.ClassesCall.{memory_rows, class_rows, class_words}
 use Rattle.reduction.specs.TableCall.{table_rows, table_counts, class_table, TableCall}
@@ -74,7 +72,7 @@ module _ (table : List ℕ) (player : ℕ) (plan : List ℕ) (class : ℕ) (c : 
 -- ---- what the reader and the reduced-game call leave
 
 -- the reader accepted
-pub read_sized : {game : List ℕ} {reading : Filling} {sizes : FilledSizes} → reading ≡ Accepted sizes → filling_answer reading ≡ sizes_answer game → WellSized game sizes
+pub read_sized : {game : List ℕ} {reading : Result FilledSizes Refusal} {sizes : FilledSizes} → reading ≡ Ok sizes → filling_answer reading ≡ sizes_answer game → WellSized game sizes
 read_sized {game} e a = reading_accepted game _ (rw e at a)
 
 module _ {game marks spare classes reduction : List ℕ} {answer : Answer} {marks' spare' classes' reduction' : List ℕ}
@@ -135,7 +133,7 @@ module _ (game : List ℕ) (vertex player : ℕ) (plan marks spare classes reduc
   room = memory_row 24 (table_length (vertex_count game) (table_edges game)) reduction ∷ []
 
   -- the reader's refusal, taken out of its verdict
-  pub verdict_handed : (reading : Filling) (f g : Refusal) → reading ≡ Refused f → filling_answer reading ≡ sizes_answer game → g ≡ refusal_of reading
+  pub verdict_handed : (reading : Result FilledSizes Refusal) (f g : Refusal) → reading ≡ Err f → filling_answer reading ≡ sizes_answer game → g ≡ refusal_of reading
       → Call (refused g.number g.place) marks spare classes reduction
   unfolding before_plan_rows sizes_answer
   verdict_handed reading f g e a r =

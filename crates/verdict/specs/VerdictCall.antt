@@ -1,5 +1,5 @@
 -- The verdict call: document 02, CR 14, with its table of refusals. The plan is on the reduced game.
-use Rattle.std.specs.Prelude.{◌≡◌, List, [], ◌∷◌, ◌++◌, ℕ, eqb, leb, length}
+use Rattle.std.specs.Prelude.{◌≡◌, List, [], ◌∷◌, ◌++◌, ℕ, eqb, leb, length, Result, Ok, Err}
 use Rattle.theory.specs.Logic.Bools.{bit}
 use Rattle.theory.specs.Classes.Reduction.{reduced, class_of}
 use Rattle.table.specs.Table.{vertex_count, table_edges, table_length, game_of}
@@ -11,13 +11,14 @@ use Rattle.reduction.specs.TableCall.{table_counts, class_table}
 use Rattle.reduction.specs.declared.TableCounts.{TableCounts}
 use Rattle.plan_links.specs.PlanTable.{vertex_at}
 use Rattle.plan.specs.Acceptance.{plan_rows}
+use Rattle.table.specs.declared.Refusal.{Refusal}
 use Rattle.verdict.specs.declared.Verdict.{Verdict}
 
 -- the numbers of each case: the counts with 1 for "wins" and 0 for "not shown", or the refusal
-abbrev pub verdict_answer : Verdict → Answer
-verdict_answer (Verdict.Wins c) = accepted (c.classes ∷ c.vertices ∷ c.edges ∷ 1 ∷ [])
-verdict_answer (Verdict.NotShown c) = accepted (c.classes ∷ c.vertices ∷ c.edges ∷ 0 ∷ [])
-verdict_answer (Verdict.Refused f) = refused f.number f.place
+abbrev pub verdict_answer : Result Verdict Refusal → Answer
+verdict_answer (Ok (Verdict.Wins c)) = accepted (c.classes ∷ c.vertices ∷ c.edges ∷ 1 ∷ [])
+verdict_answer (Ok (Verdict.NotShown c)) = accepted (c.classes ∷ c.vertices ∷ c.edges ∷ 0 ∷ [])
+verdict_answer (Err f) = refused f.number f.place
 
 -- 1 to 8; 33, "a vertex not below n"; 21 to 24: what is judged before order, classes and reduction are written
 unfoldable pub before_plan_rows : List ℕ → ℕ → List ℕ → List ℕ → List ℕ → List ℕ → List Row

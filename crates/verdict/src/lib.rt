@@ -7,15 +7,14 @@ ghost use Rattle.table.specs.WellFormed.{WellFormed};
 ghost use Rattle.verdict.specs.VerdictCall.{verdict_answer, start_answer, VerdictCall};
 
 use plan::judge_plan;
-use reduction::{TableCounts, Tabulation, tabulate_classes};
-use table::{Acceptance, Filling, Refusal, refusal_of};
+use reduction::{TableCounts, tabulate_classes};
+use table::{Refusal, refusal_of, refused};
 
 // What is confirmed of a player and a vertex. Wins and NotShown carry the number of classes and the reduced game's vertices and edges.
 #[derive(Clone, Copy)]
 pub enum Verdict {
     Wins(TableCounts),
     NotShown(TableCounts),
-    Refused(Refusal),
 }
 
 // Judges the game, the vertex and the memory, writes the order, the classes and the reduced game, and judges a plan on the reduced game: the
@@ -29,29 +28,21 @@ pub fn give_verdict(
     spare: &mut [u8],
     classes: &mut [u16],
     reduction: &mut [u16],
-) -> Verdict
+) -> Result<Verdict, Refusal>
     ensures { VerdictCall game.now vertex player plan.now marks.old spare.old classes.old reduction.old (verdict_answer result)
         marks.new spare.new classes.new reduction.new }
 {
     let reading = table_reader::read_sizes(game);
-    let Filling::Accepted(sizes) = reading else {
-        return Verdict::Refused(refusal_of(reading));
+    let Ok(sizes) = reading else {
+        return Err(refusal_of(reading));
     };
     let v = vertex as usize;
     if sizes.vertices <= v {
-        return Verdict::Refused(Refusal {
-            number: 33,
-            place: v,
-        });
+        return refused(33, v);
     }
-    let written = tabulate_classes(game, sizes, marks, spare, classes, reduction, true);
-    match written {
-        Tabulation::Accepted(counts) => {
-            let size = 2 + 2 * counts.vertices + 2 * counts.edges;
-            judge_reduced(&reduction[..size], player, plan, classes[v], counts)
-        }
-        Tabulation::Refused(refusal) => Verdict::Refused(refusal),
-    }
+    let counts = tabulate_classes(game, sizes, marks, spare, classes, reduction, true)?;
+    let size = 2 + 2 * counts.vertices + 2 * counts.edges;
+    judge_reduced(&reduction[..size], player, plan, classes[v], counts)
 }
 
 // 11 to 16 about the reduced game, whose table is well formed as it was written, and whether the plan starts at the class.
@@ -61,17 +52,14 @@ fn judge_reduced(
     plan: &[u16],
     class: u16,
     counts: TableCounts,
-) -> Verdict
+) -> Result<Verdict, Refusal>
     requires { WellFormed reduced.now }
     ensures { verdict_answer result ≡ start_answer reduced.now player plan.now class counts }
 {
-    let judged = judge_plan(reduced, player, plan);
-    if let Acceptance::Refused(refusal) = judged {
-        return Verdict::Refused(refusal);
-    }
+    judge_plan(reduced, player, plan)?;
     if plan[2] == class {
-        Verdict::Wins(counts)
+        Ok(Verdict::Wins(counts))
     } else {
-        Verdict::NotShown(counts)
+        Ok(Verdict::NotShown(counts))
     }
 }

@@ -1,4 +1,5 @@
 -- Each way out is a row of the order call, a row of the plan acceptor, or what is left once both are passed.
+use Rattle.std.proofs.lemmas.Result.{err_from_is_err_and}
 use Rattle.std.proofs.Common.{ap, ◌∙◌, arith}
 use Rattle.theory.specs.Order.Order.{order_marks, order_passes}
 use Rattle.table.specs.ReadingLaws.{reading_accepted}
@@ -15,41 +16,42 @@ returns-in_default c = let t = c.in_default in
     (carry_order _ _ _ _ _ _ _ _ _ (order_handed order_marks order_passes _ _ _ t.field-0 (rw t.is at c.read_sizes-reading.ensures)).verdict)
 
 pub length_for-needed-requires : goal.length_for-needed-requires
-length_for-needed-requires c = let s = reading_accepted _ _ c.in-Accepted.ensures in omega (arith, s.vertices, s.well.vertices)
+length_for-needed-requires c = let s = reading_accepted _ _ c.in-Ok.ensures in omega (arith, s.vertices, s.well.vertices)
 
 pub returns-then-marks-needed : goal.returns-then-marks-needed
-returns-then-marks-needed c = let s = reading_accepted _ _ c.in-Accepted.ensures in
+returns-then-marks-needed c = let s = reading_accepted _ _ c.in-Ok.ensures in
     let n = c.length_for-needed.ensures ∙ ap marks_length s.vertices in
-    rw n (carry_order _ _ _ _ _ _ _ _ _ (order_short_marks order_marks order_passes _ _ _ s.well (rw n at c.if-marks-needed.true)).verdict)
+    rw (c.refused.ensures, n) (carry_order _ _ _ _ _ _ _ _ _ (order_short_marks order_marks order_passes _ _ _ s.well (rw n at c.if-marks-needed.true)).verdict)
 
 pub returns-then-spare-needed : goal.returns-then-spare-needed
-returns-then-spare-needed c = let s = reading_accepted _ _ c.in-Accepted.ensures in
+returns-then-spare-needed c = let s = reading_accepted _ _ c.in-Ok.ensures in
     let n = c.length_for-needed.ensures ∙ ap marks_length s.vertices in
-    rw n
+    rw (c.refused-then-spare-needed.ensures, n)
     (carry_order _ _ _ _ _ _ _ _ _
     (order_short_spare order_marks order_passes _ _ _ s.well (rw n at c.if-marks-needed.false) (rw n at c.if-spare-needed.true)).verdict)
 
-pub judge_plan-judged-requires : goal.judge_plan-judged-requires
-judge_plan-judged-requires c = (reading_accepted _ _ c.in-Accepted.ensures).well
+pub judge_plan-requires : goal.judge_plan-requires
+judge_plan-requires c = (reading_accepted _ _ c.in-Ok.ensures).well
 
-pub returns-in-Refused : goal.returns-in-Refused
-returns-in-Refused c = let s = reading_accepted _ _ c.in-Accepted.ensures in
+pub returns-in_err-judge_plan : goal.returns-in_err-judge_plan
+returns-in_err-judge_plan c = let s = reading_accepted _ _ c.in-Ok.ensures in
     let n = c.length_for-needed.ensures ∙ ap marks_length s.vertices in
     let f : OrderFits c.args.game.now c.args.marks.now c.args.spare.now = record { game = s.well; marks_fit = rw n at c.if-marks-needed.false; spare_fit = rw n at c.if-spare-needed.false } in
-    carry_judged _ _ _ _ _ _ _ f _ _ c.in-Refused.ensures
+    let p = err_from_is_err_and c.from_residual.result c.from_residual.ensures.1 in
+    rw (p.1, p.2) (carry_judged _ _ _ _ _ _ _ f _ _ c.in_err-judge_plan.ensures)
 
 pub fill_order-requires : goal.fill_order-requires
-fill_order-requires c = let s = reading_accepted _ _ c.in-Accepted.ensures in
+fill_order-requires c = let s = reading_accepted _ _ c.in-Ok.ensures in
     let n = c.length_for-needed.ensures ∙ ap marks_length s.vertices in
     record { well_formed = s.well; game_in_bounds = (rw n at c.if-marks-needed.false, rw n at c.if-spare-needed.false) }
 
 pub carry_to-requires : goal.carry_to-requires
-carry_to-requires c = let s = reading_accepted _ _ c.in-Accepted.ensures in
+carry_to-requires c = let s = reading_accepted _ _ c.in-Ok.ensures in
     let n = c.length_for-needed.ensures ∙ ap marks_length s.vertices in
-    own_can _ _ _ s.well (ordered_done (rw n at c.if-marks-needed.false) c.fill_order.ensures) c.in_default-judged.ensures
+    own_can _ _ _ s.well (ordered_done (rw n at c.if-marks-needed.false) c.fill_order.ensures) c.in_ok-judge_plan.ensures
 
 pub returns : goal.returns
-returns c = let s = reading_accepted _ _ c.in-Accepted.ensures in
+returns c = let s = reading_accepted _ _ c.in-Ok.ensures in
     let n = c.length_for-needed.ensures ∙ ap marks_length s.vertices in
     let f : OrderFits c.args.game.now c.args.marks.now c.args.spare.now = record { game = s.well; marks_fit = rw n at c.if-marks-needed.false; spare_fit = rw n at c.if-spare-needed.false } in
-    carry_arrived _ _ _ _ _ _ _ f c.in_default-judged.ensures _ _ _ c.fill_order.ensures _ _ c.carry_to.ensures
+    carry_arrived _ _ _ _ _ _ _ f c.in_ok-judge_plan.ensures _ _ _ c.fill_order.ensures _ _ c.carry_to.ensures

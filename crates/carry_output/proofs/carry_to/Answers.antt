@@ -36,7 +36,7 @@ told c =
     ∙ needed_is c.args.game.now c.args.player c.args.marks.now c.requires.1 _ _ (z.inside 0 c.requires.0.formed.sized.some) c.if-n-y.false
 
 pub returns-then-n-y : goal.returns-then-n-y
-returns-then-n-y c = arrives_beyond _ _ _ _ _ _ c.if-n-y.true
+returns-then-n-y c = rw c.refused.ensures (arrives_beyond _ _ _ _ _ _ c.if-n-y.true)
 
 pub overflow_cast-x : goal.overflow_cast-x
 overflow_cast-x c = omega (arith, (seated c.before.before).inside 0 c.requires.0.formed.sized.some, c.requires.0.well.vertices)
@@ -46,11 +46,12 @@ unfolding game_of
 no_better-requires c = ((seated c.before.before).inside 0 c.requires.0.formed.sized.some, c.if-n-y.false, c.requires.0.well.vertices, c.requires.1.long)
 
 pub returns-then-not-no_better : goal.returns-then-not-no_better
-returns-then-not-no_better c = arrives_not _ _ _ _ _ _ _ (seat c.before.before.before.before) c.if-n-y.false (sym (told c.before.before) ∙ c.if-not-no_better.true)
+returns-then-not-no_better c = rw c.refused-then-not-no_better.ensures
+    (arrives_not _ _ _ _ _ _ _ (seat c.before.before.before.before.before) c.if-n-y.false (sym (told c.before.before.before) ∙ c.if-not-no_better.true))
 
 pub carry_seated-requires : goal.carry_seated-requires
-carry_seated-requires c = record { seated = seated c.before.before.before.before.before.before; y_bound = c.if-n-y.false }
+carry_seated-requires c = record { seated = seated c.before.before.before.before.before.before.before; y_bound = c.if-n-y.false }
 
 pub returns : goal.returns
-returns c = arrives _ _ _ _ _ _ _ c.requires.0.well c.seat_positions.ensures c.if-n-y.false (rw (seat c.before.before.before.before.before.before.before.before.before) at (sym (told c.before.before.before.before.before.before.before) ∙ c.if-not-no_better.false)) _ _
+returns c = arrives _ _ _ _ _ _ _ c.requires.0.well c.seat_positions.ensures c.if-n-y.false (rw (seat c.before.before.before.before.before.before.before.before.before.before) at (sym (told c.before.before.before.before.before.before.before.before) ∙ c.if-not-no_better.false)) _ _
     c.carry_seated.ensures

@@ -19,14 +19,14 @@ spare_fits c = le-ltb _ _ (rw c.length_for-needed.ensures at c.if-spare-needed.f
 
 pub returns-then-marks-needed : goal.returns-then-marks-needed
 returns-then-marks-needed c = let l = c.length_for-needed.ensures in
-    rw (c.short.ensures, l) (sym (judge_hit _ _ _ (lt-ltb _ _ (rw l at c.if-marks-needed.true))))
+    rw (c.refused.ensures, l) (sym (judge_hit _ _ _ (lt-ltb _ _ (rw l at c.if-marks-needed.true))))
 
 pub returns-then-spare-needed : goal.returns-then-spare-needed
 returns-then-spare-needed c = let l = c.length_for-needed.ensures in
-    rw (c.short-then-spare-needed.ensures, l) (sym (judge_next _ _ _ (marks_fit c.before.before) ∙ judge_hit _ _ _ (lt-ltb _ _ (rw l at c.if-spare-needed.true))))
+    rw (c.refused-then-spare-needed.ensures, l) (sym (judge_next _ _ _ (marks_fit c.before.before) ∙ judge_hit _ _ _ (lt-ltb _ _ (rw l at c.if-spare-needed.true))))
 
 pub returns-then-classes-n : goal.returns-then-classes-n
-returns-then-classes-n c = rw c.short-then-classes-n.ensures
+returns-then-classes-n c = rw c.refused-then-classes-n.ensures
     (sym (judge_next _ _ _ (marks_fit c.before.before.before) ∙ judge_next _ _ _ (spare_fits c.before.before) ∙ judge_hit _ _ _ (lt-ltb _ _ c.if-classes-n.true)))
 
 pub returns : goal.returns

@@ -6,4 +6,4 @@ pub returns-in_default : goal.returns-in_default
 returns-in_default c = call_handed _ _ _ _ _ _ _ _ _ _ _ _ c.in_default.is c.read_in-reading.ensures c.refusal_of.ensures
 
 pub edit_table-requires : goal.edit_table-requires
-edit_table-requires c = formed c.args.buffer.now c.in-Accepted.is c.read_in-reading.ensures
+edit_table-requires c = formed c.args.buffer.now c.in-Ok.is c.read_in-reading.ensures

@@ -6,4 +6,4 @@ pub returns-in_default : goal.returns-in_default
 returns-in_default c = call_handed _ _ _ _ _ _ _ _ _ _ _ _ c.in_default.is c.read_in-reading.ensures c.refusal_of.ensures
 
 pub preview_table-requires : goal.preview_table-requires
-preview_table-requires c = formed c.args.game.now c.in-Accepted.is c.read_in-reading.ensures
+preview_table-requires c = formed c.args.game.now c.in-Ok.is c.read_in-reading.ensures

@@ -28,8 +28,8 @@ slice_bounds-fill_memory-end-2 c = sym (length-take-le _ _ (ran_room c.requires.
 pub fill_memory-k-requires : goal.fill_memory-k-requires
 fill_memory-k-requires c = ran_memory c.requires.formed.0 c.run_entries-run.ensures c.requires.formed.1
 
-pub returns-in-Refused : goal.returns-in-Refused
-returns-in-Refused c = ran_refused c.requires.formed.0 c.run_entries-run.ensures (rw (ran_part c.requires.formed.0 c.run_entries-run.ensures) at c.fill_memory-k.ensures) _ c.in-Refused.is
+pub returns-in-Err : goal.returns-in-Err
+returns-in-Err c = ran_refused c.requires.formed.0 c.run_entries-run.ensures (rw (ran_part c.requires.formed.0 c.run_entries-run.ensures) at c.fill_memory-k.ensures) _ c.in-Err.is
 
 pub returns : goal.returns
 returns c = ran_accepted c.requires.formed.0 c.run_entries-run.ensures (rw (ran_part c.requires.formed.0 c.run_entries-run.ensures) at c.fill_memory-k.ensures) _ c.in_default.is

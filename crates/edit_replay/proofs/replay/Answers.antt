@@ -7,4 +7,4 @@ pub returns-in_default : goal.returns-in_default
 returns-in_default c = start_handed _ _ _ _ _ _ _ _ c.in_default.is c.read_in-reading.ensures c.refusal_of.ensures
 
 pub replay_table-requires : goal.replay_table-requires
-replay_table-requires c = formed c.args.buffer.now c.in-Accepted.is c.read_in-reading.ensures
+replay_table-requires c = formed c.args.buffer.now c.in-Ok.is c.read_in-reading.ensures

@@ -6,11 +6,11 @@ use Rattle.edit_replay.proofs.replay_table.Goals as goal
 pub judge_memory-memory-requires : goal.judge_memory-memory-requires
 judge_memory-memory-requires c = omega (arith, c.requires.vertices, c.requires.well.vertices)
 
-pub returns-in-Short : goal.returns-in-Short
-returns-in-Short c = start_short _ _ _ _ _ c.requires _ (rw c.in-Short.is at c.judge_memory-memory.ensures)
+pub returns-in-Err : goal.returns-in-Err
+returns-in-Err c = start_short _ _ _ _ _ c.requires _ (rw c.in-Err.is at c.judge_memory-memory.ensures)
 
-pub returns-in-Refused : goal.returns-in-Refused
-returns-in-Refused c = start_unfit _ _ _ _ _ c.requires (rw c.in_default.is at c.judge_memory-memory.ensures) _ (rw c.in-Refused.is at c.judge_trace-judged.ensures)
+pub returns-in-Err-judged : goal.returns-in-Err-judged
+returns-in-Err-judged c = start_unfit _ _ _ _ _ c.requires (rw c.in_default.is at c.judge_memory-memory.ensures) _ (rw c.in-Err-judged.is at c.judge_trace-judged.ensures)
 
 pub apply_trace-requires : goal.apply_trace-requires
 apply_trace-requires c = record {

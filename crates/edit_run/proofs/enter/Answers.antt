@@ -1,4 +1,5 @@
 -- Each way out is what the judge says of the entry by what is held, and the counts are taken over to the next.
+use Rattle.std.proofs.lemmas.Result.{err_from_is_err_and}
 use Rattle.std.proofs.Common.{◌+◌, ◌≤◌, ◌<◌, ℕ, List, [], length, get_or, refl, sym, ap, ◌∙◌, arith}
 use Rattle.table.specs.Answers.{Row, judge}
 use Rattle.table.specs.AnswersLaws.{judge_accepted}
@@ -56,13 +57,14 @@ overflow_cast-degree c =
     let q = c.requires.n_le_vertex_limit in
     omega (arith, fit p.0 p.1 p.2 p.3 c.requires.tallied q.3 q.4, q)
 
-pub returns-in-Refused : goal.returns-in-Refused
-returns-in-Refused c =
+pub returns-in_err-judge_edit : goal.returns-in_err-judge_edit
+returns-in_err-judge_edit c =
+    let h = err_from_is_err_and c.from_residual.result c.from_residual.ensures.1 in
     let p = c.requires.pairs in
     let q = c.requires.n_le_vertex_limit in
     let f = fit p.0 p.1 p.2 p.3 c.requires.tallied q.3 q.4 in
     let facts = facts_are _ _ _ _ p.1 _ p.2 _ p.3 _ _ _ c.requires.tallied q.3 f.wide _ _ _ c.find_edit.ensures in
-    (rw c.in-Refused.is at c.judge_edit-judged.ensures ∙ ap (λ (rs : List Row). judge rs []) facts, refl, refl)
+    rw (h.1, h.2) (c.in_err-judge_edit.ensures ∙ ap (λ (rs : List Row). judge rs []) facts, refl, refl)
 
 pub overflow_cast-next : goal.overflow_cast-next
 overflow_cast-next c =
@@ -116,7 +118,7 @@ returns c =
     let q = c.requires.n_le_vertex_limit in
     let f = fit p.0 p.1 p.2 p.3 c.requires.tallied q.3 q.4 in
     let facts = facts_are _ _ _ _ p.1 _ p.2 _ p.3 _ _ _ c.requires.tallied q.3 f.wide _ _ _ c.find_edit.ensures in (
-      (judge_accepted _ [] [] (sym (rw c.in_default.is at c.judge_edit-judged.ensures ∙ ap (λ (rs : List Row). judge rs []) facts))).0,
+      (judge_accepted _ [] [] (sym (c.in_ok-judge_edit.ensures ∙ ap (λ (rs : List Row). judge rs []) facts))).0,
       rw (c.flip.ensures, c.step.ensures, c.step-2.ensures)
           (tallied_more _ _ _ _ p.1 _ p.2 _ p.3 _ _ _ c.requires.tallied q.3 f.wide),
     )

@@ -9,7 +9,7 @@ returns-in_default c = let t = c.in_default in
     rw (c.refusal_of.ensures, t.is) (order_handed _ _ _ _ _ t.field-0 (rw t.is at c.read_sizes-reading.ensures))
 
 pub write_relation-requires : goal.write_relation-requires
-write_relation-requires c = let s = reading_accepted _ _ (rw c.in-Accepted.is at c.read_sizes-reading.ensures) in (s.well, s.vertices)
+write_relation-requires c = let s = reading_accepted _ _ (rw c.in-Ok.is at c.read_sizes-reading.ensures) in (s.well, s.vertices)
 
 pub returns : goal.returns
 unfolding marks_by passes_by

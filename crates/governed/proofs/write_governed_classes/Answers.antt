@@ -9,7 +9,7 @@ returns-in_default c = let t = c.in_default in
     rw (c.refusal_of.ensures, t.is) (classes_handed _ _ _ _ t.field-0 (rw t.is at c.read_sizes-reading.ensures))
 
 pub write_numbered-requires : goal.write_numbered-requires
-write_numbered-requires c = let s = reading_accepted _ _ (rw c.in-Accepted.is at c.read_sizes-reading.ensures) in (s.well, s.vertices)
+write_numbered-requires c = let s = reading_accepted _ _ (rw c.in-Ok.is at c.read_sizes-reading.ensures) in (s.well, s.vertices)
 
 pub returns : goal.returns
 unfolding marks_by relation_by

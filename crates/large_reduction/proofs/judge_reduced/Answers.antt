@@ -5,13 +5,13 @@ use Rattle.large_reduction.proofs.ReductionCallLaws.{shifted_past, shifted_refus
 use Rattle.large_reduction.proofs.judge_reduced.Goals as goal
 
 pub overflow_add-refusal : goal.overflow_add-refusal
-overflow_add-refusal c = omega (arith, refusal_number _ c.in-Refused.refusal (rw c.in-Refused.is at c.read.ensures))
+overflow_add-refusal c = omega (arith, refusal_number _ c.in-Err.refusal (rw c.in-Err.is at c.read.ensures))
 
 pub judge_classes-requires : goal.judge_classes-requires
-judge_classes-requires c = (c.requires, (large_sized _ c.in-Accepted.field-0 (rw c.in-Accepted.is at c.read.ensures)).formed)
+judge_classes-requires c = (c.requires, (large_sized _ c.in-Ok.field-0 (rw c.in-Ok.is at c.read.ensures)).formed)
 
-pub returns-in-Refused : goal.returns-in-Refused
-returns-in-Refused c = rw c.refused.ensures (sym (shifted_refused _ c.in-Refused.refusal (rw c.in-Refused.is at c.read.ensures) _))
+pub returns-in-Err : goal.returns-in-Err
+returns-in-Err c = rw c.refused.ensures (sym (shifted_refused _ c.in-Err.refusal (rw c.in-Err.is at c.read.ensures) _))
 
-pub returns-in-Accepted : goal.returns-in-Accepted
-returns-in-Accepted c = c.judge_classes.ensures ∙ sym (shifted_past _ c.in-Accepted.field-0 (rw c.in-Accepted.is at c.read.ensures) _)
+pub returns-in-Ok : goal.returns-in-Ok
+returns-in-Ok c = c.judge_classes.ensures ∙ sym (shifted_past _ c.in-Ok.field-0 (rw c.in-Ok.is at c.read.ensures) _)

@@ -17,11 +17,11 @@ length_for-needed-requires c = let p = c.requires in omega (arith, p.1, p.0.vert
 
 pub returns-then-marks-needed : goal.returns-then-marks-needed
 returns-then-marks-needed c = let e = needed _ _ c.args.game.now c.length_for-needed.ensures c.requires.1 in
-    rw e (order_short_marks _ _ _ _ _ c.requires.0 (rw e at c.if-marks-needed.true))
+    rw (c.refused.ensures, e) (order_short_marks _ _ _ _ _ c.requires.0 (rw e at c.if-marks-needed.true))
 
 pub returns-then-spare-needed : goal.returns-then-spare-needed
 returns-then-spare-needed c = let e = needed _ _ c.args.game.now c.length_for-needed.ensures c.requires.1 in
-    rw e (order_short_spare _ _ _ _ _ c.requires.0 (rw e at c.if-marks-needed.false) (rw e at c.if-spare-needed.true))
+    rw (c.refused-then-spare-needed.ensures, e) (order_short_spare _ _ _ _ _ c.requires.0 (rw e at c.if-marks-needed.false) (rw e at c.if-spare-needed.true))
 
 pub fill_relation-passes-requires : goal.fill_relation-passes-requires
 fill_relation-passes-requires c = let e = needed _ _ c.args.game.now c.length_for-needed.ensures c.requires.1 in

@@ -11,8 +11,8 @@ returns-in_default c =
     rw (c.refusal_of.ensures, d.is) (sym (reading_stays _ d.field-0 (rw d.is at c.read_sizes-reading.ensures) _ _))
 
 pub judge_plan-requires : goal.judge_plan-requires
-judge_plan-requires c = (reading_accepted _ c.in-Accepted.field-0 (rw c.in-Accepted.is at c.read_sizes-reading.ensures)).well
+judge_plan-requires c = (reading_accepted _ c.in-Ok.field-0 (rw c.in-Ok.is at c.read_sizes-reading.ensures)).well
 
 pub returns : goal.returns
 unfolding plan_answer
-returns c = c.judge_plan.ensures ∙ sym (reading_past _ c.in-Accepted.field-0 (rw c.in-Accepted.is at c.read_sizes-reading.ensures) _ _)
+returns c = c.judge_plan.ensures ∙ sym (reading_past _ c.in-Ok.field-0 (rw c.in-Ok.is at c.read_sizes-reading.ensures) _ _)

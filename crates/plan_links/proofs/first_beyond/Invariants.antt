@@ -1,4 +1,3 @@
-use Prim.Native.Nat.{◌≤◌, ◌-◌}
 use mathlib.Core.Path.{◌≡◌}
 use lib.ListN.{length}
 use Rattle.theory.specs.Logic.Range.{first}
@@ -6,7 +5,4 @@ use Rattle.plan_links.specs.Refusals.{beyond}
 use Rattle.plan_links.proofs.first_beyond.Given as goal
 
 abbrev pub invariant-loop-k : goal.invariant-loop-k
-invariant-loop-k l = (l.k ≤ length l.plan) × (first (beyond l.n l.plan) 2 (length l.plan) ≡ first (beyond l.n l.plan) l.k (length l.plan))
-
-abbrev pub decreases-loop-k : goal.decreases-loop-k
-decreases-loop-k l = length l.plan - l.k
+invariant-loop-k l = first (beyond l.n l.plan) 2 (length l.plan) ≡ first (beyond l.n l.plan) l.k (length l.plan)

@@ -7,13 +7,13 @@ use Rattle.plan_links.proofs.first_straying.Goals as goal
 
 pub loop-k-init : goal.loop-k-init
 unfolding first_stray
-loop-k-init c = (omega arith, refl)
+loop-k-init c = refl
 
 pub returns-then-strays : goal.returns-then-strays
-returns-then-strays c = sym (c.loop-k.invariant.1 ∙ first_hit _ _ _ c.loop-k-test.true (sym c.strays.ensures ∙ c.if-strays.true))
+returns-then-strays c = sym (c.loop-k.invariant ∙ first_hit _ _ _ c.loop-k-test.true (sym c.strays.ensures ∙ c.if-strays.true))
 
 pub loop-k-preserved : goal.loop-k-preserved
-loop-k-preserved c = (omega (arith, c.loop-k-test.true), c.loop-k.invariant.1 ∙ first_step _ _ _ c.loop-k-test.true (sym c.strays.ensures ∙ c.if-strays.false))
+loop-k-preserved c = c.loop-k.invariant ∙ first_step _ _ _ c.loop-k-test.true (sym c.strays.ensures ∙ c.if-strays.false)
 
 pub returns : goal.returns
-returns c = sym (c.loop-k.invariant.1 ∙ first_end_lem _ _ _ c.loop-k-test.false)
+returns c = omega (arith, c.loop-k.invariant, first_end_lem (strays c.args.game.now c.args.plan.now) _ _ c.loop-k-test.false)

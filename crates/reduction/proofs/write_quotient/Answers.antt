@@ -7,7 +7,7 @@ pub returns-in_default : goal.returns-in_default
 returns-in_default c = table_handed _ _ _ _ _ _ _ _ _ c.in_default.is c.read_sizes-reading.ensures c.refusal_of.ensures
 
 pub tabulate_classes-requires : goal.tabulate_classes-requires
-tabulate_classes-requires c = sized c.in-Accepted.is c.read_sizes-reading.ensures
+tabulate_classes-requires c = sized c.in-Ok.is c.read_sizes-reading.ensures
 
 pub returns : goal.returns
 unfolding game_by

@@ -1,25 +1,27 @@
--- Invariant: the total is the sum of the first c words, each below 65,536.
-use mathlib.Core.Path.{◌≡◌}
-use Prim.Native.Nat.{◌*◌, ◌-◌, ◌≤◌}
-use native.Mathlib.Omega.{arith}
-use lib.ListN.{get_or}
+-- The words are below 65,536, so the sum of at most 512 fits.
+use Rattle.std.proofs.Common.{rules, ◌≡◌, ◌≤◌, ◌<◌, ◌^◌, ◌∙◌, length, get_or, ℕ, List, zero, suc, take, arith, add-one}
+use Rattle.std.specs.List.{sum_by}
+use Rattle.std.proofs.lemmas.List.Sums.{sum_by_more}
 use Rattle.theory.specs.Logic.Range.{sum}
-use Rattle.theory.proofs.Logic.SumLaws.{sum_none, sum_next}
-use Rattle.std.proofs.Common.{rules}
+use Rattle.theory.proofs.Logic.SumLaws.{sum_none, sum_next, sum_le}
 use Rattle.reduction_totals.proofs.sum_of.Goals as goal
 
-pub loop-c-init : goal.loop-c-init
-loop-c-init c = (search rules, search rules, sum_none _)
+-- the library's sum of the first k words
+same : (k : ℕ) (words : List ℕ) → k ≤ length words → sum_by (λ x. x) (take k words) ≡ sum k (λ c. get_or words c 0)
+same zero words h = sum_none (λ c. get_or words c 0)
+same (suc k) words h =
+    let e = sum_by_more (λ (x : ℕ). x) words k 0 (omega arith) in
+    let s = sum_next (λ c. get_or words c 0) k in
+    let i = same k words (omega arith) in
+    rw (← add-one k) (omega (arith, e, s, i))
 
-pub overflow_add-total : goal.overflow_add-total
-overflow_add-total c = let l = c.loop-c in
-    omega (arith, l.invariant.1, c.type_inv.values l.c)
-
-pub loop-c-preserved : goal.loop-c-preserved
-loop-c-preserved c = let l = c.loop-c in
-    (search rules, omega (arith, l.invariant.1, c.type_inv.values l.c), omega (arith, l.invariant.2, sum_next (λ i. get_or c.args.values.now i 0) l.c))
+pub sum-requires-clause-fits : goal.sum-requires-clause-fits
+sum-requires-clause-fits c = let a = c.args in
+    let s : (n : ℕ) → n ≤ a.k → sum_by (λ (x : ℕ). x) (take n a.values.now) < 2 ^ 64 =
+    λ n h. omega (arith, same n a.values.now (omega arith), sum_le n 65535 (λ c. get_or a.values.now c 0) (λ v. omega (arith, c.type_inv.values v))) in
+    search rules
 
 pub returns : goal.returns
-returns c = let l = c.loop-c in
-    let e : l.c ≡ c.args.k = omega arith in
-    rw e at l.invariant.2
+returns c = let a = c.args in
+    let s : c.sum.result ≡ sum_by (λ (x : ℕ). x) (take a.k a.values.now) = search rules in
+    s ∙ same a.k a.values.now c.requires.1

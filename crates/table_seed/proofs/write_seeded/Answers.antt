@@ -18,7 +18,7 @@ fit : (c : lts.Else1 tie.the-claims reads.Pre reads.Post) → let a = c.args in 
 fit c = (unfit_fails _ _ _).0 (fails c)
 
 pub returns-then-is_unfit : goal.returns-then-is_unfit
-returns-then-is_unfit c = seed_unfit _ _ _ _ _ (sym c.is_unfit.ensures ∙ c.if-is_unfit.true)
+returns-then-is_unfit c = rw c.refused.ensures (seed_unfit _ _ _ _ _ (sym c.is_unfit.ensures ∙ c.if-is_unfit.true))
 
 pub overflow_mul-m : goal.overflow_mul-m
 overflow_mul-m c = let a = c.args in
@@ -31,7 +31,7 @@ pub overflow_add-needed-2 : goal.overflow_add-needed-2
 overflow_add-needed-2 c = omega (arith, (fit c.before).edges, (fit c.before).vertices.few)
 
 pub returns-then-output-needed : goal.returns-then-output-needed
-returns-then-output-needed c = seed_short _ _ _ _ _ (fails c.before.before) c.if-output-needed.true
+returns-then-output-needed c = rw c.refused-then-output-needed.ensures (seed_short _ _ _ _ _ (fails c.before.before.before) c.if-output-needed.true)
 
 pub write_table-requires : goal.write_table-requires
 write_table-requires c = let f = fit c.before.before in (

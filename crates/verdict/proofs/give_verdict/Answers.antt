@@ -1,4 +1,5 @@
 -- The reader's refusal, or 33; then the reduction's, or what 11 to 16 say of the table that it wrote.
+use Rattle.std.proofs.lemmas.Result.{err_from_is_err_and}
 use Rattle.std.specs.Prelude.{◌≡◌, List, ℕ, true}
 use Rattle.std.proofs.Common.{sym, ap, arith}
 use lib.Seq.{length-take-le}
@@ -22,49 +23,49 @@ returns-in_default c = verdict_handed _ _ _ _ _ _ _ _ _ _ _ c.in_default.is c.re
 
 pub returns-then-sizes-v : goal.returns-then-sizes-v
 returns-then-sizes-v c =
-    let s = read_sized c.in-Accepted.is c.read_sizes-reading.ensures in
-    verdict_beyond _ _ _ _ _ _ _ _ (well_clean _ s.well) (omega (arith, c.if-sizes-v.true, s.vertices))
+    let s = read_sized c.in-Ok.is c.read_sizes-reading.ensures in
+    rw c.refused.ensures (verdict_beyond _ _ _ _ _ _ _ _ (well_clean _ s.well) (omega (arith, c.if-sizes-v.true, s.vertices)))
 
-pub tabulate_classes-written-requires : goal.tabulate_classes-written-requires
-tabulate_classes-written-requires c = read_sized c.in-Accepted.is c.read_sizes-reading.ensures
+pub tabulate_classes-requires : goal.tabulate_classes-requires
+tabulate_classes-requires c = read_sized c.in-Ok.is c.read_sizes-reading.ensures
 
 pub overflow_mul-size : goal.overflow_mul-size
-overflow_mul-size c = omega (arith, reduced_small (table c.tabulate_classes-written.ensures) _ _ _ (ap tabulation_answer c.in-Accepted-written.is))
+overflow_mul-size c = omega (arith, reduced_small (table c.tabulate_classes.ensures) _ _ _ (ap tabulation_answer c.in_ok-counts.was))
 
 pub overflow_add-size : goal.overflow_add-size
-overflow_add-size c = omega (arith, reduced_small (table c.tabulate_classes-written.ensures) _ _ _ (ap tabulation_answer c.in-Accepted-written.is))
+overflow_add-size c = omega (arith, reduced_small (table c.tabulate_classes.ensures) _ _ _ (ap tabulation_answer c.in_ok-counts.was))
 
-pub overflow_mul-size-in-Accepted-written : goal.overflow_mul-size-in-Accepted-written
-overflow_mul-size-in-Accepted-written c =
-    omega (arith, reduced_small (table c.tabulate_classes-written.ensures) _ _ _ (ap tabulation_answer c.in-Accepted-written.is))
+pub overflow_mul-size-2 : goal.overflow_mul-size-2
+overflow_mul-size-2 c = omega (arith, reduced_small (table c.tabulate_classes.ensures) _ _ _ (ap tabulation_answer c.in_ok-counts.was))
 
-pub overflow_add-size-in-Accepted-written : goal.overflow_add-size-in-Accepted-written
-overflow_add-size-in-Accepted-written c =
-    omega (arith, reduced_small (table c.tabulate_classes-written.ensures) _ _ _ (ap tabulation_answer c.in-Accepted-written.is))
+pub overflow_add-size-2 : goal.overflow_add-size-2
+overflow_add-size-2 c = omega (arith, reduced_small (table c.tabulate_classes.ensures) _ _ _ (ap tabulation_answer c.in_ok-counts.was))
 
 pub slice_bounds-judge_reduced-end : goal.slice_bounds-judge_reduced-end
-slice_bounds-judge_reduced-end c = reduced_long (table c.tabulate_classes-written.ensures) _ _ _ (ap tabulation_answer c.in-Accepted-written.is)
+slice_bounds-judge_reduced-end c = reduced_long (table c.tabulate_classes.ensures) _ _ _ (ap tabulation_answer c.in_ok-counts.was)
 
-pub slice_bounds-judge_reduced-end-in-Accepted-written : goal.slice_bounds-judge_reduced-end-in-Accepted-written
-slice_bounds-judge_reduced-end-in-Accepted-written c =
-    sym (length-take-le _ _ (reduced_long (table c.tabulate_classes-written.ensures) _ _ _ (ap tabulation_answer c.in-Accepted-written.is)))
+pub slice_bounds-judge_reduced-end-2 : goal.slice_bounds-judge_reduced-end-2
+slice_bounds-judge_reduced-end-2 c =
+    sym (length-take-le _ _ (reduced_long (table c.tabulate_classes.ensures) _ _ _ (ap tabulation_answer c.in_ok-counts.was)))
 
 pub bounds-classes-v : goal.bounds-classes-v
 bounds-classes-v c =
-    let s = read_sized c.in-Accepted.is c.read_sizes-reading.ensures in
-    omega (arith, c.if-sizes-v.false, s.vertices, classes_long (table c.tabulate_classes-written.ensures) _ _ _ (ap tabulation_answer c.in-Accepted-written.is))
+    let s = read_sized c.in-Ok.is c.read_sizes-reading.ensures in
+    omega (arith, c.if-sizes-v.false, s.vertices, classes_long (table c.tabulate_classes.ensures) _ _ _ (ap tabulation_answer c.in_ok-counts.was))
 
 pub judge_reduced-requires : goal.judge_reduced-requires
-judge_reduced-requires c = written_well (table c.tabulate_classes-written.ensures) _ _ _ (ap tabulation_answer c.in-Accepted-written.is)
+judge_reduced-requires c = written_well (table c.tabulate_classes.ensures) _ _ _ (ap tabulation_answer c.in_ok-counts.was)
 
-pub returns-in-Accepted-written : goal.returns-in-Accepted-written
-returns-in-Accepted-written c =
-    let s = read_sized c.in-Accepted.is c.read_sizes-reading.ensures in
-    verdict_judged _ _ _ _ _ _ _ _ (well_clean _ s.well) (omega (arith, c.if-sizes-v.false, s.vertices)) (table c.tabulate_classes-written.ensures) _
-    (ap tabulation_answer c.in-Accepted-written.is) _ c.judge_reduced.ensures
+pub returns : goal.returns
+returns c =
+    let s = read_sized c.in-Ok.is c.read_sizes-reading.ensures in
+    verdict_judged _ _ _ _ _ _ _ _ (well_clean _ s.well) (omega (arith, c.if-sizes-v.false, s.vertices)) (table c.tabulate_classes.ensures) _
+    (ap tabulation_answer c.in_ok-counts.was) _ c.judge_reduced.ensures
 
-pub returns-in-Refused : goal.returns-in-Refused
-returns-in-Refused c =
-    let s = read_sized c.in-Accepted.is c.read_sizes-reading.ensures in
-    verdict_short _ _ _ _ _ _ _ _ (well_clean _ s.well) (omega (arith, c.if-sizes-v.false, s.vertices)) (table c.tabulate_classes-written.ensures) _ _
-    (ap tabulation_answer c.in-Refused.is)
+pub returns-in_err-counts : goal.returns-in_err-counts
+returns-in_err-counts c =
+    let s = read_sized c.in-Ok.is c.read_sizes-reading.ensures in
+    let p = err_from_is_err_and c.from_residual.result c.from_residual.ensures.1 in
+    rw (p.1, p.2)
+    (verdict_short _ _ _ _ _ _ _ _ (well_clean _ s.well) (omega (arith, c.if-sizes-v.false, s.vertices)) (table c.tabulate_classes.ensures) _ _
+    (ap tabulation_answer c.in_err-counts.was))

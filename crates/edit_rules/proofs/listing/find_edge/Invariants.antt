@@ -1,12 +1,8 @@
 use mathlib.Core.Path.{◌≡◌}
 use mathlib.Core.Bool.{true}
-use Prim.Native.Nat.{◌-◌, ◌≤◌}
 use Rattle.theory.specs.Logic.Range.{first}
 use Rattle.edit_rules.specs.EditParts.{leads}
 use Rattle.edit_rules.proofs.listing.find_edge.Given as goal
 
 abbrev pub invariant-loop-k : goal.invariant-loop-k
-invariant-loop-k l = (l.k ≤ l.m) × (first (leads l.table l.s l.t true) l.j l.m ≡ first (leads l.table l.s l.t true) l.k l.m)
-
-abbrev pub decreases-loop-k : goal.decreases-loop-k
-decreases-loop-k l = l.m - l.k
+invariant-loop-k l = first (leads l.table l.s l.t true) l.j l.m ≡ first (leads l.table l.s l.t true) l.k l.m

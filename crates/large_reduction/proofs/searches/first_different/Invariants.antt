@@ -1,12 +1,8 @@
 use mathlib.Core.Path.{◌≡◌}
-use Prim.Native.Nat.{◌≤◌, ◌-◌}
 use Rattle.theory.specs.Logic.Range.{first}
 use Rattle.large_reduction.specs.ReductionCall.{priority_differs}
 use Rattle.large_reduction.proofs.searches.first_different.Given as goal
 
 abbrev pub invariant-loop-v : goal.invariant-loop-v
-invariant-loop-v l = let p = priority_differs l.game l.reduced l.classes in
-    (l.v ≤ l.n) × (first p 0 l.n ≡ first p l.v l.n)
-
-abbrev pub decreases-loop-v : goal.decreases-loop-v
-decreases-loop-v l = l.n - l.v
+invariant-loop-v l = let p = priority_differs l.merge.game.now l.merge.reduced.now l.merge.classes.now in
+    first p 0 l.merge.n ≡ first p l.v l.merge.n

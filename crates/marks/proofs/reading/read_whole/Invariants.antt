@@ -1,9 +1,6 @@
-use Prim.Native.Nat.{◌-◌, ◌*◌, ◌≤◌}
+use Prim.Native.Nat.{◌*◌}
 use Rattle.marks.specs.MarkReading.{BitsRead}
 use Rattle.marks.proofs.reading.read_whole.Given as goal
 
 abbrev pub invariant-loop-k : goal.invariant-loop-k
-invariant-loop-k l = (l.k ≤ l.count) × BitsRead l.marks (l.first * 8) (8 * l.k) l.word
-
-abbrev pub decreases-loop-k : goal.decreases-loop-k
-decreases-loop-k l = l.count - l.k
+invariant-loop-k l = BitsRead l.marks (l.first * 8) (8 * l.k) l.word

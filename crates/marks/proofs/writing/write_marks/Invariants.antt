@@ -1,6 +1,5 @@
+use Prim.Native.Nat.{◌*◌}
 use mathlib.Core.Path.{◌≡◌}
-use Prim.Native.Nat.{◌-◌, ◌*◌, ◌≤◌}
-use lib.ListN.{length}
 use Rattle.theory.specs.Logic.Range.{tabulate}
 use Rattle.table.specs.Answers.{written}
 use Rattle.order_rows.specs.Bits.{cell}
@@ -9,9 +8,4 @@ use Rattle.marks.specs.MarkWriting.{row_mark}
 use Rattle.marks.proofs.writing.write_marks.Given as goal
 
 abbrev pub invariant-loop-v : goal.invariant-loop-v
-invariant-loop-v l = (l.v ≤ l.n)
-    × (length l.marks ≡ length l.initial.marks)
-    × (l.marks ≡ written (bytes (tabulate (l.v * l.n) (row_mark l.n (cell l.rows)))) l.initial.marks)
-
-abbrev pub decreases-loop-v : goal.decreases-loop-v
-decreases-loop-v l = l.n - l.v
+invariant-loop-v l = l.marks ≡ written (bytes (tabulate (l.v * l.n) (row_mark l.n (cell l.rows)))) l.initial.marks

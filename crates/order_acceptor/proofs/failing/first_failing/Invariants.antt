@@ -5,10 +5,7 @@ use Rattle.order_acceptor.specs.RowSearch.{failing_from}
 use Rattle.order_acceptor.proofs.failing.first_failing.Given as goal
 
 abbrev pub invariant-loop-w : goal.invariant-loop-w
-invariant-loop-w l = (l.w ≤ l.n) × (first_failing (pair_by l.mirror) l.game l.marks ≡ failing_from (pair_by l.mirror) l.game l.marks l.v l.w)
-
-abbrev pub decreases-loop-w : goal.decreases-loop-w
-decreases-loop-w l = l.n - l.w
+invariant-loop-w l = first_failing (pair_by l.mirror) l.game l.marks ≡ failing_from (pair_by l.mirror) l.game l.marks l.v l.w
 
 abbrev pub invariant-rows : goal.invariant-rows
 invariant-rows l = (l.v ≤ l.n) × (first_failing (pair_by l.mirror) l.game l.marks ≡ failing_from (pair_by l.mirror) l.game l.marks l.v 0)

@@ -1,13 +1,7 @@
 use mathlib.Core.Path.{◌≡◌}
-use Prim.Native.Nat.{◌-◌, ◌≤◌}
 use lib.ListN.{length}
 use Rattle.order_losses.specs.Losses.{EdgesTo}
 use Rattle.order_losses.proofs.edges.add_edges.Given as goal
 
 abbrev pub invariant-loop-j : goal.invariant-loop-j
-invariant-loop-j l = (l.j ≤ l.m)
-    × (length l.edges ≡ length l.initial.edges)
-    × EdgesTo l.game l.j l.edges
-
-abbrev pub decreases-loop-j : goal.decreases-loop-j
-decreases-loop-j l = l.m - l.j
+invariant-loop-j l = (length l.edges ≡ length l.initial.edges) × EdgesTo l.game l.j l.edges

@@ -1,14 +1,16 @@
--- The first j words of `out` are done; word j gets the bits of the 64 vertices from 64 × j on.
-use mathlib.Core.Path.{refl}
-use Rattle.order_rows.specs.RowLaws.{filled_start, filled_next, filled_end}
-use Rattle.std.proofs.Common.{rules}
+-- Word j gets the bits of the 64 vertices from 64 × j on.
+use Rattle.std.proofs.Common.{rules, arith, ℕ, ◌≡◌, ◌+◌, ◌*◌, ◌/◌, ◌%◌, ◌<◌, get_or}
+use Rattle.words.specs.Word.{word_bits, digit}
+use Rattle.words.specs.Words.{has}
+use Rattle.order_sets.specs.Losses.{differs}
 use Rattle.order_losses.proofs.values.differing.Goals as goal
 
-pub loop-j-init : goal.loop-j-init
-loop-j-init c = (search rules, filled_start _ _ refl)
-
-pub loop-j-preserved : goal.loop-j-preserved
-loop-j-preserved c = (search rules, filled_next c.loop-j.j _ _ _ c.loop-j-test.true c.loop-j.invariant.1 c.differing_word.ensures)
-
 pub returns : goal.returns
-returns c = filled_end _ _ _ c.loop-j-test.false c.loop-j.invariant.1
+unfolding has
+returns c v h =
+    let a = c.args in
+    let j = v / 64 in
+    let word : (k : ℕ) → k < word_bits → digit (get_or c.from_fn.result j 0) k ≡ differs a.words.now a.from a.n a.value (j * 64 + k) =
+    (let s = c.from_fn.ensures.items.at j 0 (omega arith) in search rules) in
+    let e : j * 64 + v % 64 ≡ v = omega arith in
+    rw e at (word (v % 64) (omega arith))

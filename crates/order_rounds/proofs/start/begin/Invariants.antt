@@ -1,18 +1,13 @@
 use mathlib.Core.Path.{◌≡◌}
-use Prim.Native.Nat.{◌-◌, ◌≤◌}
 use lib.ListN.{length}
 use Rattle.table.specs.Table.{game_of}
 use Rattle.order_rounds.specs.Rounds.{Parted, Started}
 use Rattle.order_rounds.proofs.start.begin.Given as goal
 
 abbrev pub invariant-loop-v : goal.invariant-loop-v
-invariant-loop-v l = (l.v ≤ l.n)
-    × (length l.related ≡ length l.initial.related)
+invariant-loop-v l = (length l.related ≡ length l.initial.related)
     × (length l.lost ≡ length l.initial.lost)
     × (length l.falls ≡ length l.initial.falls)
     × (length l.changed ≡ length l.initial.changed)
     × Parted (game_of l.game) l.v l.related l.lost l.falls
     × Started (game_of l.game) l.v l.changed
-
-abbrev pub decreases-loop-v : goal.decreases-loop-v
-decreases-loop-v l = l.n - l.v

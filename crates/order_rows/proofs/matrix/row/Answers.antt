@@ -1,18 +1,12 @@
--- The first k words of `out` are those of row v, since word k of the row is the word at v × WORDS + k.
-use mathlib.Core.Path.{refl, sym}
-use Rattle.order_rows.specs.RowLaws.{filled_start, filled_next, filled_end}
-use Rattle.order_rows.specs.MatrixLaws.{cell_at}
-use Rattle.std.proofs.Common.{rules}
+-- Word k of row v is the word at v × WORDS + k.
+use Rattle.std.proofs.Common.{rules, arith, ◌≡◌, ◌+◌, ◌*◌, ◌/◌, get_or, refl}
+use Rattle.words.specs.Words.{has}
+use Rattle.order_rows.specs.Bits.{cell}
 use Rattle.order_rows.proofs.matrix.row.Goals as goal
 
-pub loop-k-init : goal.loop-k-init
-loop-k-init c = (search rules, filled_start _ _ refl)
-
-pub loop-k-preserved : goal.loop-k-preserved
-loop-k-preserved c = let a = c.args in (
-  search rules,
-  filled_next c.loop-k.k _ _ _ c.loop-k-test.true c.loop-k.invariant.1 (λ j h. sym (cell_at a.words.now a.v c.loop-k.k j h)),
-)
-
 pub returns : goal.returns
-returns c = filled_end _ _ _ c.loop-k-test.false c.loop-k.invariant.1
+unfolding has cell
+returns c x h =
+    let word : get_or c.from_fn.result (x / 64) 0 ≡ get_or c.args.words.now (c.args.v * 8 + x / 64) 0 =
+    (let s = c.from_fn.ensures.items.at (x / 64) 0 (omega arith) in search rules) in
+    rw word refl

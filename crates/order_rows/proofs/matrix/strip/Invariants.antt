@@ -1,13 +1,9 @@
 use mathlib.Core.Bool.{not}
-use Prim.Native.Nat.{◌-◌, ◌≤◌}
 use Rattle.theory.specs.Logic.Bools.{◌&◌}
 use Rattle.words.specs.Words.{has}
-use Rattle.order_rows.specs.Bits.{row_words, RowIs}
+use Rattle.order_rows.specs.Bits.{RowIs}
 use Rattle.order_rows.specs.MatrixLaws.{united_to}
 use Rattle.order_rows.proofs.matrix.strip.Given as goal
 
 abbrev pub invariant-loop-j : goal.invariant-loop-j
-invariant-loop-j l = (l.j ≤ row_words) × RowIs l.out (λ x. has l.initial.out x & not (united_to l.words 0 l.which x l.j))
-
-abbrev pub decreases-loop-j : goal.decreases-loop-j
-decreases-loop-j l = row_words - l.j
+invariant-loop-j l = RowIs l.out (λ x. has l.initial.out x & not (united_to l.words 0 l.which x l.j))

@@ -1,21 +1,14 @@
--- The first k words of `out` are done: each bit of an `or` of two words is the `or` of their bits.
-use mathlib.Core.Path.{refl, sym, ap₂, ◌∙◌}
-use Rattle.theory.specs.Logic.Bools.{◌or◌}
+-- Each bit of an `or` of two words is the `or` of their bits.
+use Rattle.std.proofs.Common.{rules, arith, ◌≡◌, ◌/◌, ◌%◌, get_or, bit_or}
+use Rattle.words.specs.Words.{has}
 use Rattle.words.specs.WordLaws.{digit_or}
-use Rattle.words.specs.WordsLaws.{has_at}
-use Rattle.order_rows.specs.RowLaws.{filled_start, filled_next, filled_end}
-use Rattle.std.proofs.Common.{rules}
 use Rattle.order_rows.proofs.row.either.Goals as goal
 
-pub loop-k-init : goal.loop-k-init
-loop-k-init c = (search rules, filled_start _ _ refl)
-
-pub loop-k-preserved : goal.loop-k-preserved
-loop-k-preserved c = let a = c.args in (
-  search rules,
-  filled_next c.loop-k.k _ _ _ c.loop-k-test.true c.loop-k.invariant.1
-      (λ j h. digit_or _ _ j ∙ ap₂ ◌or◌ (sym (has_at a.a c.loop-k.k j h)) (sym (has_at a.b c.loop-k.k j h))),
-)
-
 pub returns : goal.returns
-returns c = filled_end _ _ _ c.loop-k-test.false c.loop-k.invariant.1
+unfolding has
+returns c x h =
+    let a = get_or c.args.a (x / 64) 0 in
+    let b = get_or c.args.b (x / 64) 0 in
+    let word : get_or c.from_fn.result (x / 64) 0 ≡ bit_or a b =
+    (let s = c.from_fn.ensures.items.at (x / 64) 0 (omega arith) in search rules) in
+    rw word (digit_or a b (x % 64))

@@ -1,13 +1,9 @@
 use mathlib.Core.Path.{◌≡◌}
-use Prim.Native.Nat.{◌-◌, ◌*◌, ◌≤◌}
+use Prim.Native.Nat.{◌*◌}
 use Rattle.theory.specs.Logic.Range.{any_below}
 use Rattle.words.specs.Word.{word_bits, digit}
 use Rattle.words.specs.Words.{has}
-use Rattle.order_rows.specs.Bits.{row_words}
 use Rattle.order_rows.proofs.row.is_some.Given as goal
 
-abbrev pub invariant-loop-k : goal.invariant-loop-k
-invariant-loop-k l = (l.k ≤ row_words) × (any_below word_bits (digit l.all) ≡ any_below (l.k * 64) (has l.a))
-
-abbrev pub decreases-loop-k : goal.decreases-loop-k
-decreases-loop-k l = row_words - l.k
+abbrev pub invariant-loop-word : goal.invariant-loop-word
+invariant-loop-word l = any_below word_bits (digit l.all) ≡ any_below (l.word-index * 64) (has l.fn.a)

@@ -1,34 +1,28 @@
 -- The total counts the numbers below 64 × k in the row, at most 64 × k, so it fits 32 bits.
-use mathlib.Core.Path.{◌≡◌, refl, sym, ap, ap₂, ◌∙◌}
-use Prim.Native.Nat.{ℕ, ◌+◌, ◌*◌}
+use mathlib.Core.Path.{refl, sym, ap₂, ◌∙◌}
+use Prim.Native.Nat.{◌+◌, ◌*◌}
 use native.Mathlib.Omega.{arith}
 use lib.ListN.{get_or}
 use Rattle.theory.specs.Logic.Range.{count}
 use Rattle.theory.proofs.Logic.CountLaws.{count_le}
 use Rattle.words.specs.Word.{word_bits, digit}
 use Rattle.words.specs.Words.{has}
-use Rattle.order_rows.specs.Bits.{row_words}
 use Rattle.order_rows.specs.RowLaws.{count_words}
-use Rattle.std.proofs.Common.{rules}
 use Rattle.order_rows.proofs.row.size.Goals as goal
 
-pub loop-k-init : goal.loop-k-init
+pub loop-word-init : goal.loop-word-init
 unfolding count
-loop-k-init c = (search rules, refl)
+loop-word-init c = refl
 
 pub overflow_add-total : goal.overflow_add-total
-overflow_add-total c = omega (
+overflow_add-total c = let k = c.loop-word.word-index in omega (
   arith,
-  c.loop-k.invariant.1,
+  c.loop-word.invariant,
   c.size-total.ensures,
-  count_le (c.loop-k.k * 64) (has c.args.a),
-  count_le word_bits (digit (get_or c.args.a c.loop-k.k 0)),
-  c.loop-k-test.true,
+  count_le (k * 64) (has c.args.a),
+  count_le word_bits (digit (get_or c.args.a k 0)),
+  c.loop-word-test.true,
 )
 
-pub loop-k-preserved : goal.loop-k-preserved
-loop-k-preserved c = (search rules, ap₂ ◌+◌ c.loop-k.invariant.1 c.size-total.ensures ∙ sym (count_words c.loop-k.k c.args.a))
-
-pub returns : goal.returns
-returns c = let e : c.loop-k.k ≡ row_words = omega (arith, c.loop-k-test.false, c.loop-k.invariant.0) in
-    c.loop-k.invariant.1 ∙ ap (λ (k : ℕ). count (k * 64) (has c.args.a)) e
+pub loop-word-preserved : goal.loop-word-preserved
+loop-word-preserved c = ap₂ ◌+◌ c.loop-word.invariant c.size-total.ensures ∙ sym (count_words c.loop-word.word-index c.args.a)

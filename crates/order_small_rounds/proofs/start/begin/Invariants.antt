@@ -1,6 +1,3 @@
-use mathlib.Core.Path.{◌≡◌}
-use Prim.Native.Nat.{◌-◌, ◌≤◌}
-use lib.ListN.{length}
 use Rattle.table.specs.Table.{game_of}
 use Rattle.words.specs.Word.{word_bits, digit}
 use Rattle.order_sets.specs.Rounds.{PartedIn, StartedIn}
@@ -8,12 +5,5 @@ use Rattle.order_small_losses.specs.Words.{bit}
 use Rattle.order_small_rounds.proofs.start.begin.Given as goal
 
 abbrev pub invariant-loop-v : goal.invariant-loop-v
-invariant-loop-v l = (l.v ≤ l.n)
-    × (length l.related ≡ length l.initial.related)
-    × (length l.lost ≡ length l.initial.lost)
-    × (length l.falls ≡ length l.initial.falls)
-    × PartedIn word_bits (game_of l.game) l.v (bit l.related) (bit l.lost) (bit l.falls)
+invariant-loop-v l = PartedIn word_bits (game_of l.game) l.v (bit l.related) (bit l.lost) (bit l.falls)
     × StartedIn word_bits (game_of l.game) l.v (digit l.changed)
-
-abbrev pub decreases-loop-v : goal.decreases-loop-v
-decreases-loop-v l = l.n - l.v

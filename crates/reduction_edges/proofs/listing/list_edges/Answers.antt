@@ -22,11 +22,11 @@ reach_rows-requires c =
     let b = c.requires.game_in_bounds in
     record { grouped = (c.requires.prepared.grouped, fits c.words_for-width.ensures b.0); by_index = b.1 }
 
-pub list_classes-requires : goal.list_classes-requires
-list_classes-requires c =
+-- the rows are those of the game
+pub invariant_of-source : goal.invariant_of-source
+invariant_of-source c =
     let f = fits {game = c.args.game.now} c.words_for-width.ensures c.requires.game_in_bounds.0 in
-    record {
-      prepared = (c.requires.prepared, c.requires.k_value);
-      rows_fit = (record { wide = f.wide; long = omega (arith, f.long) }, c.reach_rows.ensures);
-      k_in_bounds = c.requires.k_in_bounds;
-    }
+    record { rows_fit = (record { wide = f.wide; long = omega (arith, f.long) }, c.reach_rows.ensures) }
+
+pub list_classes-requires : goal.list_classes-requires
+list_classes-requires c = record { prepared = c.requires.prepared; k_value = c.requires.k_value; k_in_bounds = c.requires.k_in_bounds }

@@ -7,16 +7,16 @@ pub returns-in_default : goal.returns-in_default
 returns-in_default c = reported_refused _ _ _ _ _ _ c.in_default.is c.read-verdict.ensures
 
 pub fill_memory-filled-requires : goal.fill_memory-filled-requires
-fill_memory-filled-requires c = table_fits c.requires (counted c.in-Accepted.is c.read-verdict.ensures).0
+fill_memory-filled-requires c = table_fits c.requires (counted c.in-Ok.is c.read-verdict.ensures).0
 
 pub write_totals-totals-requires-clause-tabulated : goal.write_totals-totals-requires-clause-tabulated
 unfolding game_by
 write_totals-totals-requires-clause-tabulated c =
-    tabulated c.fill_memory-filled.ensures (counted c.in-Accepted.is c.read-verdict.ensures).0
+    tabulated c.fill_memory-filled.ensures (counted c.in-Ok.is c.read-verdict.ensures).0
 
 pub write_totals-totals-requires-clause-game_in_bounds : goal.write_totals-totals-requires-clause-game_in_bounds
 write_totals-totals-requires-clause-game_in_bounds c =
-    let w = (counted c.in-Accepted.is c.read-verdict.ensures).0 in
+    let w = (counted c.in-Ok.is c.read-verdict.ensures).0 in
     (classes_fit_lem _ w _ c.requires.members_fit, classes_fit_lem _ w _ c.requires.edges_fit)
 
 pub returns : goal.returns
@@ -27,5 +27,5 @@ returns c =
     c.write_totals-totals.ensures
     _
     _
-    c.in-Accepted.is
+    c.in-Ok.is
     c.read-verdict.ensures

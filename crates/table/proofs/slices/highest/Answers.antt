@@ -1,23 +1,26 @@
--- Invariant: the highest of the first i words.
-use mathlib.Core.Path.{◌≡◌}
-use Prim.Native.Nat.{◌+◌}
+-- Invariant: the highest of the words so far.
+use mathlib.Core.Path.{◌≡◌, ◌∙◌, refl}
 use native.Mathlib.Omega.{arith}
-use lib.ListN.{get_or}
+use Rattle.std.proofs.Common.{ℕ, ◌+◌, ◌-◌, ◌<◌, get_or, take, drop, length-take, get_or-take, get_or-drop}
+use Rattle.std.specs.Prelude.{max}
+use Rattle.std.specs.Ordering.{ord_max, nat_cmp}
+use Rattle.std.proofs.lemmas.Bool.Decides.{nat_tests}
+use Rattle.std.proofs.lemmas.Grind.{common_steps}
 use Rattle.table.specs.Highest.{highest_of}
 use Rattle.table.specs.HighestLaws.{highest_of_more}
-use Rattle.std.proofs.Common.{rules}
 use Rattle.table.proofs.slices.highest.Goals as goal
-use Rattle.table.proofs.slices.highest.Goals.{then-most-words, else-most-words}
 
-pub loop-i-init : goal.loop-i-init
+greater : (a b : ℕ) → ord_max nat_cmp a b ≡ max a b
+greater a b = grind (arith, common_steps, nat_tests)
+
+pub loop-word-init : goal.loop-word-init
 unfolding highest_of
-loop-i-init c = search rules
+loop-word-init c = refl
 
-pub loop-i-preserved : goal.loop-i-preserved
-loop-i-preserved c = let a = c.args in
-    let m = highest_of_more c.loop-i.i (λ j. get_or a.words.now (a.at + j) 0) in
-    (search rules, elim c.if-most-words.branch [ then-most-words w ↦ omega arith | else-most-words w ↦ omega arith ])
-
-pub returns : goal.returns
-returns c = let e : c.loop-i.i ≡ c.args.count = omega arith in
-    rw e at c.loop-i.invariant.1
+pub loop-word-preserved : goal.loop-word-preserved
+loop-word-preserved c = let a = c.args in
+    let l = c.loop-word in
+    let part = take (a.at + a.count - a.at) (drop a.at a.words.now) in
+    let h : l.word-index < a.at + a.count - a.at = omega (arith, length-take (a.at + a.count - a.at) (drop a.at a.words.now)) in
+    let e = get_or-take _ (drop a.at a.words.now) l.word-index 0 h ∙ get_or-drop a.at a.words.now l.word-index 0 in
+    omega (arith, e, greater l.most (get_or part l.word-index 0), highest_of_more l.word-index (λ i. get_or a.words.now (a.at + i) 0))

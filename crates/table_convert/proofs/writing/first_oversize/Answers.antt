@@ -5,7 +5,7 @@ use Rattle.theory.proofs.Logic.BoolsLaws.{So_not}
 use Rattle.theory.proofs.Logic.RangeLaws.{first_step, first_hit, first_end_lem}
 use Rattle.table_convert.specs.ConvertCall.{oversize, first_oversize}
 use Rattle.table_convert.specs.ConvertCallLaws.{oversize_in, oversize_out}
-use Rattle.std.proofs.Common.{rules}
+use native.Mathlib.Omega.{arith}
 use Rattle.table_convert.proofs.writing.first_oversize.Goals as goal
 use Rattle.table_convert.proofs.writing.first_oversize.Goals.{else-most-eq65535-via-then-most-eq65535+else-game-k-eq0, else-most-eq65535-via-else-most-eq65535}
 
@@ -21,14 +21,14 @@ miss c h =
 
 pub loop-k-init : goal.loop-k-init
 unfolding first_oversize
-loop-k-init c = (search rules, rw (← c.requires.0))
+loop-k-init c = rw (← c.requires.0)
 
 pub returns-then-game-k-eq0 : goal.returns-then-game-k-eq0
 returns-then-game-k-eq0 c = let p = c.requires in
-    sym (c.loop-k.invariant.1 ∙ first_hit _ _ _ c.loop-k-test.true (oversize_in _ _ (sym p.1 ∙ c.if-most-eq65535.true) c.if-game-k-eq0.true))
+    sym (c.loop-k.invariant ∙ first_hit _ _ _ c.loop-k-test.true (oversize_in _ _ (sym p.1 ∙ c.if-most-eq65535.true) c.if-game-k-eq0.true))
 
 pub loop-k-preserved : goal.loop-k-preserved
-loop-k-preserved c = (search rules, c.loop-k.invariant.1 ∙ first_step _ _ _ c.loop-k-test.true (So_not (miss c)))
+loop-k-preserved c = c.loop-k.invariant ∙ first_step _ _ _ c.loop-k-test.true (So_not (miss c))
 
 pub returns : goal.returns
-returns c = sym (c.loop-k.invariant.1 ∙ first_end_lem _ _ _ c.loop-k-test.false)
+returns c = sym (c.loop-k.invariant ∙ first_end_lem _ _ _ c.loop-k-test.false ∙ omega arith)

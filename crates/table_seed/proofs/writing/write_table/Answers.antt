@@ -1,28 +1,26 @@
 -- Invariant: the first v vertices are drawn.
-use Rattle.std.proofs.Common.{◌∙◌, zero-mul, arith, length-set, rules}
+use Rattle.std.proofs.Common.{◌∙◌, zero-mul, arith, length-set}
 use Rattle.table_seed.specs.ProgressLaws.{underway_start, progress_end, room_kept}
-use Rattle.std.proofs.Common.{rules}
 use Rattle.table_seed.proofs.writing.write_table.Goals as goal
 
 pub bounds-output-1 : goal.bounds-output-1
 bounds-output-1 c = simp length-set (omega arith)
 
 pub loop-v-init : goal.loop-v-init
-loop-v-init c = (search rules, search rules, λ old u. simp zero-mul u)
+loop-v-init c = λ old u. simp zero-mul u
 
 pub write_vertex-generator-requires : goal.write_vertex-generator-requires
 write_vertex-generator-requires c = let p = c.requires in
-    (room_kept p.0 (c.loop-v.invariant.1 ∙ simp length-set), p.1, c.loop-v-test.true)
+    (room_kept p.0 (c.loop-v.auto.output ∙ simp length-set), p.1, c.loop-v-test.true)
 
 pub loop-v-preserved : goal.loop-v-preserved
-loop-v-preserved c = let l = c.loop-v in
-    (search rules, c.write_vertex-generator.auto.output ∙ l.invariant.1, λ old u. c.write_vertex-generator.ensures _ old (l.invariant.2 old u))
+loop-v-preserved c = λ old u. c.write_vertex-generator.ensures _ old (c.loop-v.invariant old u)
 
 pub shape_of-output : goal.shape_of-output
-shape_of-output c = c.loop-v.invariant.1 ∙ simp length-set
+shape_of-output c = c.loop-v.auto.output ∙ simp length-set
 
 pub returns : goal.returns
 returns c = let a = c.args in
     let fits = c.requires.0.fits in
-    let u = c.loop-v.invariant.2 a.output.now (underway_start _ _ _ _ _ fits) in
+    let u = c.loop-v.invariant a.output.now (underway_start _ _ _ _ _ fits) in
     progress_end _ _ _ _ _ fits _ (omega arith) _ u.words

@@ -1,11 +1,7 @@
-use Rattle.std.proofs.Common.{◌≡◌, ℕ, ◌+◌, ◌-◌, ◌*◌, ◌≤◌, List, length}
+use Rattle.std.proofs.Common.{ℕ, ◌+◌, ◌*◌, List}
 use Rattle.table_seed.specs.Progress.{Underway}
 use Rattle.table_seed.proofs.writing.write_table.Given as goal
 
 abbrev pub invariant-loop-v : goal.invariant-loop-v
-invariant-loop-v l = (l.v ≤ l.n)
-    × (length l.output ≡ length l.initial.output)
-    × ((old : List ℕ) → Underway l.seed l.n l.d l.c old 0 0 0 l.seed l.initial.output → Underway l.seed l.n l.d l.c old l.v (l.v * l.d) (l.v * (2 + l.d)) l.generator.state l.output)
-
-abbrev pub decreases-loop-v : goal.decreases-loop-v
-decreases-loop-v l = l.n - l.v
+invariant-loop-v l =
+    (old : List ℕ) → Underway l.seed l.n l.d l.c old 0 0 0 l.seed l.initial.output → Underway l.seed l.n l.d l.c old l.v (l.v * l.d) (l.v * (2 + l.d)) l.generator.state l.output

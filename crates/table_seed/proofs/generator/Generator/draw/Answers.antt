@@ -6,4 +6,4 @@ use Rattle.table_seed.proofs.generator.Generator.draw.Goals as goal
 
 pub returns : goal.returns
 unfolding draw_of
-returns c = rw (c.wrapping_add_u32-state.ensures.value, c.wrapping_mul.ensures, step_wraps) (refl, refl)
+returns c = rw (c.wrapping_mul-state.ensures, step_wraps) (refl, refl)
