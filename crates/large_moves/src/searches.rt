@@ -9,7 +9,7 @@ use crate::Moves;
 
 impl Moves<'_> {
     // 83: the first vertex whose move isn't an edge of its own, n where there is none.
-    pub(crate) fn first_stray(self) -> usize
+    pub fn first_stray(self) -> usize
         requires { Lengths self.game.now self.solution.now self.n self.m }
         ensures { result ≡ first (move_strays self.entry.game.now self.entry.solution.now self.entry.n self.entry.m) 0 self.entry.n }
     {
@@ -22,7 +22,7 @@ impl Moves<'_> {
     }
 
     // 84: the first kept edge that leads to a vertex of the other winner, m where there is none.
-    pub(crate) fn first_leaving(self) -> usize
+    pub fn first_leaving(self) -> usize
         requires { Lengths self.game.now self.solution.now self.n self.m }
         ensures { result ≡ first (edge_leaves self.entry.game.now self.entry.solution.now self.entry.n self.entry.m) 0 self.entry.m }
     {

@@ -6,7 +6,7 @@ use crate::Moves;
 
 impl Moves<'_> {
     // Whether the move of v isn't an edge of v.
-    pub(crate) fn move_strays(self, v: usize) -> bool
+    pub fn move_strays(self, v: usize) -> bool
         requires { Lengths self.game.now self.solution.now self.n self.m × (v < self.n) }
         ensures { result ≡ move_strays self.entry.game.now self.entry.solution.now self.entry.n self.entry.m v }
     {
@@ -29,7 +29,7 @@ impl Moves<'_> {
     }
 
     // Whether edge j is kept and leads to a vertex of the other winner.
-    pub(crate) fn edge_leaves(self, j: usize) -> bool
+    pub fn edge_leaves(self, j: usize) -> bool
         requires { Lengths self.game.now self.solution.now self.n self.m × (j < self.m) }
         ensures { result ≡ edge_leaves self.entry.game.now self.entry.solution.now self.entry.n self.entry.m j }
     {

@@ -20,9 +20,9 @@ use table::{NoCounts, Refusal, refused};
 
 // The words of a solution of a game, and the certificate.
 #[derive(Clone, Copy)]
-struct Places<'a> {
-    moves: Moves<'a>,
-    certificate: &'a [u32],
+pub struct Places<'a> {
+    pub moves: Moves<'a>,
+    pub certificate: &'a [u32],
 }
 
 // Judges a game, a solution of it and a certificate: the reader's refusals, then 81 to 89 in order, each over the whole input before the next.

@@ -10,7 +10,7 @@ use crate::Places;
 
 impl Places<'_> {
     // 87: the first vertex that doesn't stand at its place, n where there is none.
-    pub(crate) fn first_misplaced(self) -> usize
+    pub fn first_misplaced(self) -> usize
         requires { Placed self.certificate.now self.moves.n }
         ensures { result ≡ first (is_misplaced self.entry.certificate.now self.entry.moves.n) 0 self.entry.moves.n }
     {
@@ -26,7 +26,7 @@ impl Places<'_> {
     // over the runs of places that are over i; these runs are right, since their places passed before. Longest runs nest, so each place is jumped
     // from once at most, and with a step from each i to the next the loop takes at most 2n steps, whatever the certificate is: its measure is 2n at
     // the start (`steps_start`), and every step lowers it (`jump_falls`, `next_falls`).
-    pub(crate) fn first_bad_run(self) -> usize
+    pub fn first_bad_run(self) -> usize
         requires { Lengths self.moves.game.now self.moves.solution.now self.moves.n self.moves.m × Placed self.certificate.now self.moves.n }
         ensures { result ≡ first (λ k. run_fails self.entry.moves.game.now self.entry.moves.solution.now self.entry.certificate.now self.entry.moves.n (from_last self.entry.moves.n k)) 0 self.entry.moves.n }
     {
@@ -48,7 +48,7 @@ impl Places<'_> {
     }
 
     // 89: the first kept edge that doesn't go down where it has to, or goes up too far; m where there is none.
-    pub(crate) fn first_climb(self) -> usize
+    pub fn first_climb(self) -> usize
         requires { Lengths self.moves.game.now self.moves.solution.now self.moves.n self.moves.m × Placed self.certificate.now self.moves.n }
         ensures { result ≡ first (edge_climbs self.entry.moves.game.now self.entry.moves.solution.now self.entry.certificate.now self.entry.moves.n self.entry.moves.m) 0 self.entry.moves.m }
     {

@@ -37,7 +37,7 @@ fn climbs_by(winner: u32, p: u32, q: u32, a: usize, b: usize, end: usize) -> boo
 
 impl Places<'_> {
     // Whether another vertex stands at the place of v.
-    pub(crate) fn is_misplaced(self, v: usize) -> bool
+    pub fn is_misplaced(self, v: usize) -> bool
         requires { Placed self.certificate.now self.moves.n × (v < self.moves.n) }
         ensures { result ≡ is_misplaced self.entry.certificate.now self.entry.moves.n v }
     {
@@ -46,7 +46,7 @@ impl Places<'_> {
     }
 
     // Whether j is a place, and over place i.
-    pub(crate) fn is_in_run(self, i: usize, j: usize) -> bool
+    pub fn is_in_run(self, i: usize, j: usize) -> bool
         requires { Lengths self.moves.game.now self.moves.solution.now self.moves.n self.moves.m × Placed self.certificate.now self.moves.n × (i < self.moves.n) }
         ensures { result ≡ ltb j self.entry.moves.n & place_over self.entry.moves.game.now self.entry.moves.solution.now self.entry.certificate.now self.entry.moves.n i j }
     {
@@ -63,7 +63,7 @@ impl Places<'_> {
     }
 
     // Whether edge j climbs by the places of its ends, as `climbs_by` has it, and is kept.
-    pub(crate) fn edge_climbs(self, j: usize) -> bool
+    pub fn edge_climbs(self, j: usize) -> bool
         requires { Lengths self.moves.game.now self.moves.solution.now self.moves.n self.moves.m × Placed self.certificate.now self.moves.n × (j < self.moves.m) }
         ensures { result ≡ edge_climbs self.entry.moves.game.now self.entry.moves.solution.now self.entry.certificate.now self.entry.moves.n self.entry.moves.m j }
     {
